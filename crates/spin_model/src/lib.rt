@@ -1,0 +1,2 @@
+//! The definitions of the model, which the crates above cite.
+#![tactic(auto)]
