@@ -1,0 +1,4 @@
+pub mod Neighbours
+pub mod Sums
+pub mod Sweep
+pub mod Opening
