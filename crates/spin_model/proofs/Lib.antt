@@ -1,0 +1,5 @@
+pub mod Stepping
+pub mod Tables
+pub mod Streams
+pub mod Sites
+pub mod Colours
