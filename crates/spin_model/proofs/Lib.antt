@@ -3,3 +3,4 @@ pub mod Tables
 pub mod Streams
 pub mod Sites
 pub mod Colours
+pub mod CompactOrder

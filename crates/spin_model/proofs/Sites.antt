@@ -13,7 +13,7 @@ site_at-rows l x y z =
     omega arith
 
 -- and by its plane
-site_at-planes : (l x y z : ℕ) → site_at l x y z ≡ z * (l * l) + (y * l + x)
+pub site_at-planes : (l x y z : ℕ) → site_at l x y z ≡ z * (l * l) + (y * l + x)
 site_at-planes l x y z =
     let plane = mul_comm (l * l) z in
     let row = mul_comm l y in
