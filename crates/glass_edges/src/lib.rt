@@ -1,0 +1,21 @@
+//! The outside as the simulator sees it: outputs that take bytes, stores of named files, and a
+//! hook at the start of each epoch's work, each a trait whose meaning contracts cite. Beside
+//! them stand the objects in memory for tests, those that never fail, the adapters over streams
+//! and files, and the fixed buffer in which every line of text is made.
+#![tactic(auto)]
+
+mod gate;
+mod line;
+mod memory_sink;
+mod refused;
+mod shelf;
+mod sink;
+mod stream_sink;
+
+pub use gate::{Gate, OpenGate};
+pub use line::Line;
+pub use memory_sink::MemorySink;
+pub use refused::{Fault, NoMemory};
+pub use shelf::{Fetched, Shelf};
+pub use sink::{Sink, put_all};
+pub use stream_sink::StreamSink;

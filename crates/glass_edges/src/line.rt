@@ -1,0 +1,95 @@
+//! The buffer in which a line of text is made.
+
+ghost use Rattle.std.specs.Prelude.{◌≡◌, ◌+◌, ◌≤◌, ◌↔◌, IsTrue, [], ◌++◌, length, decimal};
+ghost use Rattle.std.specs.Fmt.{signed_decimal};
+
+use std::marker::Model;
+
+/// A text of at most 256 bytes, the longest bounded line among them. It takes no memory, and a
+/// line that is made in it is put at once.
+#[derive(Drop)]
+pub struct Line {
+    text: [u8; 256],
+    len: usize,
+}
+
+impl Model for Line {
+    ghost use Rattle.std.specs.Prelude.{ℕ, ◌≤◌, List, take};
+
+    ghost Value = { List ℕ };
+
+    ghost view = { λ a. take a.len a.text };
+
+    ghost invariant = { λ a. a.len ≤ 256 };
+}
+
+impl Line {
+    /// The empty text.
+    pub fn new() -> Line
+        ensures { result ≡ [] }
+    {
+        Line {
+            text: [0; 256],
+            len: 0,
+        }
+    }
+
+    /// Makes the text empty.
+    pub fn clear(&mut self)
+        ensures { self.new ≡ [] }
+    {
+        self.len = 0;
+    }
+
+    /// Adds these bytes at the end.
+    pub fn add(&mut self, bytes: &[u8])
+        requires { length self.old + length bytes.now ≤ 256 }
+        ensures { self.new ≡ self.old ++ bytes.now }
+    {
+        let end = self.len + bytes.len();
+        self.text[self.len..end].copy_from_slice(bytes);
+        self.len = end;
+    }
+
+    /// Adds a number in decimal, of at most 20 digits.
+    pub fn number(&mut self, n: u64)
+        requires { length self.old + 20 ≤ 256 }
+        ensures value { self.new ≡ self.old ++ decimal n }
+        ensures short { length self.new ≤ length self.old + 20 }
+    {
+        let mut buffer = itoa::Buffer::new();
+        self.add(buffer.format(n).as_bytes());
+    }
+
+    /// Adds a signed number in decimal, of at most 20 characters.
+    pub fn signed(&mut self, n: i64)
+        requires { length self.old + 20 ≤ 256 }
+        ensures value { self.new ≡ self.old ++ signed_decimal n }
+        ensures short { length self.new ≤ length self.old + 20 }
+    {
+        let mut buffer = itoa::Buffer::new();
+        self.add(buffer.format(n).as_bytes());
+    }
+
+    /// The number of bytes.
+    pub fn len(&self) -> usize
+        ensures value { result ≡ length self.now }
+        ensures within { length self.now ≤ 256 }
+    {
+        self.len
+    }
+
+    /// Whether there is no byte.
+    pub fn is_empty(&self) -> bool
+        ensures { IsTrue result ↔ (self.now ≡ []) }
+    {
+        self.len == 0
+    }
+
+    /// The text.
+    pub fn as_slice(&self) -> &[u8]
+        ensures { result.now ≡ self.now }
+    {
+        &self.text[..self.len]
+    }
+}

@@ -1,0 +1,50 @@
+//! The adapter over a stream of the system.
+
+ghost use Rattle.std.specs.Prelude.{◌≡◌, ◌+◌, ◌≤◌, ℕ, None, IfOk, OnOk, OnErr};
+ghost use Rattle.glass_edges.specs.Causes.{one_more};
+
+use crate::{Fault, Sink};
+use std::io::Write;
+use std::marker::Model;
+
+/// An output over a writer, as the standard output. What the writer has taken is not observable.
+#[derive(Drop)]
+pub struct StreamSink<W> {
+    writer: W,
+    faults: u64,
+}
+
+impl<W> Model for StreamSink<W> {
+    ghost use Rattle.std.specs.Prelude.{ℕ};
+
+    ghost Value = { ℕ };
+
+    ghost view = { λ s. s.faults };
+}
+
+impl<W: Write + Drop> StreamSink<W> {
+    /// The output over this writer, with no fault counted.
+    pub fn of(writer: W) -> StreamSink<W>
+        ensures { result ≡ 0 }
+    {
+        StreamSink { writer, faults: 0 }
+    }
+}
+
+impl<W: Write + Drop> Sink for StreamSink<W> {
+    ghost taken = { λ s. None };
+
+    ghost faults = { λ s. s };
+
+    /// Writes once. Each error of the system is a fault, also an interrupted call, and so is a
+    /// length of 0 for a piece that isn't empty.
+    fn put(&mut self, piece: &[u8]) -> Result<usize, Fault> {
+        match self.writer.write(piece) {
+            Ok(count) if count > 0 || piece.is_empty() => Ok(count),
+            _ => {
+                self.faults = self.faults.saturating_add(1);
+                Err(Fault)
+            }
+        }
+    }
+}
