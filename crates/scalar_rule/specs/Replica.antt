@@ -1,0 +1,7 @@
+-- A replica of the program as a configuration of the model.
+use Rattle.scalar_rule.specs.declared.plain_copy.PlainCopy.{PlainCopy}
+use Rattle.scalar_rule.specs.Sweep.{Configuration}
+
+-- its spins and the words of its generators
+abbrev pub configuration_of : PlainCopy → Configuration
+configuration_of replica = record { spins = replica.spins; words = replica.wheels }

@@ -1,0 +1,39 @@
+//! The couplings of one disorder sample, as the serial dynamics asks for them.
+
+ghost use Rattle.std.specs.Prelude.{◌≡◌, ℕ, ◌<◌, Bool};
+ghost use Rattle.spin_model.specs.Lattice.{volume, bond};
+
+use lattice_geometry::Lattice;
+
+/// The couplings of one disorder sample: of each bond, whether J is -1.
+pub trait Bonds {
+    /// The size of the lattice.
+    ghost size: { Self → ℕ };
+
+    /// At a bond's number, true where J is -1.
+    ghost negative: { Self → ℕ → Bool };
+
+    /// Whether J is -1 at the bond from a site to its forward neighbour in direction `d`.
+    fn is_negative(&self, site: u32, d: u32) -> bool
+        requires site { site < volume (size self.now) }
+        requires direction { d < 3 }
+        ensures { result ≡ negative self.now (bond site d) };
+}
+
+/// The ferromagnet: J is +1 at every bond.
+#[derive(Clone, Copy)]
+pub struct Ferromagnet {
+    pub lattice: Lattice,
+}
+
+impl Bonds for Ferromagnet {
+    ghost use Rattle.spin_model.specs.Couplings.{plus};
+
+    ghost size = { λ ferromagnet. ferromagnet.lattice };
+
+    ghost negative = { λ _. plus 0 };
+
+    fn is_negative(&self, _site: u32, _d: u32) -> bool {
+        false
+    }
+}
