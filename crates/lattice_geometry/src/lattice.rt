@@ -1,7 +1,7 @@
 //! A lattice by its size, and the numbering of its sites.
 
 ghost use Rattle.std.specs.Prelude.{◌≡◌, ℕ, ◌+◌, ◌*◌, ◌/◌, ◌%◌, ◌<◌, ◌≤◌, IfOk, IfErr};
-ghost use Rattle.spin_model.specs.Lattice.{volume, site_at, x_of, y_of, z_of, forward, backward, colour, IsLawfulSize};
+ghost use Rattle.spin_model.specs.Lattice.{volume, site_at, x_of, y_of, z_of, forward, backward, colour, compact, from_compact, IsLawfulSize};
 
 use std::marker::Model;
 use thiserror::Error;
@@ -40,9 +40,7 @@ impl Lattice {
     /// Refuses exactly the sizes that are odd, below 4 or above 64.
     pub fn of(size: u32) -> Result<Lattice, SizeRefused>
         ensures accepted { IfOk result (λ lattice. (lattice ≡ size) × IsLawfulSize size) }
-        ensures refused {
-            IfErr result (λ e. (e ≡ SizeRefused.OddOrOutOfRange size) × ¬ (IsLawfulSize size))
-        }
+        ensures refused { IfErr result (λ e. (e ≡ SizeRefused.OddOrOutOfRange size) × ¬ (IsLawfulSize size)) }
     {
         if size < 4 || size > 64 || size % 2 != 0 {
             return Err(SizeRefused::OddOrOutOfRange { size });
@@ -132,5 +130,36 @@ impl Lattice {
     {
         let (x, y, z) = self.coordinates(site);
         (x + y + z) % 2
+    }
+
+    /// The place of a site in the compact order: by colour, then z, y and x.
+    pub fn compact(&self, site: u32) -> u32
+        requires { site < volume self.now }
+        ensures value { result ≡ compact self.now site }
+        ensures within { result < volume self.now }
+    {
+        let (x, y, z) = self.coordinates(site);
+        let half = self.size / 2;
+        let half_plane = self.size * half;
+        let half_volume = self.size * half_plane;
+        self.colour(site) * half_volume + z * half_plane + (y * half + x / 2)
+    }
+
+    /// The site at a place of the compact order.
+    pub fn from_compact(&self, place: u32) -> u32
+        requires { place < volume self.now }
+        ensures value { result ≡ from_compact self.now place }
+        ensures within { result < volume self.now }
+        ensures place { compact self.now result ≡ place }
+        ensures only { (site : ℕ) → site < volume self.now → compact self.now site ≡ place → site ≡ result }
+    {
+        let half = self.size / 2;
+        let half_plane = self.size * half;
+        let half_volume = self.size * half_plane;
+        let colour = place / half_volume;
+        let z = place % half_volume / half_plane;
+        let y = place % half_plane / half;
+        let x = 2 * (place % half) + (colour + y + z) % 2;
+        self.site(x, y, z)
     }
 }

@@ -3,5 +3,7 @@
 #![tactic(auto)]
 
 mod lattice;
+#[cfg(test)]
+mod tests;
 
 pub use lattice::{Lattice, SizeRefused};

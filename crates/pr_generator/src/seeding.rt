@@ -23,11 +23,9 @@ pub fn seed_words(seed: u64, kind: u32, a: u32, b: u32, c: u32) -> [u32; 61]
 // The words of the eight blocks, of which the last three are not used.
 fn fill_blocks(words: &mut [u32], seed: u64, kind: u32, a: u32, b: u32, c: u32)
     requires { length words.old ≡ 64 }
-    ensures {
-        words.new ≡ flat_map
-            (λ j. digest_words (sha256 (block_message seed kind a b c j)))
-            (table (λ j. j) 8)
-    }
+    ensures { words.new ≡ flat_map
+        (λ j. digest_words (sha256 (block_message seed kind a b c j)))
+        (table (λ j. j) 8) }
 {
     'digests: for j in 0..8 {
         let block = words_of_digest(&block_digest(seed, kind, a, b, c, j as u32));
@@ -54,9 +52,7 @@ fn block_digest(seed: u64, kind: u32, a: u32, b: u32, c: u32, j: u32) -> [u8; 32
 
 // Adds a number as its four big-endian bytes.
 fn update_with(hasher: &mut Sha256, number: u32)
-    ensures {
-        (m : List ℕ) → Holds256 hasher.old m → Holds256 hasher.new (m ++ big_bytes 4 number)
-    }
+    ensures { (m : List ℕ) → Holds256 hasher.old m → Holds256 hasher.new (m ++ big_bytes 4 number) }
 {
     let mut bytes = [0u8; 4];
     BigEndian::write_u32(&mut bytes, number);

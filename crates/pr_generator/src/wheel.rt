@@ -1,27 +1,27 @@
-//! The generator: 61 words in a ring that is turned in place.
+//! The generator: its state in rows of vector lanes, turned in place.
 
-ghost use Rattle.std.specs.Prelude.{◌≡◌, ℕ, ◌+◌, ◌*◌, ◌<◌, List, length, drop, take};
-ghost use Rattle.pr_generator.specs.Ring.{turned};
+ghost use Rattle.std.specs.Prelude.{◌≡◌, ℕ, List, length};
+ghost use Rattle.pr_generator.specs.Rows.{state_of, AreRows};
 ghost use Rattle.spin_model.specs.Seeding.{seeded};
 ghost use Rattle.spin_model.specs.Stream.{advanced, draw, draws};
 
+use crate::rows::{Rows, fill_rest, fill_rows, rows_of, turn_by, write_rows};
 use crate::seeding::seed_words;
 use std::marker::Model;
 
 /// A Parisi-Rapuano generator (Phys. Lett. B 157, 301 (1985)). Contracts see its state, the 61
-/// words of 32 bits at which its stream stands.
+/// words of 32 bits at which its stream stands, oldest first.
 #[derive(Drop)]
 pub struct Wheel {
-    words: [u32; 61],
-    oldest: usize,
+    rows: Rows,
 }
 
 impl Model for Wheel {
     ghost Value = { List ℕ };
 
-    ghost view = { λ wheel. turned wheel.oldest wheel.words };
+    ghost view = { λ wheel. state_of wheel.rows };
 
-    ghost invariant = { λ wheel. wheel.oldest < 61 };
+    ghost invariant = { λ wheel. AreRows wheel.rows };
 }
 
 impl Wheel {
@@ -30,8 +30,7 @@ impl Wheel {
         ensures { result ≡ words.now }
     {
         Wheel {
-            words: *words,
-            oldest: 0,
+            rows: rows_of(words),
         }
     }
 
@@ -47,13 +46,7 @@ impl Wheel {
         ensures moved { self.new ≡ advanced self.old 1 }
         ensures drawn { result ≡ draw self.old 0 }
     {
-        let oldest = self.words[self.oldest];
-        let lag_24 = self.words[(self.oldest + 37) % 61];
-        let lag_55 = self.words[(self.oldest + 6) % 61];
-        let next = lag_24.wrapping_add(lag_55);
-        self.words[self.oldest] = next;
-        self.oldest = (self.oldest + 1) % 61;
-        next ^ oldest
+        turn_by(&mut self.rows, 1)[0]
     }
 
     /// Writes the next random numbers, as many as the slice is long.
@@ -61,9 +54,9 @@ impl Wheel {
         ensures moved { self.new ≡ advanced self.old (length out.old) }
         ensures drawn { out.new ≡ draws self.old (length out.old) }
     {
-        'fill: for i in 0..out.len() {
-            out[i] = self.draw();
-        }
+        let (blocks, rest) = out.split_at_mut(out.len() / 8 * 8);
+        fill_rows(&mut self.rows, blocks);
+        fill_rest(&mut self.rows, rest);
     }
 
     /// Writes the state, oldest word first.
@@ -71,17 +64,15 @@ impl Wheel {
         ensures state { out.new ≡ self.now }
         ensures sized { length self.now ≡ 61 }
     {
-        out[..61 - self.oldest].copy_from_slice(&self.words[self.oldest..]);
-        out[61 - self.oldest..].copy_from_slice(&self.words[..self.oldest]);
+        let mut all = [0u32; 64];
+        write_rows(&self.rows, &mut all);
+        out.copy_from_slice(&all[3..]);
     }
 
     /// A generator in the same state, which from then on goes its own way.
     pub fn copy(&self) -> Wheel
         ensures { result ≡ self.now }
     {
-        Wheel {
-            words: self.words,
-            oldest: self.oldest,
-        }
+        Wheel { rows: self.rows }
     }
 }

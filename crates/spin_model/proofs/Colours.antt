@@ -1,7 +1,7 @@
 -- A step along an axis of the periodic cube changes the colour of a site.
-use Rattle.std.proofs.Common.{inl, inr, ◌≡◌, ◌≢◌, ℕ, zero, suc, ◌+◌, ◌-◌, ◌*◌, ◌/◌, ◌%◌, ◌<◌, ◌≤◌, ap, refl, sym, ◌∙◌, arith, mod-eq_of_lt}
+use Rattle.std.proofs.Common.{inl, inr, ◌≡◌, ◌≢◌, ℕ, zero, suc, ◌+◌, ◌-◌, ◌%◌, ◌<◌, ap, refl, ◌∙◌, arith, mod-eq_of_lt}
 use native.Mathlib.Nat.{mod-eq-sub-mod}
-use Rattle.std.proofs.lemmas.Nat.{mod_below, div_below}
+use Rattle.std.proofs.lemmas.Nat.{mod_below}
 use Rattle.std.proofs.lemmas.Bool.{cases_lt}
 use Rattle.spin_model.specs.Lattice.{volume, site_at, x_of, y_of, z_of, next, previous, forward, backward, colour, IsLawfulSize}
 use Rattle.spin_model.proofs.Sites.{x_of-site_at, y_of-site_at, z_of-site_at, x_of-below, y_of-below, z_of-below}

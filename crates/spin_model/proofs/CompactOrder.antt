@@ -1,10 +1,9 @@
 -- The compact order is one to one: a place's colour, plane, row and column, and the site back from its place.
-use Rattle.std.proofs.Common.{◌≡◌, ℕ, ◌+◌, ◌-◌, ◌*◌, ◌/◌, ◌%◌, ◌<◌, ◌≤◌, ap, refl, sym, ◌∙◌, arith}
+use Rattle.std.proofs.Common.{◌≡◌, ℕ, ◌+◌, ◌*◌, ◌/◌, ◌%◌, ◌<◌, ap, refl, sym, ◌∙◌, arith}
 use Rattle.std.proofs.Math.Nat.{add-mul, mul_assoc, mul_comm}
-use Rattle.std.proofs.lemmas.Nat.{mul-add-lt, div-mul-add, mod-mul-add, div-add-mod', mod_below, div_below}
-use Rattle.spin_model.specs.Lattice.{IsLawfulSize, volume, site_at, x_of, y_of, z_of, colour, half_plane, half_volume, place_in_plane, compact, from_compact}
+use Rattle.std.proofs.lemmas.Nat.{mul-lt, mul-add-lt, div-mul-add, mod-mul-add, div-add-mod', mod_below, div_below}
+use Rattle.spin_model.specs.Lattice.{IsLawfulSize, volume, site_at, x_of, y_of, z_of, colour, half_plane, half_volume, compact, from_compact}
 use Rattle.spin_model.proofs.Sites.{x_of-site_at, y_of-site_at, z_of-site_at, x_of-below, y_of-below, z_of-below, site_at-coordinates, site_at-planes}
-use Rattle.spin_model.proofs.Colours.{colour-site_at}
 
 -- the place of colour c, plane z, row y and column k
 abbrev place_at : ℕ → ℕ → ℕ → ℕ → ℕ → ℕ
@@ -47,6 +46,26 @@ volume-halves l lawful =
     let plane : l * l ≡ half_plane l * 2 = ap (λ m. l * m) even ∙ sym (mul_assoc l (l / 2) 2) in
     let all = mul_assoc l (half_plane l) 2 in
     cube ∙ ap (λ m. l * m) plane ∙ sym all
+
+-- the colour, the plane and the row of a place are within their ranges
+pub place-colour-below : (l place : ℕ) → IsLawfulSize l → place < volume l → place / half_volume l < 2
+place-colour-below l place lawful within =
+    let halves = volume-halves l lawful in
+    let turned = mul_comm (half_volume l) 2 in
+    let plane : 0 < half_plane l = mul-lt 0 0 l (l / 2) (omega arith) (omega arith) in
+    let positive : 0 < half_volume l = mul-lt 0 0 l (half_plane l) (omega arith) plane in
+    div_below place (half_volume l) 2 positive (omega arith)
+
+pub place-plane-below : (l place : ℕ) → IsLawfulSize l → place % half_volume l / half_plane l < l
+place-plane-below l place lawful =
+    let plane : 0 < half_plane l = mul-lt 0 0 l (l / 2) (omega arith) (omega arith) in
+    let positive : 0 < half_volume l = mul-lt 0 0 l (half_plane l) (omega arith) plane in
+    div_below (place % half_volume l) (half_plane l) l plane (mod_below place (half_volume l) positive)
+
+pub place-row-below : (l place : ℕ) → IsLawfulSize l → place % half_plane l / (l / 2) < l
+place-row-below l place lawful =
+    let plane : 0 < half_plane l = mul-lt 0 0 l (l / 2) (omega arith) (omega arith) in
+    div_below (place % half_plane l) (l / 2) l (omega arith) (mod_below place (half_plane l) plane)
 
 pub place_at-below : (l c z y k : ℕ) → IsLawfulSize l → c < 2 → z < l → y < l → k < l / 2 → place_at l c z y k < volume l
 place_at-below l c z y k lawful chosen plane row column =
@@ -92,7 +111,7 @@ chosen-colour c y z k chosen = omega arith
 chosen-column : (c y z k : ℕ) → (2 * k + (c + y + z) % 2) / 2 ≡ k
 chosen-column c y z k = omega arith
 
-chosen-below : (l c y z k : ℕ) → l % 2 ≡ 0 → k < l / 2 → 2 * k + (c + y + z) % 2 < l
+pub chosen-below : (l c y z k : ℕ) → l % 2 ≡ 0 → k < l / 2 → 2 * k + (c + y + z) % 2 < l
 chosen-below l c y z k even column = omega arith
 
 -- a column and the colour give the coordinate x

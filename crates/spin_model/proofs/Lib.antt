@@ -4,3 +4,4 @@ pub mod Streams
 pub mod Sites
 pub mod Colours
 pub mod CompactOrder
+pub mod KnownValues

@@ -1,8 +1,8 @@
 -- Sites and their coordinates on the periodic cube.
-use Rattle.std.proofs.Common.{◌≡◌, ◌≢◌, ℕ, ◌+◌, ◌-◌, ◌*◌, ◌/◌, ◌%◌, ◌<◌, ◌≤◌, ap, refl, sym, ◌∙◌, arith}
-use Rattle.std.proofs.lemmas.Nat.{mul-lt, mul-add-lt, div-mul-add, mod-mul-add, div-add-mod', mod_below, div_below}
+use Rattle.std.proofs.Common.{◌≡◌, ℕ, ◌+◌, ◌*◌, ◌/◌, ◌%◌, ◌<◌, ◌≤◌, ap, sym, ◌∙◌, arith}
+use Rattle.std.proofs.lemmas.Nat.{mul-le, mul-lt, mul-add-lt, div-mul-add, mod-mul-add, div-add-mod', mod_below, div_below}
 use Rattle.std.proofs.Math.Nat.{add-mul, mul_assoc, mul_comm, div-div-eq-div-mul}
-use Rattle.spin_model.specs.Lattice.{volume, site_at, x_of, y_of, z_of, forward, backward, colour, IsLawfulSize}
+use Rattle.spin_model.specs.Lattice.{volume, site_at, x_of, y_of, z_of, IsLawfulSize}
 
 -- a site by its row: row l z + y, place x
 site_at-rows : (l x y z : ℕ) → site_at l x y z ≡ (z * l + y) * l + x
@@ -50,3 +50,7 @@ site_at-coordinates l i positive =
     let column = div-add-mod' (i / l) l in
     let place = div-add-mod' i l in
     rows ∙ ap (λ r. r * l + i % l) (ap (λ z. z * l + i / l % l) (sym plane) ∙ column) ∙ place
+
+-- the greatest lattice has 64 ^ 3 sites
+pub volume-bound : (l : ℕ) → IsLawfulSize l → volume l ≤ 262144
+volume-bound l lawful = mul-le (l * l) l 4096 64 (mul-le l l 64 64 (omega arith) (omega arith)) (omega arith)

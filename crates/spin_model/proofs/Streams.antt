@@ -1,8 +1,9 @@
 -- Windows of the stream: their length, their words, and what a stream is after it has advanced.
-use Rattle.std.proofs.Common.{inl, inr, ◌≡◌, ℕ, zero, suc, ◌+◌, ◌-◌, ◌%◌, ◌^◌, ◌<◌, ◌≤◌, List, [], ◌∷◌, ◌++◌, length, get_or, drop, ap, refl, sym, ◌∙◌, arith, length-append, length-drop, add-zero, add-suc, add-one, lit<, bit_xor, get_or-drop}
-use Rattle.std.proofs.lemmas.List.{get_or_append_left, get_or_at}
-use Rattle.std.proofs.lemmas.Bool.{cases_lt}
-use Rattle.spin_model.specs.Stream.{shifted, advanced, stream_word, draw}
+use Rattle.std.proofs.Common.{◌≡◌, ℕ, zero, suc, ◌+◌, ◌-◌, ◌%◌, ◌^◌, ◌<◌, ◌≤◌, List, [], ◌∷◌, ◌++◌, length, get_or, drop, ap, refl, sym, ◌∙◌, arith, length-append, length-drop, add-zero, add-suc, add-one, lit<, bit_xor, get_or-drop}
+use Rattle.std.proofs.lemmas.List.{append-nil, append_assoc, drop-append-le, drop-drop, get_or_append_left, get_or_at}
+use Rattle.spin_model.specs.Steps.{table}
+use Rattle.spin_model.proofs.Tables.{table-add, table-same}
+use Rattle.spin_model.specs.Stream.{shifted, advanced, stream_word, draw, draws}
 
 pub length-shifted : (v : List ℕ) → length v ≡ 61 → length (shifted v) ≡ 61
 length-shifted v sized = simp (length-append, length-drop) (omega arith)
@@ -79,3 +80,23 @@ stream_word-lags w k sized later =
     let lag_55 : 6 + (k - 61) ≡ k - 55 = omega arith in
     let recurs = stream_word-recurs w (k - 61) sized in
     rw (here, lag_24, lag_55) at recurs
+
+-- a window is what is left of the first one and the new words behind it
+pub advanced-words : (w : List ℕ) (n : ℕ) → length w ≡ 61 → n ≤ 61 → advanced w n ≡ drop n w ++ table (λ k. stream_word w (61 + k)) n
+unfolding advanced table
+advanced-words w zero sized within = sym (append-nil w)
+advanced-words w (suc n) sized within =
+    let before = advanced-words w n sized (omega arith) in
+    let kept : 1 ≤ length (drop n w) = simp length-drop (omega arith) in
+    let place_37 : n + 37 ≡ 37 + n = omega arith in
+    let place_6 : n + 6 ≡ 6 + n = omega arith in
+    let at_37 : get_or (advanced w n) 37 0 ≡ stream_word w (37 + n) = get_or-advanced w n 37 sized (lit< tt) ∙ ap (stream_word w) place_37 in
+    let at_6 : get_or (advanced w n) 6 0 ≡ stream_word w (6 + n) = get_or-advanced w n 6 sized (lit< tt) ∙ ap (stream_word w) place_6 in
+    let next : (get_or (advanced w n) 37 0 + get_or (advanced w n) 6 0) % 2 ^ 32 ≡ stream_word w (61 + n) = rw (at_37, at_6) (sym (stream_word-recurs w n sized)) in
+    let rest : drop 1 (advanced w n) ≡ drop (suc n) w ++ table (λ k. stream_word w (61 + k)) n =
+    ap (drop 1) before ∙ drop-append-le 1 (drop n w) _ kept ∙ ap (λ v. v ++ table (λ k. stream_word w (61 + k)) n) (drop-drop 1 n w ∙ ap (λ m. drop m w) (add-one n)) in
+    rw (rest, next) (append_assoc (drop (suc n) w) (table (λ k. stream_word w (61 + k)) n) (stream_word w (61 + n) ∷ []))
+
+-- the numbers of a stream are its first n and those of the advanced stream
+pub draws-advanced : (w : List ℕ) (n m : ℕ) → draws w (n + m) ≡ draws w n ++ draws (advanced w n) m
+draws-advanced w n m = table-add (draw w) n m ∙ ap (λ v. draws w n ++ v) (table-same _ _ m (λ k below. sym (draw-advanced w n k)))

@@ -1,6 +1,6 @@
 -- A table by its items, and a count by its last number.
-use Rattle.std.proofs.Common.{inl, inr, ◌≡◌, ℕ, zero, suc, ◌+◌, ◌<◌, ◌≤◌, Bool, List, [], ◌∷◌, ◌++◌, length, get_or, ap, refl, sym, ◌∙◌, arith, length-append, add-one}
-use Rattle.std.proofs.lemmas.List.{get_or_append_left, get_or_at}
+use Rattle.std.proofs.Common.{inl, inr, ◌≡◌, ℕ, zero, suc, ◌+◌, ◌-◌, ◌<◌, ◌≤◌, Bool, List, [], ◌∷◌, ◌++◌, length, get_or, take, ap, refl, sym, ◌∙◌, arith, length-append, add-zero, add-suc, add-one}
+use Rattle.std.proofs.lemmas.List.{append-nil, append_assoc, take_at, get_or_append_left, get_or_at, ext_get_or}
 use Rattle.std.proofs.lemmas.Bool.{cases_lt}
 use Rattle.spin_model.specs.Words.{one_if}
 use Rattle.spin_model.specs.Steps.{table, count_below}
@@ -44,3 +44,22 @@ count_below-zero test = refl
 pub count_below-more : (test : ℕ → Bool) (n : ℕ) → count_below test (n + 1) ≡ count_below test n + one_if (test n)
 unfolding count_below
 count_below-more test n = rw add-one refl
+
+-- a table of n + m items is one of n and one of the next m
+pub table-add : {A : Type 0} (item : ℕ → A) (n m : ℕ) → table item (n + m) ≡ table item n ++ table (λ k. item (n + k)) m
+unfolding table
+table-add item n zero = rw (add-zero, append-nil) refl
+table-add item n (suc m) =
+    let before = table-add item n m in
+    rw (add-suc, before) (append_assoc (table item n) (table (λ k. item (n + k)) m) (item (n + m) ∷ []))
+
+pub take-table : {A : Type 0} (item : ℕ → A) (n m : ℕ) → n ≤ m → take n (table item m) ≡ table item n
+take-table item n m within =
+    let rest : n + (m - n) ≡ m = omega arith in
+    ap (λ k. take n (table item k)) (sym rest) ∙ ap (take n) (table-add item n (m - n)) ∙ take_at (table item n) _ n (length-table item n)
+
+-- a list whose items are those of a table
+pub table-of_items : {A : Type 0} (item : ℕ → A) (n : ℕ) (d : A) (xs : List A) → length xs ≡ n → ((k : ℕ) → k < n → get_or xs k d ≡ item k) → xs ≡ table item n
+table-of_items item n d xs sized same =
+    let long = length-table item n in
+    ext_get_or d xs (table item n) (sized ∙ sym long) (λ k below. same k (omega arith) ∙ sym (get_or-table item n k d (omega arith)))

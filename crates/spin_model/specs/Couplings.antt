@@ -1,5 +1,5 @@
 -- Quenched couplings J = +1 or -1 (Edwards and Anderson 1975): of each disorder sample and bond, whether J is -1.
-use Rattle.std.specs.Prelude.{ℕ, Bool, true, false}
+use Rattle.std.specs.Prelude.{ℕ, Bool, false}
 use Rattle.spin_model.specs.Words.{is_set}
 use Rattle.spin_model.specs.Stream.{draw}
 use Rattle.spin_model.specs.Seeding.{coupling_words}

@@ -6,30 +6,25 @@ ghost use Rattle.spin_model.specs.Laws.{StreamIsRecurrence, StateIsWindow, Advan
 /// and 55 before it (Parisi and Rapuano 1985).
 pub fn stream_is_recurrence()
     ensures { StreamIsRecurrence }
-{
-}
+{}
 
 /// After n random numbers the state of a generator is the words n to n + 60 of its stream.
 pub fn state_is_window()
     ensures { StateIsWindow }
-{
-}
+{}
 
 /// Advancing a stream by n numbers and then by m more is advancing it by n + m.
 pub fn advancing_adds_up()
     ensures { AdvancingAddsUp }
-{
-}
+{}
 
 /// Random number m of a stream that was advanced by n is number n + m of the stream.
 pub fn draws_of_advanced()
     ensures { DrawsOfAdvanced }
-{
-}
+{}
 
 /// On a lattice of even side no neighbour of a site has the site's checkerboard colour, so the
 /// sites of one colour can be updated in any order.
 pub fn neighbours_have_other_colour()
     ensures { NeighboursHaveOtherColour }
-{
-}
+{}

@@ -1,4 +1,4 @@
-use Rattle.std.proofs.Common.{◌≡◌, ℕ, ◌+◌, ◌*◌, ◌-◌, ◌++◌, ◌∷◌, [], List, ◌∙◌, ap, refl, sym, arith, length, flat_map}
+use Rattle.std.proofs.Common.{◌≡◌, ℕ, ◌+◌, ◌*◌, ◌-◌, ◌++◌, [], List, ◌∙◌, ap, refl, sym, arith, length, flat_map}
 use Rattle.std.proofs.lemmas.List.{take_all, flat_map_more}
 use Rattle.std.proofs.lemmas.Slice.{take-put_mid}
 use Rattle.sha2.specs.Sha256.{sha256}

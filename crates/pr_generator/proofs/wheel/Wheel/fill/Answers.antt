@@ -1,23 +1,31 @@
-use Rattle.std.proofs.Common.{◌≡◌, ◌+◌, arith, sym, ◌∙◌, ap, refl, add-zero}
-use Rattle.std.proofs.lemmas.List.{take_more_set}
-use Rattle.spin_model.specs.Stream.{draw}
-use Rattle.spin_model.proofs.Streams.{advanced-zero, advanced-advanced, draw-advanced}
-use Rattle.spin_model.proofs.Tables.{table-zero, table-more}
+use Rattle.std.proofs.Common.{◌≡◌, ◌+◌, ◌++◌, length, ap, ◌∙◌, sym, arith}
+use Rattle.spin_model.specs.Stream.{advanced, draws}
+use Rattle.spin_model.proofs.Streams.{advanced-advanced, draws-advanced}
+use Rattle.pr_generator.specs.Rows.{state_of}
 use Rattle.pr_generator.proofs.wheel.Wheel.fill.Goals as goal
 
-pub fill-init : goal.fill-init
-fill-init c = record { moved = sym (advanced-zero _); drawn = sym (table-zero _) }
+pub returns-clause-moved : goal.returns-clause-moved
+returns-clause-moved c =
+    let w = state_of c.self.inside.rows in
+    let n = length c.split_at_mut-blocks.result.0.now in
+    let m = length c.split_at_mut-blocks.result.1.now in
+    let all : n + m ≡ length c.args.out.now = omega (arith, c.split_at_mut-blocks.ensures.front_len, c.split_at_mut-blocks.ensures.back_len) in
+    c.fill_rest.ensures.moved
+    ∙ ap (λ v. advanced v m) c.fill_rows.ensures.moved
+    ∙ advanced-advanced w n m
+    ∙ ap (advanced w) all
+    ∙ ap (λ v. advanced v (length c.args.out.now)) c.self.view_is
 
-pub fill-preserved : goal.fill-preserved
-fill-preserved c =
-    let w = c.args.self.now in
-    let i = c.fill.i in
-    let here : i + 0 ≡ i = add-zero i in
-    let drawn : c.draw.result ≡ draw w i =
-    c.draw.ensures.drawn ∙ ap (λ v. draw v 0) c.fill.invariant.moved ∙ draw-advanced w i 0 ∙ ap (draw w) here in
-    let stored = take_more_set c.fill.out i c.draw.result (omega arith) in
-    let more = table-more (draw w) i in
-    record {
-      moved = c.draw.ensures.moved ∙ rw (c.fill.invariant.moved) (advanced-advanced w i 1);
-      drawn = stored ∙ rw (c.fill.invariant.drawn, drawn, more) refl;
-    }
+pub returns-clause-drawn : goal.returns-clause-drawn
+returns-clause-drawn c =
+    let w = state_of c.self.inside.rows in
+    let n = length c.split_at_mut-blocks.result.0.now in
+    let m = length c.split_at_mut-blocks.result.1.now in
+    let all : n + m ≡ length c.args.out.now = omega (arith, c.split_at_mut-blocks.ensures.front_len, c.split_at_mut-blocks.ensures.back_len) in
+    let blocks = c.fill_rows.ensures.drawn in
+    let rest = c.fill_rest.ensures.drawn ∙ ap (λ v. draws v m) c.fill_rows.ensures.moved in
+    ap (λ v. v ++ c.fill_rest.new.out) blocks
+    ∙ ap (λ v. draws w n ++ v) rest
+    ∙ sym (draws-advanced w n m)
+    ∙ ap (draws w) all
+    ∙ ap (λ v. draws v (length c.args.out.now)) c.self.view_is

@@ -1,0 +1,170 @@
+//! Eight words of the stream at a time, in vector lanes.
+
+ghost use Rattle.std.specs.Prelude.{◌≡◌, ℕ, ◌+◌, ◌%◌, ◌<◌, ◌≤◌, [], ◌++◌, List, length, take, drop, bit_xor, slice_index, slice_index_or};
+ghost use Rattle.pr_generator.specs.Rows.{joined, state_of, AreRows};
+ghost use Rattle.spin_model.specs.Words.{word_sum};
+ghost use Rattle.spin_model.specs.Steps.{table};
+ghost use Rattle.spin_model.specs.Stream.{advanced, draws, stream_word};
+
+use std::simd::prelude::*;
+
+/// Three words that are past, and then the 61 of a state, oldest first. Eight new sums need no new
+/// word, and then each row takes the place of the one before it.
+pub type Rows = [[u32; 8]; 8];
+
+// The rows of 64 words of a longer list, from a place on.
+fn rows_at(words: &[u32], place: usize) -> Rows
+    requires { place + 64 ≤ length words.now }
+    ensures rows { AreRows result }
+    ensures joined { joined result ≡ take 64 (drop place words.now) }
+{
+    let words = &words[place..place + 64];
+    [
+        row_at(words, 0),
+        row_at(words, 8),
+        row_at(words, 16),
+        row_at(words, 24),
+        row_at(words, 32),
+        row_at(words, 40),
+        row_at(words, 48),
+        row_at(words, 56),
+    ]
+}
+
+fn row_at(words: &[u32], place: usize) -> [u32; 8]
+    requires { place + 8 ≤ length words.now }
+    ensures { result ≡ take 8 (drop place words.now) }
+{
+    let mut row = [0u32; 8];
+    row.copy_from_slice(&words[place..place + 8]);
+    row
+}
+
+/// The rows of a state, with three zeros for the words that are past.
+pub fn rows_of(words: &[u32; 61]) -> Rows
+    ensures rows { AreRows result }
+    ensures state { state_of result ≡ words.now }
+{
+    rows_at(&behind_three(words), 0)
+}
+
+fn behind_three(words: &[u32; 61]) -> [u32; 64]
+    ensures sized { length result ≡ 64 }
+    ensures words { drop 3 result ≡ words.now }
+{
+    let mut all = [0u32; 64];
+    all[3..].copy_from_slice(words);
+    all
+}
+
+/// Writes the 64 words of the rows.
+pub fn write_rows(rows: &Rows, out: &mut [u32])
+    requires rows { AreRows rows.now }
+    requires sized { length out.old ≡ 64 }
+    ensures { out.new ≡ joined rows.now }
+{
+    'each: for q in 0..8 {
+        out[8 * q..8 * q + 8].copy_from_slice(&rows[q]);
+    }
+}
+
+/// Writes the next random numbers, as many as the slice is long, and moves the rows on by as many.
+pub fn fill_rows(rows: &mut Rows, out: &mut [u32])
+    requires rows { AreRows rows.old }
+    requires whole { length out.old % 8 ≡ 0 }
+    ensures rows { AreRows rows.new }
+    ensures moved { state_of rows.new ≡ advanced (state_of rows.old) (length out.old) }
+    ensures drawn { out.new ≡ draws (state_of rows.old) (length out.old) }
+{
+    // a copy of its own, which stays in registers
+    let mut turned = *rows;
+    'turns: for i in 0..out.len() / 8 {
+        let drawn = turn(&mut turned);
+        out[8 * i..8 * i + 8].copy_from_slice(&drawn);
+    }
+    *rows = turned;
+}
+
+/// Writes the next random numbers, fewer than eight, and moves the rows on by as many.
+pub fn fill_rest(rows: &mut Rows, out: &mut [u32])
+    requires rows { AreRows rows.old }
+    requires rest { length out.old < 8 }
+    ensures rows { AreRows rows.new }
+    ensures moved { state_of rows.new ≡ advanced (state_of rows.old) (length out.old) }
+    ensures drawn { out.new ≡ draws (state_of rows.old) (length out.old) }
+{
+    if out.is_empty() {
+        return;
+    }
+    let drawn = turn_by(rows, out.len());
+    out.copy_from_slice(&drawn[..out.len()]);
+}
+
+/// Moves the rows on by at most eight words, and gives eight random numbers.
+pub fn turn_by(rows: &mut Rows, count: usize) -> [u32; 8]
+    requires rows { AreRows rows.old }
+    requires count { count ≤ 8 }
+    ensures rows { AreRows rows.new }
+    ensures moved { state_of rows.new ≡ advanced (state_of rows.old) count }
+    ensures drawn { result ≡ draws (state_of rows.old) 8 }
+{
+    let mut words = [0u32; 72];
+    let drawn = turn_beside(rows, &mut words);
+    *rows = rows_at(&words, count);
+    drawn
+}
+
+// Moves the rows on by eight words, and writes them as they were with the eight new words behind.
+fn turn_beside(rows: &mut Rows, words: &mut [u32]) -> [u32; 8]
+    requires rows { AreRows rows.old }
+    requires sized { length words.old ≡ 72 }
+    ensures drawn { result ≡ draws (state_of rows.old) 8 }
+    ensures words { words.new
+        ≡ joined rows.old ++ table (λ k. stream_word (state_of rows.old) (61 + k)) 8 }
+{
+    write_rows(rows, &mut words[..64]);
+    let drawn = turn(rows);
+    words[64..].copy_from_slice(&rows[7]);
+    drawn
+}
+
+// Moves the rows on by eight words, and gives the eight random numbers.
+#[inline]
+fn turn(rows: &mut Rows) -> [u32; 8]
+    requires { AreRows rows.old }
+    ensures rows { AreRows rows.new }
+    ensures moved { state_of rows.new ≡ advanced (state_of rows.old) 8 }
+    ensures drawn { result ≡ draws (state_of rows.old) 8 }
+    ensures last { slice_index_or rows.new 7 [] ≡ table (λ k. stream_word (state_of rows.old) (61 + k)) 8 }
+{
+    let [a, b, c, d, e, f, g, h] = *rows;
+    let sums = sum_row(&f, &b, &c);
+    *rows = [b, c, d, e, f, g, h, sums];
+    draw_row(&sums, &a, &b)
+}
+
+// Eight sums: of the words of one row, which are 24 before, and of those 55 before, which begin at
+// the second word of the row far.
+#[inline]
+fn sum_row(near: &[u32; 8], far: &[u32; 8], behind: &[u32; 8]) -> [u32; 8]
+    ensures sized { length result ≡ 8 }
+    ensures sums { (k : ℕ) → k < 8 → slice_index result k
+        ≡ word_sum (slice_index near.now k) (slice_index (far.now ++ behind.now) (1 + k)) }
+{
+    let far = u32x8::from_array(*far);
+    let far = far.shuffle(u32x8::from_array(*behind), [1, 2, 3, 4, 5, 6, 7, 8]);
+    (u32x8::from_array(*near) + far).to_array()
+}
+
+// Eight random numbers: the sums xor the words 61 before them, which begin at the fourth word of
+// the row old.
+#[inline]
+fn draw_row(sums: &[u32; 8], old: &[u32; 8], behind: &[u32; 8]) -> [u32; 8]
+    ensures sized { length result ≡ 8 }
+    ensures xors { (k : ℕ) → k < 8 → slice_index result k
+        ≡ bit_xor (slice_index sums.now k) (slice_index (old.now ++ behind.now) (3 + k)) }
+{
+    let old = u32x8::from_array(*old);
+    let old = old.shuffle(u32x8::from_array(*behind), [3, 4, 5, 6, 7, 8, 9, 10]);
+    (u32x8::from_array(*sums) ^ old).to_array()
+}
