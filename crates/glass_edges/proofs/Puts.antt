@@ -1,8 +1,9 @@
 -- What one put after another has appended.
-use Rattle.std.proofs.Common.{◌≡◌, ℕ, ◌+◌, ◌-◌, ◌<◌, ◌≤◌, List, [], ◌++◌, length, take, drop, Option, Some, None, refl, sym, ap, ◌∙◌, arith, append_assoc, append-nil, length-append, length-drop}
+use Rattle.std.proofs.Common.{◌≡◌, ℕ, ◌+◌, ◌-◌, ◌<◌, ◌≤◌, List, [], ◌++◌, length, take, drop, Option, Some, None, refl, sym, ap, subst, ◌∙◌, arith, append_assoc, append-nil, length-append, length-drop}
 use Rattle.std.proofs.Math.Seq.{take-add, take-append-add}
 use Rattle.std.proofs.lemmas.List.{take_rest, take-append-le}
-use Rattle.glass_edges.specs.Contents.{appended, AppendsPrefix}
+use Rattle.std.specs.Prelude.{Result, Ok, Err, OnErr}
+use Rattle.glass_edges.specs.Contents.{appended, AppendsPrefix, PutsFront}
 
 pub appended-appended : (o : Option (List ℕ)) (xs ys : List ℕ) → appended (appended o xs) ys ≡ appended o (xs ++ ys)
 appended-appended None xs ys = refl
@@ -35,3 +36,50 @@ prefix_past before mid now xs ys whole p = record {
   within = omega (arith, length-append xs ys, p.within);
   same = p.same ∙ ap (λ o. appended o (take p.count ys)) whole ∙ appended-appended before xs (take p.count ys) ∙ ap (appended before) (sym (take-append-add xs ys p.count));
 }
+
+-- ---- a text that goes out front by front, with its rest in a line
+
+-- nothing is put, and all of the text is the rest
+pub front-none : (before : Option (List ℕ)) (text : List ℕ) → PutsFront before before text text
+front-none before text = record { front = []; whole = refl; same = sym (appended-nothing before) }
+
+-- all of the text is put
+pub front-all : (before now : Option (List ℕ)) (text : List ℕ) → now ≡ appended before text → PutsFront before now text []
+front-all before now text whole = record { front = text; whole = sym (append-nil text); same = whole }
+
+-- more is added behind the text, and so behind the rest
+pub front-more : (before now : Option (List ℕ)) (text rest more : List ℕ) → PutsFront before now text rest → PutsFront before now (text ++ more) (rest ++ more)
+front-more before now text rest more p = record {
+  front = p.front;
+  whole = ap (λ xs. xs ++ more) p.whole ∙ append_assoc p.front rest more;
+  same = p.same;
+}
+
+-- a front of the rest is put too
+pub front-then : (before mid now : Option (List ℕ)) (text rest last : List ℕ) → PutsFront before mid text rest → PutsFront mid now rest last → PutsFront before now text last
+front-then before mid now text rest last p q = record {
+  front = p.front ++ q.front;
+  whole = p.whole ∙ ap (λ xs. p.front ++ xs) q.whole ∙ sym (append_assoc p.front q.front last);
+  same = q.same ∙ ap (λ o. appended o q.front) p.same ∙ appended-appended before p.front q.front;
+}
+
+-- the rest is put too, so all of the text is
+pub front-whole : (before mid now : Option (List ℕ)) (text rest : List ℕ) → PutsFront before mid text rest → now ≡ appended mid rest → now ≡ appended before text
+front-whole before mid now text rest p whole = whole ∙ ap (λ o. appended o rest) p.same ∙ appended-appended before p.front rest ∙ ap (appended before) (sym p.whole)
+
+-- a prefix of the rest is put too, so a prefix of the text is
+pub front-prefix : (before mid now : Option (List ℕ)) (text rest : List ℕ) → PutsFront before mid text rest → AppendsPrefix mid now rest → AppendsPrefix before now text
+front-prefix before mid now text rest p q = subst (AppendsPrefix before now) (sym p.whole) (prefix_past before mid now p.front rest p.same q)
+
+-- a round of a loop: room was made behind the line, and a piece added there
+pub front-step : (before mid now : Option (List ℕ)) (text line room piece added : List ℕ) → PutsFront before mid text line → PutsFront mid now line room → added ≡ room ++ piece → PutsFront before now (text ++ piece) added
+front-step before mid now text line room piece added p q e =
+    subst (PutsFront before now (text ++ piece)) (sym e) (front-more before now text room piece (front-then before mid now text line room p q))
+
+-- such a round failed: a prefix of the whole text is put
+pub front-failed : (before mid now : Option (List ℕ)) (text line rest : List ℕ) → PutsFront before mid text line → AppendsPrefix mid now line → AppendsPrefix before now (text ++ rest)
+front-failed before mid now text line rest p q = prefix_front before now text rest (front-prefix before mid now text line p q)
+
+pub OnErr_of : {T E P : Type 0} → (r : Result T E) → P → OnErr r P
+OnErr_of (Ok x) p = tt
+OnErr_of (Err e) p = p

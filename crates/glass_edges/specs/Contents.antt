@@ -16,6 +16,12 @@ pub record AppendsPrefix (before now : Option (List ℕ)) (bytes : List ℕ) : T
   pub within : count ≤ length bytes
   pub same : now ≡ appended before (take count bytes)
 
+-- of a text a front was appended, and the rest of it is still to be put
+pub record PutsFront (before now : Option (List ℕ)) (text rest : List ℕ) : Type 0 where
+  pub front : List ℕ
+  pub whole : text ≡ front ++ rest
+  pub same : now ≡ appended before front
+
 -- ---- stores of named files
 
 -- the bytes of each file by the bytes of its name

@@ -1,3 +1,7 @@
 pub mod Causes
 pub mod Contents
+pub mod Entries
 pub mod MemoryOutput
+pub mod MemoryStore
+pub mod Refusals
+pub mod StoreView

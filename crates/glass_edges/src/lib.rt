@@ -4,16 +4,30 @@
 //! and files, and the fixed buffer in which every line of text is made.
 #![tactic(auto)]
 
+mod entries;
+mod file_shelf;
+mod first_refusal;
 mod gate;
+mod honest_shelf;
+mod honest_sink;
 mod line;
+mod memory_shelf;
 mod memory_sink;
 mod refused;
+mod reserved_buffer;
 mod shelf;
 mod sink;
 mod stream_sink;
+#[cfg(test)]
+mod tests;
 
+pub use file_shelf::FileShelf;
+pub use first_refusal::first_found_is_first;
 pub use gate::{Gate, OpenGate};
+pub use honest_shelf::HonestShelf;
+pub use honest_sink::HonestSink;
 pub use line::Line;
+pub use memory_shelf::MemoryShelf;
 pub use memory_sink::MemorySink;
 pub use refused::{Fault, NoMemory};
 pub use shelf::{Fetched, Shelf};

@@ -1,8 +1,11 @@
 //! The buffer in which a line of text is made.
 
-ghost use Rattle.std.specs.Prelude.{◌≡◌, ◌+◌, ◌≤◌, ◌↔◌, IsTrue, [], ◌++◌, length, decimal};
+ghost use Rattle.std.specs.Prelude.{◌≡◌, ◌+◌, ◌≤◌, ◌↔◌, IsTrue, [], ◌++◌, length, decimal, OnOk, OnErr};
 ghost use Rattle.std.specs.Fmt.{signed_decimal};
+ghost use Rattle.glass_edges.specs.Causes.{HasCause};
+ghost use Rattle.glass_edges.specs.Contents.{appended, AppendsPrefix, PutsFront};
 
+use crate::{Fault, Sink, put_all};
 use std::marker::Model;
 
 /// A text of at most 256 bytes, the longest bounded line among them. It takes no memory, and a
@@ -91,5 +94,48 @@ impl Line {
         ensures { result.now ≡ self.now }
     {
         &self.text[..self.len]
+    }
+
+    /// Puts the text and makes it empty. At an error, which counts a fault, the output has taken a
+    /// prefix of it.
+    pub fn put<O: Sink>(&mut self, out: &mut O) -> Result<(), Fault>
+        ensures whole { OnOk result (O.taken out.new ≡ appended (O.taken out.old) self.old) }
+        ensures prefix { OnErr result (AppendsPrefix (O.taken out.old) (O.taken out.new) self.old) }
+        ensures cause { HasCause (O.faults out.old) (O.faults out.new) result }
+        ensures emptied { OnOk result (self.new ≡ []) }
+    {
+        put_all(out, self.as_slice())?;
+        self.clear();
+        Ok(())
+    }
+
+    /// Puts the text where `count` more bytes would not fit behind it.
+    pub fn make_room<O: Sink>(&mut self, out: &mut O, count: usize) -> Result<(), Fault>
+        requires { count ≤ 256 }
+        ensures room { OnOk result (length self.new + count ≤ 256) }
+        ensures front { OnOk result (PutsFront (O.taken out.old) (O.taken out.new) self.old self.new) }
+        ensures prefix { OnErr result (AppendsPrefix (O.taken out.old) (O.taken out.new) self.old) }
+        ensures cause { HasCause (O.faults out.old) (O.faults out.new) result }
+    {
+        if self.len() > 256 - count {
+            return self.put(out);
+        }
+        Ok(())
+    }
+
+    /// Adds bytes of any number; what does not fit goes out in full buffers, and the rest stays.
+    pub fn extend<O: Sink>(&mut self, out: &mut O, bytes: &[u8]) -> Result<(), Fault>
+        ensures front { OnOk result (PutsFront (O.taken out.old) (O.taken out.new) (self.old ++ bytes.now) self.new) }
+        ensures prefix { OnErr result (AppendsPrefix (O.taken out.old) (O.taken out.new) (self.old ++ bytes.now)) }
+        ensures cause { HasCause (O.faults out.old) (O.faults out.new) result }
+    {
+        let mut at = 0;
+        'pieces: while at < bytes.len() {
+            self.make_room(out, 1)?;
+            let count = (bytes.len() - at).min(256 - self.len());
+            self.add(&bytes[at..at + count]);
+            at += count;
+        }
+        Ok(())
     }
 }

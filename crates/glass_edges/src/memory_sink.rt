@@ -74,13 +74,10 @@ impl Sink for MemorySink {
     ghost faults = { λ s. s.faults };
 
     fn put(&mut self, piece: &[u8]) -> Result<usize, Fault>
-        ensures taken { IfOk result (λ n. Some self.new.taken ≡ appended (Some self.old.taken) (take n piece.now)) }
-        ensures within { IfOk result (λ n. n ≤ length piece.now) }
-        ensures some { IfOk result (λ n. 0 < length piece.now → 0 < n) }
-        ensures kept { OnErr result (Some self.new.taken ≡ Some self.old.taken) }
-        ensures cause { HasCause self.old.faults self.new.faults result }
         ensures exactly { is_err result ≡ refuses self.old piece.now }
         ensures amount { IfOk result (λ n. n ≡ accepted self.old piece.now) }
+        ensures some { IfOk result (λ n. 0 < length piece.now → 0 < n) }
+        ensures cause { HasCause self.old.faults self.new.faults result }
         ensures moved { self.new ≡ after_put self.old piece.now }
     {
         let failing = self.fails.contains(&self.puts);

@@ -8,7 +8,7 @@ use crate::Fault;
 use std::alloc::Global;
 
 /// What a fetch answers.
-#[derive(Debug, Drop)]
+#[derive(Debug, PartialEq, Eq, Drop)]
 pub enum Fetched {
     /// The bytes of the file.
     Held(Vec<u8>),

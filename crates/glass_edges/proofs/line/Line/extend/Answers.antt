@@ -1,0 +1,33 @@
+-- Each round puts a front of the text so far where the line is full, and adds what fits.
+use Rattle.std.proofs.Common.{rules, arith, ◌≡◌, ℕ, ◌+◌, ◌-◌, ◌≤◌, List, ◌++◌, length, take, drop, sym, ap, ◌∙◌, subst, append_assoc}
+use Rattle.std.proofs.Math.Seq.{take-add}
+use Rattle.std.proofs.lemmas.List.{take-append-drop}
+use Rattle.glass_edges.specs.Contents.{PutsFront, AppendsPrefix}
+use Rattle.glass_edges.proofs.Puts.{front-step, front-failed, OnErr_of}
+use Rattle.glass_edges.proofs.line.Line.extend.Goals as goal
+
+-- the text so far and the next piece
+text-more : (first bytes : List ℕ) (at n : ℕ) → (first ++ take at bytes) ++ take (at + n - at) (drop at bytes) ≡ first ++ take (at + n) bytes
+text-more first bytes at n =
+    let e : at + n - at ≡ n = omega arith in
+    append_assoc first (take at bytes) (take (at + n - at) (drop at bytes))
+    ∙ ap (λ xs. first ++ xs) (rw e (sym (take-add at n bytes)))
+
+-- the text so far and all that follows
+text-whole : (first bytes : List ℕ) (at : ℕ) → (first ++ take at bytes) ++ drop at bytes ≡ first ++ bytes
+text-whole first bytes at = append_assoc first (take at bytes) (drop at bytes) ∙ ap (λ xs. first ++ xs) (take-append-drop at bytes)
+
+pub pieces-preserved : goal.pieces-preserved
+pieces-preserved g c = record {
+  within = search (rules, arith);
+  front = subst (λ text. PutsFront (g.O.Sink.taken c.args.out.now) (g.O.Sink.taken c.make_room.new.out) text c.add.new.self)
+      (text-more c.args.self.now c.args.bytes.now c.pieces.at c.min-count.result)
+      (front-step _ _ _ _ _ _ _ _ c.pieces.invariant.front c.in_ok-make_room.ensures.front c.add.ensures);
+  later = search (rules, arith);
+}
+
+pub returns-in_err-make_room-clause-prefix : goal.returns-in_err-make_room-clause-prefix
+returns-in_err-make_room-clause-prefix g c = OnErr_of c.from_residual.result
+    (subst (AppendsPrefix (g.O.Sink.taken c.args.out.now) (g.O.Sink.taken c.make_room.new.out))
+    (text-whole c.args.self.now c.args.bytes.now c.pieces.at)
+    (front-failed _ _ _ _ _ (drop c.pieces.at c.args.bytes.now) c.pieces.invariant.front c.in_err-make_room.ensures.prefix))
