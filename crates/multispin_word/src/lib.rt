@@ -1,0 +1,11 @@
+//! Words of 64 disorder samples, one bit a sample (bit 0, the low end, is sample 0), and small
+//! numbers of 64 samples in bit planes.
+#![tactic(auto)]
+
+pub use planes::Planes;
+pub use word::{bit, broadcast, choose, swap_masked, with_bit};
+
+mod planes;
+#[cfg(test)]
+mod tests;
+mod word;

@@ -1,0 +1,72 @@
+//! A small number of each of 64 samples, in bit planes.
+
+ghost use Rattle.std.specs.Prelude.{◌≡◌, ℕ, ◌*◌, ◌^◌, ◌<◌, ◌≤◌, ◌==◌, false, slice_index};
+ghost use Rattle.multispin_word.specs.Planes.{number, one_if};
+
+use crate::word::{bit, with_bit};
+
+/// The numbers of 64 samples, each below 2^W. Word w holds bit w of each: the number of a sample
+/// is the sum over w of 2^w times its bit of word w. W is at most 20 where a number is read or
+/// written.
+#[derive(Drop)]
+pub struct Planes<const W: usize> {
+    pub words: [u64; W],
+}
+
+impl<const W: usize> Planes<W> {
+    /// The number 0 for all samples.
+    #[inline]
+    pub fn zero() -> Planes<W>
+        ensures { (b : ℕ) → number result.words b ≡ 0 }
+    {
+        Planes { words: [0u64; W] }
+    }
+
+    /// The number of one sample, below 64.
+    #[inline]
+    pub fn number_at(&self, sample: u32) -> u32
+        requires width { W ≤ 20 }
+        requires sample { sample < 64 }
+        ensures { result ≡ number self.now.words sample }
+    {
+        let mut total = 0u32;
+        'planes: for w in 0..W {
+            total += worth(bit(self.words[w], sample), w);
+        }
+        total
+    }
+
+    /// Changes the number of one sample, below 64, to a value below 2^W.
+    #[inline]
+    pub fn set_number(&mut self, sample: u32, value: u32)
+        requires width { W ≤ 20 }
+        requires sample { sample < 64 }
+        requires value { value < 2 ^ W }
+        ensures number { number self.new.words sample ≡ value }
+        ensures others { (b : ℕ) → b < 64 → (b == sample) ≡ false
+            → number self.new.words b ≡ number self.old.words b }
+    {
+        'planes: for w in 0..W {
+            self.words[w] = with_bit(self.words[w], sample, bit(value as u64, w as u32));
+        }
+    }
+
+    /// Writes the numbers of all samples, sample 0 first.
+    pub fn to_numbers(&self, out: &mut [u32; 64])
+        requires { W ≤ 20 }
+        ensures { (b : ℕ) → b < 64 → slice_index out.new b ≡ number self.now.words b }
+    {
+        'samples: for b in 0..64 {
+            out[b] = self.number_at(b as u32);
+        }
+    }
+}
+
+/// What a bit of a plane counts: 2^plane where it is set.
+#[inline]
+fn worth(set: bool, plane: usize) -> u32
+    requires { plane < 20 }
+    ensures { result ≡ 2 ^ plane * one_if set }
+{
+    if set { 1 << plane } else { 0 }
+}
