@@ -1,0 +1,4 @@
+pub mod TableText
+pub mod Pieces
+pub mod Tables
+pub mod KeptRules

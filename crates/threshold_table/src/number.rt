@@ -1,0 +1,90 @@
+//! The number in one field.
+
+ghost use Rattle.std.specs.Prelude.{◌≡◌, ◌-◌, ◌≤◌, length, IsTrue, IfOk};
+ghost use Rattle.std.specs.List.{list_all, prefix_len, suffix_len};
+ghost use Rattle.glass_edges.specs.Refusals.{refusal_of};
+ghost use Rattle.threshold_table.specs.TableText.{is_space, trimmed, is_digit, is_number, value_of, field_refusal, field_value};
+
+use crate::refused::TableRefused;
+
+/// The greatest threshold, which stands for the probability 1.
+const ALWAYS: u64 = 4294967296;
+
+fn spaces_in_front(field: &[u8]) -> usize
+    ensures value { result ≡ prefix_len is_space field.now }
+    ensures within { result ≤ length field.now }
+{
+    'bytes: for (i, b) in field.iter().enumerate() {
+        if *b != b' ' {
+            return i;
+        }
+    }
+    field.len()
+}
+
+// Where the spaces at the end begin.
+fn end_of(field: &[u8]) -> usize
+    ensures value { result ≡ length field.now - suffix_len is_space field.now }
+    ensures within { result ≤ length field.now }
+{
+    let mut end = field.len();
+    'bytes: while end > 0 && field[end - 1] == b' ' {
+        end -= 1;
+    }
+    end
+}
+
+#[tactic(auto, unfolding(crate::specs::TableText::trimmed))]
+fn trimmed(field: &[u8]) -> &[u8]
+    ensures { result.now ≡ trimmed field.now }
+{
+    let front = &field[spaces_in_front(field)..];
+    &front[..end_of(front)]
+}
+
+fn is_digit(b: u8) -> bool
+    ensures { result ≡ is_digit b }
+{
+    b >= b'0' && b <= b'9'
+}
+
+fn has_digits_alone(text: &[u8]) -> bool
+    ensures { result ≡ list_all is_digit text.now }
+{
+    text.iter().all(|b| is_digit(*b))
+}
+
+// Whether the text is one to ten digits.
+fn is_number(text: &[u8]) -> bool
+    ensures { result ≡ is_number text.now }
+{
+    1 <= text.len() && text.len() <= 10 && has_digits_alone(text)
+}
+
+fn value_of(digits: &[u8]) -> u64
+    requires { IsTrue (is_number digits.now) }
+    ensures { result ≡ value_of digits.now }
+{
+    let mut value = 0u64;
+    'digits: for b in digits {
+        value = value * 10 + (*b - b'0') as u64;
+    }
+    value
+}
+
+/// The number in a field of record `at`, or the field's refusal.
+#[tactic(auto, unfolding(crate::specs::TableText::field_refusal))]
+pub(crate) fn number_at(at: u64, field: u64, text: &[u8]) -> Result<u64, TableRefused>
+    ensures refused { refusal_of result ≡ field_refusal at field text.now }
+    ensures value { IfOk result (λ n. n ≡ field_value text.now) }
+{
+    let digits = trimmed(text);
+    if !is_number(digits) {
+        return Err(TableRefused::Number { at, field });
+    }
+    let value = value_of(digits);
+    if value > ALWAYS {
+        return Err(TableRefused::TooGreat { at, field, value });
+    }
+    Ok(value)
+}
