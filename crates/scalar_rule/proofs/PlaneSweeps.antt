@@ -1,5 +1,5 @@
 -- A plane swept from the list of its draws is swept by the rule, and the planes of a colour make up its half sweep.
-use Rattle.std.proofs.Common.{◌≡◌, ℕ, zero, suc, ◌+◌, ◌*◌, ◌/◌, ◌%◌, ◌<◌, ◌≤◌, Bool, true, false, cond, ◌==◌, List, [], ◌++◌, length, get_or, set, take, drop, refl, sym, ap, ◌∙◌, subst, arith, zero-add, add-one}
+use Rattle.std.proofs.Common.{◌≡◌, ℕ, zero, suc, ◌+◌, ◌*◌, ◌/◌, ◌<◌, ◌≤◌, Bool, true, false, cond, ◌==◌, List, [], ◌++◌, length, get_or, set, take, drop, refl, sym, ap, ◌∙◌, subst, arith, zero-add, add-one}
 use Rattle.std.proofs.lemmas.Bool.{eqb-true}
 use Rattle.std.proofs.lemmas.Nat.{div-mul-add}
 use Rattle.std.proofs.lemmas.Grind.{common_steps}
@@ -13,7 +13,7 @@ use Rattle.spin_model.proofs.Stepping.{steps-same, steps-add}
 use Rattle.spin_model.proofs.Tables.{get_or-table}
 use Rattle.scalar_rule.specs.Neighbours.{spin, aligned, satisfied}
 use Rattle.scalar_rule.specs.Planes.{visit_with}
-use Rattle.scalar_rule.specs.Sweep.{Dynamics, Configuration, visit, site_draw, plane_drawn, half_sweep}
+use Rattle.scalar_rule.specs.Sweep.{Dynamics, Configuration, visit, site_draw, plane_drawn}
 use Rattle.scalar_rule.specs.declared.plain_copy.PlainCopy.{PlainCopy}
 use Rattle.scalar_rule.specs.Replica.{configuration_of}
 

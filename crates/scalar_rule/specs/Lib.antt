@@ -1,6 +1,14 @@
 pub mod Neighbours
 pub mod Sums
 pub mod Sweep
-pub mod Opening
+pub mod Plan
+pub mod KeptPlan
 pub mod Replica
+pub mod Opening
+pub mod Exchange
+pub mod Epoch
+pub mod Serial
+pub mod Records
+pub mod Ragged
 pub mod Planes
+pub mod SpinDigits

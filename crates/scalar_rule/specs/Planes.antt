@@ -9,6 +9,6 @@ use Rattle.scalar_rule.specs.Sweep.{Dynamics}
 unfoldable pub visit_with : Dynamics → List ℕ → ℕ → ℕ → List Bool → List Bool
 visit_with d draws c i spins = if colour d.size i == c then slice_set spins i updated else spins
   where
-  updated : Bool
-  updated = new_spin d.rule d.thresholds (aligned d.size d.bonds spins i) (satisfied d.size d.bonds spins i)
-    (slice_index draws (place_in_plane d.size i)) (spin spins i)
+    updated : Bool
+    updated = new_spin d.rule d.thresholds (aligned d.size d.bonds spins i) (satisfied d.size d.bonds spins i)
+        (slice_index draws (place_in_plane d.size i)) (spin spins i)

@@ -27,9 +27,9 @@ site_draw l words i = draw (slice_index_or words (colour l i * l + z_of l i) [])
 unfoldable pub visit : Dynamics → List (List ℕ) → ℕ → ℕ → List Bool → List Bool
 visit d words c i spins = if colour d.size i == c then slice_set spins i updated else spins
   where
-  updated : Bool
-  updated = new_spin d.rule d.thresholds (aligned d.size d.bonds spins i) (satisfied d.size d.bonds spins i)
-    (site_draw d.size words i) (spin spins i)
+    updated : Bool
+    updated = new_spin d.rule d.thresholds (aligned d.size d.bonds spins i) (satisfied d.size d.bonds spins i)
+        (site_draw d.size words i) (spin spins i)
 
 -- the words once those of colour c in plane z have given a number to each of the plane's sites of that colour
 abbrev pub plane_drawn : ℕ → ℕ → ℕ → List (List ℕ) → List (List ℕ)

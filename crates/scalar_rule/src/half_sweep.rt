@@ -28,12 +28,10 @@ pub(crate) fn half_sweep<B: Bonds>(
     requires spins { length replica.old.spins ≡ volume lattice.now }
     requires wheels { length replica.old.wheels ≡ 2 * lattice.now }
     requires colour { colour < 2 }
-    ensures swept {
-        configuration_of replica.new ≡ model.half_sweep
-            (heat_bath_on lattice.now thresholds.now (B.negative bonds.now))
-            colour
-            (configuration_of replica.old)
-    }
+    ensures swept { configuration_of replica.new ≡ model.half_sweep
+        (heat_bath_on lattice.now thresholds.now (B.negative bonds.now))
+        colour
+        (configuration_of replica.old) }
     ensures spins { length replica.new.spins ≡ length replica.old.spins }
     ensures wheels { length replica.new.wheels ≡ length replica.old.wheels }
     ensures label { replica.new.replica ≡ replica.old.replica }
@@ -56,12 +54,10 @@ fn half_sweep_with<B: Bonds>(
     requires wheels { length replica.old.wheels ≡ 2 * lattice.now }
     requires colour { colour < 2 }
     requires room { length draws.old ≡ PLANE }
-    ensures swept {
-        configuration_of replica.new ≡ model.half_sweep
-            (heat_bath_on lattice.now thresholds.now (B.negative bonds.now))
-            colour
-            (configuration_of replica.old)
-    }
+    ensures swept { configuration_of replica.new ≡ model.half_sweep
+        (heat_bath_on lattice.now thresholds.now (B.negative bonds.now))
+        colour
+        (configuration_of replica.old) }
     ensures spins { length replica.new.spins ≡ length replica.old.spins }
     ensures wheels { length replica.new.wheels ≡ length replica.old.wheels }
     ensures label { replica.new.replica ≡ replica.old.replica }
@@ -71,7 +67,10 @@ fn half_sweep_with<B: Bonds>(
     let plane_draws = &mut draws[..count];
     'planes: for z in 0..size {
         // Each site of the colour has a draw, used or not, so that all samples can share it.
-        replica.wheels.at_mut((colour * size + z) as usize).fill(plane_draws);
+        replica
+            .wheels
+            .at_mut((colour * size + z) as usize)
+            .fill(plane_draws);
         visit_plane(
             lattice,
             bonds,
@@ -98,18 +97,24 @@ fn visit_plane<B: Bonds>(
     requires spins { length spins.old ≡ volume lattice.now }
     requires draws { length draws.now ≡ half_plane lattice.now }
     requires plane { z < lattice.now }
-    ensures {
-        spins.new ≡ steps
-            (visit_with (heat_bath_on lattice.now thresholds.now (B.negative bonds.now)) draws.now colour)
-            (z * (lattice.now * lattice.now))
-            (lattice.now * lattice.now)
-            spins.old
-    }
+    ensures { spins.new ≡ steps
+        (visit_with (heat_bath_on lattice.now thresholds.now (B.negative bonds.now)) draws.now colour)
+        (z * (lattice.now * lattice.now))
+        (lattice.now * lattice.now)
+        spins.old }
 {
     let size = lattice.size();
     let plane = size * size;
     'sites: for k in 0..plane {
-        visit(lattice, bonds, thresholds, spins, draws, colour, z * plane + k);
+        visit(
+            lattice,
+            bonds,
+            thresholds,
+            spins,
+            draws,
+            colour,
+            z * plane + k,
+        );
     }
 }
 
@@ -128,14 +133,12 @@ fn visit<B: Bonds>(
     requires spins { length spins.old ≡ volume lattice.now }
     requires draws { length draws.now ≡ half_plane lattice.now }
     requires site { site < volume lattice.now }
-    ensures {
-        spins.new ≡ visit_with
-            (heat_bath_on lattice.now thresholds.now (B.negative bonds.now))
-            draws.now
-            colour
-            site
-            spins.old
-    }
+    ensures { spins.new ≡ visit_with
+        (heat_bath_on lattice.now thresholds.now (B.negative bonds.now))
+        draws.now
+        colour
+        site
+        spins.old }
 {
     if lattice.colour(site) == colour {
         let draw = draws[place(lattice, site) as usize];

@@ -9,7 +9,15 @@ ghost use Rattle.scalar_rule.specs.Neighbours.{ahead, behind, pull, coupled};
 use crate::bonds::Bonds;
 use lattice_geometry::Lattice;
 
-// J times a spin, true for +1.
+/// 1 where the test holds, else 0.
+pub(crate) fn one_if(test: bool) -> u32
+    ensures value { result ≡ one_if test }
+    ensures within { result ≤ 1 }
+{
+    if test { 1 } else { 0 }
+}
+
+/// J times a spin, true for +1.
 pub(crate) fn coupled(negative: bool, spin: bool) -> bool
     ensures { result ≡ coupled negative spin }
 {
@@ -26,7 +34,7 @@ fn pull_ahead<B: Bonds>(lattice: &Lattice, bonds: &B, spins: &[bool], site: u32,
     ensures within { result ≤ 1 }
 {
     let neighbour = lattice.forward(site, d) as usize;
-    if coupled(bonds.is_negative(site, d), spins[neighbour]) { 1 } else { 0 }
+    one_if(coupled(bonds.is_negative(site, d), spins[neighbour]))
 }
 
 // 1 where J s' of the neighbour one step back is +1.
@@ -39,7 +47,8 @@ fn pull_behind<B: Bonds>(lattice: &Lattice, bonds: &B, spins: &[bool], site: u32
     ensures within { result ≤ 1 }
 {
     let neighbour = lattice.backward(site, d);
-    if coupled(bonds.is_negative(neighbour, d), spins[neighbour as usize]) { 1 } else { 0 }
+    let negative = bonds.is_negative(neighbour, d);
+    one_if(coupled(negative, spins[neighbour as usize]))
 }
 
 /// How many of the six neighbours have J s' = +1.

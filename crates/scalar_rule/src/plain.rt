@@ -42,15 +42,12 @@ pub fn plain_run(
     seed: u64,
     thresholds: &[u64; 7],
 ) -> Result<PlainOut, NoMemory>
-    ensures spins {
-        IfOk result (λ out.
-            out.spins ≡ (plain_configuration lattice sweeps seed thresholds.now).spins)
-    }
-    ensures energy {
-        IfOk result (λ out.
-            out.energy ≡ sums.energy lattice (plus 0)
-                (plain_configuration lattice sweeps seed thresholds.now).spins)
-    }
+    ensures spins { IfOk result (λ out.
+        out.spins ≡ (plain_configuration lattice sweeps seed thresholds.now).spins) }
+    ensures energy { IfOk result (λ out.
+        out.energy ≡ sums.energy lattice (plus 0)
+        (plain_configuration lattice sweeps seed thresholds.now).spins) }
+    ensures sites { IfOk result (λ out. length out.spins ≡ volume lattice) }
 {
     let mut replica = opening(alloc, &lattice, seed)?;
     let bonds = Ferromagnet { lattice };
@@ -105,12 +102,10 @@ fn sweep_often<B: Bonds>(
     requires size { B.size bonds.now ≡ lattice.now }
     requires spins { length replica.old.spins ≡ volume lattice.now }
     requires wheels { length replica.old.wheels ≡ 2 * lattice.now }
-    ensures swept {
-        configuration_of replica.new ≡ model.sweeps
-            (heat_bath_on lattice.now thresholds.now (B.negative bonds.now))
-            count
-            (configuration_of replica.old)
-    }
+    ensures swept { configuration_of replica.new ≡ model.sweeps
+        (heat_bath_on lattice.now thresholds.now (B.negative bonds.now))
+        count
+        (configuration_of replica.old) }
     ensures spins { length replica.new.spins ≡ length replica.old.spins }
     ensures wheels { length replica.new.wheels ≡ length replica.old.wheels }
 {
@@ -120,20 +115,13 @@ fn sweep_often<B: Bonds>(
 }
 
 // A sweep by heat bath: colour 0, then colour 1.
-fn sweep<B: Bonds>(
-    replica: &mut PlainCopy,
-    lattice: &Lattice,
-    bonds: &B,
-    thresholds: &[u64; 7],
-)
+fn sweep<B: Bonds>(replica: &mut PlainCopy, lattice: &Lattice, bonds: &B, thresholds: &[u64; 7])
     requires size { B.size bonds.now ≡ lattice.now }
     requires spins { length replica.old.spins ≡ volume lattice.now }
     requires wheels { length replica.old.wheels ≡ 2 * lattice.now }
-    ensures swept {
-        configuration_of replica.new ≡ model.sweep
-            (heat_bath_on lattice.now thresholds.now (B.negative bonds.now))
-            (configuration_of replica.old)
-    }
+    ensures swept { configuration_of replica.new ≡ model.sweep
+        (heat_bath_on lattice.now thresholds.now (B.negative bonds.now))
+        (configuration_of replica.old) }
     ensures spins { length replica.new.spins ≡ length replica.old.spins }
     ensures wheels { length replica.new.wheels ≡ length replica.old.wheels }
 {

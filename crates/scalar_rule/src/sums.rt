@@ -6,7 +6,7 @@ ghost use Rattle.spin_model.specs.Words.{one_if};
 ghost use Rattle.scalar_rule.specs.Sums as model;
 
 use crate::bonds::Bonds;
-use crate::neighbours::coupled;
+use crate::neighbours::{coupled, one_if};
 use lattice_geometry::Lattice;
 
 /// The energy in units of the coupling, from -3V to 3V for V sites.
@@ -47,13 +47,11 @@ fn unsatisfied_at<B: Bonds>(lattice: &Lattice, bonds: &B, spins: &[bool], n: u32
     requires size { B.size bonds.now ≡ lattice.now }
     requires spins { length spins.now ≡ volume lattice.now }
     requires bond { n < bond_count lattice.now }
-    ensures value {
-        result ≡ one_if (model.is_unsatisfied lattice.now (B.negative bonds.now) spins.now n)
-    }
+    ensures value { result ≡ one_if (model.is_unsatisfied lattice.now (B.negative bonds.now) spins.now n) }
     ensures within { result ≤ 1 }
 {
     let site = n / 3;
     let neighbour = lattice.forward(site, n % 3) as usize;
     let other = coupled(bonds.is_negative(site, n % 3), spins[neighbour]);
-    if other != spins[site as usize] { 1 } else { 0 }
+    one_if(other != spins[site as usize])
 }

@@ -32,12 +32,12 @@ planes-preserved g c =
     let below = mul-add-lt c.args.colour l z 2 c.requires.colour (rw size at c.planes-test.true) in
     let index : c.args.colour * l + z < length c.planes.replica.wheels = omega arith in
     let read : c.at_mut.result.now ≡ get_or c.planes.replica.wheels (c.args.colour * l + z) [] =
-      rw size at c.at_mut.ensures.value ∙ get_or_default c.planes.replica.wheels (c.args.colour * l + z) c.at_mut.result.now [] index in
+    rw size at c.at_mut.ensures.value ∙ get_or_default c.planes.replica.wheels (c.args.colour * l + z) c.at_mut.result.now [] index in
     let count : length c.planes.plane_draws ≡ half_plane l = rw (← size) (search (rules, arith)) in
     let drawn = rw count at c.fill.ensures.drawn in
     let moved = rw count at c.fill.ensures.moved in
     let wheel : c.at_mut.result.now ≡ get_or words (c.args.colour * l + z) [] =
-      read ∙ ap (λ v. get_or v (c.args.colour * l + z) []) inv.words ∙ plane_drawn-before l c.args.colour z (c.args.colour * l + z) words (omega arith) in
+    read ∙ ap (λ v. get_or v (c.args.colour * l + z) []) inv.words ∙ plane_drawn-before l c.args.colour z (c.args.colour * l + z) words (omega arith) in
     record {
       spins = over ∙ visits-more d words c.args.colour z _ c.planes.replica.spins c.visit_plane.new.spins c.fill.new.out c.at_mut.result.now c.size-size.ensures.lawful inv.spins wheel drawn (rw c.as_mut_slice.ensures.value at c.visit_plane.ensures);
       words = rw (size, moved, read, inv.words) (sym (rw zero-add at (steps-more (plane_drawn l c.args.colour) 0 z words)));

@@ -1,4 +1,4 @@
-use Rattle.std.proofs.Common.{rules, arith, ◌≡◌, ◌≤◌, ◌+◌, ◌∙◌, sym}
+use Rattle.std.proofs.Common.{rules, arith, sym}
 use Rattle.spin_model.proofs.Tables.{count_below-zero, count_below-more}
 use Rattle.scalar_rule.proofs.sums.unsatisfied.Goals as goal
 

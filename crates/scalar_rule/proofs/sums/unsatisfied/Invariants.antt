@@ -1,4 +1,4 @@
-use Rattle.std.proofs.Common.{◌≡◌, ◌≤◌, ◌+◌}
+use Rattle.std.proofs.Common.{◌≡◌, ◌≤◌}
 use Rattle.spin_model.specs.Steps.{count_below}
 use Rattle.scalar_rule.specs.Sums.{is_unsatisfied}
 use Rattle.scalar_rule.proofs.sums.unsatisfied.Given as goal

@@ -1,0 +1,2 @@
+pub mod CouplingWords
+pub mod Kept

@@ -1,0 +1,19 @@
+-- An output and a store of files at one moment, as far as they are observable.
+use Rattle.std.specs.Prelude.{ℕ, List, Option}
+use Rattle.glass_edges.specs.Contents.{Files}
+
+-- what an output has taken, and how often it has failed
+pub record Output : Type 0 where
+  pub taken : Option (List ℕ)
+  pub faults : ℕ
+
+-- what a store holds, and how often it has failed
+pub record Store : Type 0 where
+  pub holds : Option Files
+  pub faults : ℕ
+
+abbrev pub output : {S : Type 0} → (S → Option (List ℕ)) → (S → ℕ) → S → Output
+output taken faults s = record { taken = taken s; faults = faults s }
+
+abbrev pub store : {S : Type 0} → (S → Option Files) → (S → ℕ) → S → Store
+store holds faults s = record { holds = holds s; faults = faults s }

@@ -1,0 +1,112 @@
+-- How a call ends: its status, what causes it, what it leaves, and the line on the error output.
+use Rattle.std.specs.Prelude.{◌≡◌, ◌⊎◌, ℕ, List, [], codes, Option, Some, None, IfSome, Result, Ok, Err}
+use Rattle.glass_edges.specs.Causes.{Rose}
+use Rattle.glass_edges.specs.Contents.{appended, AppendsPrefix}
+use Rattle.glass_main.specs.CommandLine.{Command}
+use Rattle.glass_main.specs.Outside.{Output, Store}
+use Rattle.glass_main.specs.Request.{Work, text_of, text_asked, request_for}
+use Rattle.glass_main.specs.declared.ending.Refusal.{Refusal}
+use Rattle.glass_main.specs.declared.ending.Refusal.TheVariants.{Words}
+use Rattle.glass_main.specs.declared.ending.Ending.{Ending}
+use Rattle.glass_main.specs.declared.ending.Ending.TheVariants.{Done, Refused, Unwritten, NoMemory}
+
+abbrev pub refusal_status : Refusal → ℕ
+refusal_status Words = 2
+
+-- the exit status
+abbrev pub status_of : Ending → ℕ
+status_of Done = 0
+status_of (Refused refusal) = refusal_status refusal
+status_of Unwritten = 9
+status_of NoMemory = 11
+
+unfoldable pub refusal_line : Refusal → List ℕ
+refusal_line Words = codes "glass: the command line is not understood\n"
+
+-- the line on the error output
+unfoldable pub line_of : Ending → List ℕ
+line_of Done = []
+line_of (Refused refusal) = refusal_line refusal
+line_of Unwritten = codes "glass: writing the report failed\n"
+line_of NoMemory = codes "glass: no memory\n"
+
+-- the refusal that is told is the one that is due
+abbrev pub IsTold : Refusal → Refusal → Type 0
+IsTold Words told = told ≡ Words
+
+abbrev pub IsRefusedBy : {A : Type 0} → Result A Refusal → Refusal → Type 0
+IsRefusedBy (Ok work) told = ⊥
+IsRefusedBy (Err due) told = IsTold due told
+
+abbrev pub IsAccepted : {A : Type 0} → Result A Refusal → Type 0
+IsAccepted (Ok work) = Unit {0}
+IsAccepted (Err due) = ⊥
+
+-- the ending fits what is asked for
+abbrev pub Fits : Result Work Refusal → Ending → Type 0
+Fits asked Done = IsAccepted asked
+Fits asked (Refused told) = IsRefusedBy asked told
+Fits asked Unwritten = IsAccepted asked
+Fits asked NoMemory = Unit {0}
+
+-- what the output got: the whole text; nothing; or a prefix of the text and then a fault
+abbrev pub Printed : Option (Result Work Refusal) → Ending → Output → Output → Type 0
+Printed asked Done old new = IfSome asked (λ a. new.taken ≡ appended old.taken (text_asked a))
+Printed asked (Refused told) old new = new ≡ old
+Printed asked Unwritten old new =
+    Rose old.faults new.faults × IfSome asked (λ a. AppendsPrefix old.taken new.taken (text_asked a))
+Printed asked NoMemory old new = new ≡ old
+
+-- an ending other than that of words which are no command
+abbrev pub IsPastWords : Ending → Type 0
+IsPastWords Done = Unit {0}
+IsPastWords (Refused Words) = ⊥
+IsPastWords Unwritten = Unit {0}
+IsPastWords NoMemory = Unit {0}
+
+-- words that are no command are refused as such, and no others
+abbrev pub Reads : Option Command → Ending → Type 0
+Reads None ending = ending ≡ Refused Words
+Reads (Some command) ending = IsPastWords ending
+
+-- an ending, its cause and what it leaves
+pub record Ends (command : Option Command) (ending : Ending) (held holds : Store) (before now : Output) : Type 0 where
+  pub words : Reads command ending
+  pub cause : IfSome (request_for command held.holds) (λ asked. Fits asked ending)
+  pub out : Printed (request_for command held.holds) ending before now
+  pub files : holds.holds ≡ held.holds
+
+-- the error output got the line, or a prefix of it and then a fault
+unfoldable pub Says : List ℕ → Output → Output → Type 0
+Says line old new = (new.taken ≡ appended old.taken line) ⊎ (Rose old.faults new.faults × AppendsPrefix old.taken new.taken line)
+
+abbrev pub Told : Ending → Output → Output → Type 0
+Told Done old new = new ≡ old
+Told (Refused told) old new = Says (line_of (Refused told)) old new
+Told Unwritten old new = Says (line_of Unwritten) old new
+Told NoMemory old new = Says (line_of NoMemory) old new
+
+-- the status of a call with its cause and what it leaves
+pub record Answers (command : Option Command) (status : ℕ) (held holds : Store) (before now err_before err_now : Output) : Type 0 where
+  pub ending : Ending
+  pub number : status ≡ status_of ending
+  pub ends : Ends command ending held holds before now
+  pub err : Told ending err_before err_now
+
+-- all of the work is done: the output got its text, the error output nothing, and the files are as before
+pub record DoesWork (work : Work) (held holds : Store) (before now err_before err_now : Output) : Type 0 where
+  pub out : now.taken ≡ appended before.taken (text_of work)
+  pub err : err_now ≡ err_before
+  pub files : holds.holds ≡ held.holds
+
+-- what is asked for is work, and it is done
+abbrev pub Does : Result Work Refusal → Store → Store → Output → Output → Output → Output → Type 0
+Does (Err refusal) held holds before now err_before err_now = ⊥
+Does (Ok work) held holds before now err_before err_now = DoesWork work held holds before now err_before err_now
+
+-- where neither the store nor the output failed, the work is done or the refusal told, but for want of memory
+abbrev pub Completes : Result Work Refusal → ℕ → Store → Store → Output → Output → Type 0
+Completes (Err refusal) status held holds before now =
+    ¬ (Rose held.faults holds.faults) → (status ≡ refusal_status refusal) ⊎ (status ≡ 11)
+Completes (Ok work) status held holds before now =
+    ¬ (Rose held.faults holds.faults) → ¬ (Rose before.faults now.faults) → (status ≡ 0) ⊎ (status ≡ 11)

@@ -1,0 +1,43 @@
+-- Words of the command line as bytes, and the numbers that some of them write.
+use Rattle.std.specs.Prelude.{ℕ, zero, suc, ◌+◌, ◌-◌, ◌*◌, ◌%◌, Bool, ◌&&◌, ◌==◌, nat_le, if◌then◌else◌, List, [], ◌∷◌, ◌++◌, length, map, slice_index_or, Option, Some, None, String, string_bytes}
+use Rattle.std.specs.declared.alloc.Global.{Global}
+
+-- the bytes of each word
+abbrev pub texts : List (String Global) → List (List ℕ)
+texts words = map string_bytes words
+
+-- what comes of a value, where there is one
+abbrev pub given : {A B : Type 0} → Option A → (A → Option B) → Option B
+given None next = None
+given (Some value) next = next value
+
+-- word k, counted from 0; empty where there is none
+abbrev pub word_at : List (List ℕ) → ℕ → List ℕ
+word_at words k = slice_index_or words k []
+
+abbrev pub is_digit : ℕ → Bool
+is_digit b = nat_le 48 b && nat_le b 57
+
+-- the value of decimal digits that follow those which gave n; none where one of them is no digit
+unfoldable pub value_after : ℕ → List ℕ → Option ℕ
+value_after n [] = Some n
+value_after n (b ∷ bs) = if is_digit b then value_after (n * 10 + (b - 48)) bs else None
+
+abbrev pub in_range : ℕ → ℕ → ℕ → Option ℕ
+in_range low high n = if nat_le low n && nat_le n high then Some n else None
+
+-- a number word: one to twenty decimal digits, whose value lies in the range
+abbrev pub number_word : ℕ → ℕ → List ℕ → Option ℕ
+number_word low high text =
+    if nat_le 1 (length text) && nat_le (length text) 20 then given (value_after 0 text) (in_range low high) else None
+
+-- the values of that many number words, from word start on
+unfoldable pub number_words : ℕ → ℕ → List (List ℕ) → ℕ → ℕ → Option (List ℕ)
+number_words low high words start zero = Some []
+number_words low high words start (suc n) =
+    given (number_words low high words start n) (λ values.
+    given (number_word low high (word_at words (start + n))) (λ value. Some (values ++ value ∷ [])))
+
+-- the side of a lattice: an even number from 4 to 64
+abbrev pub size_word : List ℕ → Option ℕ
+size_word text = given (number_word 4 64 text) (λ size. if size % 2 == 0 then Some size else None)

@@ -1,0 +1,94 @@
+//! The command that the words after the program's name ask for.
+
+ghost use Rattle.std.specs.Prelude.{◌≡◌, ℕ, ◌+◌, ◌<◌, ◌≤◌, ◌^◌, length, take, option_map, Some, None, if◌then◌else◌};
+ghost use Rattle.glass_main.specs.CommandLine.{command_of, plain_order};
+ghost use Rattle.glass_main.specs.ReadCommand.{read_command, read_order};
+ghost use Rattle.glass_main.specs.Words as model;
+ghost use Rattle.glass_main.specs.Words.{texts, size_word};
+
+use crate::words::{number_word, word_at};
+use lattice_geometry::Lattice;
+
+/// What `plain` asks for: the lattice, the number of sweeps, the seed, and the seven thresholds,
+/// each a probability times 2^32.
+#[derive(Clone, Copy)]
+pub struct PlainOrder {
+    pub lattice: Lattice,
+    pub sweeps: u32,
+    pub seed: u64,
+    pub thresholds: [u64; 7],
+}
+
+/// What the words ask for.
+#[derive(Clone, Copy)]
+pub enum Command {
+    Plain(PlainOrder),
+}
+
+/// Reads the words. It takes no memory.
+pub(crate) fn read_words(words: &[String]) -> Option<Command>
+    ensures { option_map read_command result ≡ command_of (texts words.now) }
+{
+    if word_at(words, 0) != "plain" {
+        return None;
+    }
+    match read_plain(words) {
+        Some(order) => Some(Command::Plain(order)),
+        None => None,
+    }
+}
+
+// The words of `plain`.
+#[tactic(auto, unfolding(crate::specs::CommandLine::plain_order))]
+fn read_plain(words: &[String]) -> Option<PlainOrder>
+    ensures { option_map read_order result ≡ plain_order (texts words.now) }
+{
+    if words.len() != 11 {
+        return None;
+    }
+    let lattice = size_word(word_at(words, 1))?;
+    let sweeps = number_word(word_at(words, 2), 0, 1000000)? as u32;
+    let seed = number_word(word_at(words, 3), 0, 9223372036854775807)?;
+    let thresholds = threshold_words(words)?;
+    Some(PlainOrder {
+        lattice,
+        sweeps,
+        seed,
+        thresholds,
+    })
+}
+
+// The lattice whose side a word writes.
+fn size_word(text: &str) -> Option<Lattice>
+    ensures { option_map (λ (l : ℕ). l) result ≡ size_word text.now }
+{
+    let size = number_word(text, 4, 64)?;
+    Lattice::of(size as u32).ok()
+}
+
+// The seven thresholds.
+fn threshold_words(words: &[String]) -> Option<[u64; 7]>
+    ensures { result ≡ model.number_words 0 (2 ^ 32) (texts words.now) 4 7 }
+{
+    let mut values = [0u64; 7];
+    if read_numbers(words, 4, 4294967296, &mut values) {
+        Some(values)
+    } else {
+        None
+    }
+}
+
+// Reads as many number words as the list is long, from word `start` on, and answers whether each is one.
+fn read_numbers(words: &[String], start: usize, high: u64, values: &mut [u64]) -> bool
+    requires { start + length values.old < 2 ^ 32 }
+    ensures { model.number_words 0 high (texts words.now) start (length values.old)
+        ≡ (if result then Some values.new else None) }
+{
+    'words: for k in 0..values.len() {
+        match number_word(word_at(words, start + k), 0, high) {
+            Some(value) => values[k] = value,
+            None => return false,
+        }
+    }
+    true
+}

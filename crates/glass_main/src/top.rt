@@ -1,0 +1,66 @@
+//! The top call.
+
+ghost use Rattle.std.specs.Prelude.{◌≡◌, ◌↔◌, None, IfSome};
+ghost use Rattle.glass_main.specs.CommandLine.{command_of};
+ghost use Rattle.glass_main.specs.Outside.{output, store};
+ghost use Rattle.glass_main.specs.Request.{request};
+ghost use Rattle.glass_main.specs.Statuses.{Ends, Answers, Does, Completes};
+ghost use Rattle.glass_main.specs.Words.{texts};
+
+use crate::command_line::{Command, read_words};
+use crate::ending::{Ending, Refusal, status, tell};
+use crate::plain::plain;
+use glass_edges::{Gate, Shelf, Sink};
+use std::alloc::Global;
+
+/// The program: from the words after its name to the text on `out`, the line on `err` and the exit
+/// status.
+///
+/// Status 0: all is done, and `err` got nothing. Status 2: the words are no command. Status 9: the
+/// output failed. Status 11: there was not enough memory. With a status other than 0 `err` got one
+/// line, or a prefix of it where it failed itself.
+pub fn glass<R: Sync, H: Shelf, O: Sink, E: Sink, G: Gate + Sync>(
+    _rt: &R,
+    alloc: Global,
+    words: &[String],
+    shelf: &mut H,
+    out: &mut O,
+    err: &mut E,
+    _gate: &G,
+) -> u8
+    // The status is that of an ending, whose cause and leavings are the named ones.
+    ensures answers { Answers (command_of (texts words.now)) result
+        (store H.holds H.faults shelf.old) (store H.holds H.faults shelf.new)
+        (output O.taken O.faults out.old) (output O.taken O.faults out.new)
+        (output E.taken E.faults err.old) (output E.taken E.faults err.new) }
+    ensures words { (result ≡ 2) ↔ (command_of (texts words.now) ≡ None) }
+
+    // With status 0 the output got the text that the request asks for.
+    ensures done { result ≡ 0 → IfSome (request (texts words.now) (H.holds shelf.old)) (λ asked.
+        Does asked
+        (store H.holds H.faults shelf.old) (store H.holds H.faults shelf.new)
+        (output O.taken O.faults out.old) (output O.taken O.faults out.new)
+        (output E.taken E.faults err.old) (output E.taken E.faults err.new)) }
+
+    // Where neither the store nor the output failed, only want of memory keeps it from being done.
+    ensures complete { IfSome (request (texts words.now) (H.holds shelf.old)) (λ asked.
+        Completes asked result
+        (store H.holds H.faults shelf.old) (store H.holds H.faults shelf.new)
+        (output O.taken O.faults out.old) (output O.taken O.faults out.new)) }
+{
+    let ending = answer(alloc, words, shelf, out);
+    tell(err, ending);
+    status(ending)
+}
+
+// Does what the words ask for.
+fn answer<H: Shelf, O: Sink>(alloc: Global, words: &[String], shelf: &mut H, out: &mut O) -> Ending
+    ensures { Ends (command_of (texts words.now)) result
+        (store H.holds H.faults shelf.old) (store H.holds H.faults shelf.new)
+        (output O.taken O.faults out.old) (output O.taken O.faults out.new) }
+{
+    match read_words(words) {
+        None => Ending::Refused(Refusal::Words),
+        Some(Command::Plain(order)) => plain(alloc, shelf, out, &order),
+    }
+}
