@@ -1,1 +1,2 @@
 pub mod PlaneSweeps
+pub mod HalfSweeps

@@ -18,8 +18,8 @@ use Rattle.scalar_rule.specs.declared.sample.Sample.{Sample}
 abbrev pub slot_at : List PlainSlot → ℕ → PlainSlot
 slot_at slots t = slice_index_or slots t (record { first = nothing; second = nothing })
   where
-  nothing : PlainCopy
-  nothing = record { spins = []; wheels = []; replica = 0 }
+    nothing : PlainCopy
+    nothing = record { spins = []; wheels = []; replica = 0 }
 
 abbrev pub pair_at : List PlainPair → ℕ → PlainPair
 pair_at pairs k = slice_index_or pairs k (record { first = []; second = [] })
@@ -28,8 +28,8 @@ pair_at pairs k = slice_index_or pairs k (record { first = []; second = [] })
 abbrev pub swept_copy : Plan → ℕ → ℕ → PlainCopy → PlainCopy
 swept_copy plan b t copy = record { spins = s.spins; wheels = s.words; replica = copy.replica }
   where
-  s : Configuration
-  s = sweeps (dynamics_of plan b t) plan.sweeps (configuration_of copy)
+    s : Configuration
+    s = sweeps (dynamics_of plan b t) plan.sweeps (configuration_of copy)
 
 -- slot t after the sweeps of an epoch, before the exchange
 unfoldable pub swept_slot : Plan → ℕ → ℕ → PlainSlot → PlainSlot
@@ -69,7 +69,7 @@ side plan b e t pair own other =
 abbrev pub exchanged : Plan → ℕ → ℕ → List PlainPair → List PlainSlot → ℕ → PlainSlot
 exchanged plan b e pairs slots t =
     if has_partner (slots_of plan) t e then
-        side plan b e t (pair_at pairs (pair_of t e)) (slot_at slots t) (slot_at slots (partner t e))
+    side plan b e t (pair_at pairs (pair_of t e)) (slot_at slots t) (slot_at slots (partner t e))
     else slot_at slots t
 
 -- all slots after the sweeps

@@ -19,8 +19,8 @@ is_swapped entries draw cold hot = nat_le hot cold || nat_lt draw (slice_index e
 abbrev pub decision : Plan → ℕ → ℕ → List ℕ → PlainCopy → PlainCopy → Bool
 decision plan b k words cold hot =
     is_swapped (entries_of plan.swaps k) (draw words b)
-        (unsatisfied plan.size (bonds_of plan.couplings b) cold.spins)
-        (unsatisfied plan.size (bonds_of plan.couplings b) hot.spins)
+    (unsatisfied plan.size (bonds_of plan.couplings b) cold.spins)
+    (unsatisfied plan.size (bonds_of plan.couplings b) hot.spins)
 
 -- a swap moves the spins and the label; the generators stay with their slots
 abbrev pub traded : Bool → PlainCopy → PlainCopy → PlainCopy

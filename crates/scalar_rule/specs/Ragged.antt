@@ -41,9 +41,9 @@ ready plan s zero t = slot_at s.slots t
 ready plan s (suc e) t =
     if not (position_at s t).waits && (position_at s t).epoch == suc e then slot_at s.slots t
     else if has_partner (slots_of plan) t e then
-        side plan s.bit e t (generators plan s (pair_of t e) e)
-            (waiting_from plan s e t (ready plan s e t))
-            (waiting_from plan s e (partner t e) (ready plan s e (partner t e)))
+    side plan s.bit e t (generators plan s (pair_of t e) e)
+    (waiting_from plan s e t (ready plan s e t))
+    (waiting_from plan s e (partner t e) (ready plan s e (partner t e)))
     else waiting_from plan s e t (ready plan s e t)
 
 -- the content of slot t that waits at epoch e

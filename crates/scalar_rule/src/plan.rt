@@ -47,16 +47,14 @@ impl Plan {
         requires some_sweeps { 1 ≤ sweeps }
         requires few_sweeps { sweeps ≤ 1000000 }
         requires seed { seed ≤ 9223372036854775807 }
-        ensures {
-            result ≡ record {
-                size = lattice;
-                rules = rules;
-                swaps = swaps;
-                couplings = couplings;
-                sweeps = sweeps;
-                seed = seed;
-            }
-        }
+        ensures { result ≡ record {
+          size = lattice;
+          rules = rules;
+          swaps = swaps;
+          couplings = couplings;
+          sweeps = sweeps;
+          seed = seed;
+        } }
     {
         let _ = lattice.size();
         let _ = rules.slots();
