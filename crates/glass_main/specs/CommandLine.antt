@@ -10,6 +10,7 @@ pub record PlainOrder : Type 0 where
   pub seed : ℕ
   pub thresholds : List ℕ
 
+-- a command of the program
 pub data Command : Type 0 where
   Plain : PlainOrder → Command
 

@@ -12,8 +12,10 @@ pub record Store : Type 0 where
   pub holds : Option Files
   pub faults : ℕ
 
+-- an output, by its trait's two meanings
 abbrev pub output : {S : Type 0} → (S → Option (List ℕ)) → (S → ℕ) → S → Output
 output taken faults s = record { taken = taken s; faults = faults s }
 
+-- a store, by its trait's two meanings
 abbrev pub store : {S : Type 0} → (S → Option Files) → (S → ℕ) → S → Store
 store holds faults s = record { holds = holds s; faults = faults s }

@@ -4,8 +4,10 @@ use Rattle.glass_main.specs.declared.command_line.PlainOrder.{PlainOrder}
 use Rattle.glass_main.specs.declared.command_line.Command.{Command}
 use Rattle.glass_main.specs.declared.command_line.Command.TheVariants.{Plain}
 
+-- the order of `plain`
 abbrev pub read_order : PlainOrder → model.PlainOrder
 read_order order = record { size = order.lattice; sweeps = order.sweeps; seed = order.seed; thresholds = order.thresholds }
 
+-- a command
 abbrev pub read_command : Command → model.Command
 read_command (Plain order) = model.Plain (read_order order)

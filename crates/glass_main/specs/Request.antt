@@ -18,10 +18,12 @@ text_of (PlainWork order) = plain_text order
 abbrev pub request_of : Command → Option Files → Option (Result Work Refusal)
 request_of (Plain order) files = Some (Ok (PlainWork order))
 
+-- the same of words that may be no command
 abbrev pub request_for : Option Command → Option Files → Option (Result Work Refusal)
 request_for None files = Some (Err Words)
 request_for (Some command) files = request_of command files
 
+-- what the words ask for
 abbrev pub request : List (List ℕ) → Option Files → Option (Result Work Refusal)
 request words files = request_for (command_of words) files
 

@@ -1,5 +1,5 @@
 -- How a call ends: its status, what causes it, what it leaves, and the line on the error output.
-use Rattle.std.specs.Prelude.{◌≡◌, ◌⊎◌, ℕ, List, [], codes, Option, Some, None, IfSome, Result, Ok, Err}
+use Rattle.std.specs.Prelude.{◌≡◌, ◌⊎◌, ◌≤◌, ℕ, List, [], codes, Option, Some, None, IfSome, Result, Ok, Err}
 use Rattle.glass_edges.specs.Causes.{Rose}
 use Rattle.glass_edges.specs.Contents.{appended, AppendsPrefix}
 use Rattle.glass_main.specs.CommandLine.{Command}
@@ -10,6 +10,7 @@ use Rattle.glass_main.specs.declared.ending.Refusal.TheVariants.{Words}
 use Rattle.glass_main.specs.declared.ending.Ending.{Ending}
 use Rattle.glass_main.specs.declared.ending.Ending.TheVariants.{Done, Refused, Unwritten, NoMemory}
 
+-- the exit status of a refusal
 abbrev pub refusal_status : Refusal → ℕ
 refusal_status Words = 2
 
@@ -20,6 +21,7 @@ status_of (Refused refusal) = refusal_status refusal
 status_of Unwritten = 9
 status_of NoMemory = 11
 
+-- the line of a refusal on the error output
 unfoldable pub refusal_line : Refusal → List ℕ
 refusal_line Words = codes "glass: the command line is not understood\n"
 
@@ -34,10 +36,12 @@ line_of NoMemory = codes "glass: no memory\n"
 abbrev pub IsTold : Refusal → Refusal → Type 0
 IsTold Words told = told ≡ Words
 
+-- what is asked for is refused, and this is told
 abbrev pub IsRefusedBy : {A : Type 0} → Result A Refusal → Refusal → Type 0
 IsRefusedBy (Ok work) told = ⊥
 IsRefusedBy (Err due) told = IsTold due told
 
+-- what is asked for is accepted
 abbrev pub IsAccepted : {A : Type 0} → Result A Refusal → Type 0
 IsAccepted (Ok work) = Unit {0}
 IsAccepted (Err due) = ⊥
@@ -75,11 +79,13 @@ pub record Ends (command : Option Command) (ending : Ending) (held holds : Store
   pub cause : IfSome (request_for command held.holds) (λ asked. Fits asked ending)
   pub out : Printed (request_for command held.holds) ending before now
   pub files : holds.holds ≡ held.holds
+  pub later : (held.faults ≤ holds.faults) × (before.faults ≤ now.faults)
 
 -- the error output got the line, or a prefix of it and then a fault
 unfoldable pub Says : List ℕ → Output → Output → Type 0
 Says line old new = (new.taken ≡ appended old.taken line) ⊎ (Rose old.faults new.faults × AppendsPrefix old.taken new.taken line)
 
+-- what the error output got: nothing where all is done, else the line of the ending
 abbrev pub Told : Ending → Output → Output → Type 0
 Told Done old new = new ≡ old
 Told (Refused told) old new = Says (line_of (Refused told)) old new
@@ -104,7 +110,8 @@ abbrev pub Does : Result Work Refusal → Store → Store → Output → Output 
 Does (Err refusal) held holds before now err_before err_now = ⊥
 Does (Ok work) held holds before now err_before err_now = DoesWork work held holds before now err_before err_now
 
--- where neither the store nor the output failed, the work is done or the refusal told, but for want of memory
+-- where the store did not fail a refusal is told, and where the output did not either the work is done, but for want of
+-- memory
 abbrev pub Completes : Result Work Refusal → ℕ → Store → Store → Output → Output → Type 0
 Completes (Err refusal) status held holds before now =
     ¬ (Rose held.faults holds.faults) → (status ≡ refusal_status refusal) ⊎ (status ≡ 11)

@@ -15,6 +15,7 @@ given (Some value) next = next value
 abbrev pub word_at : List (List ℕ) → ℕ → List ℕ
 word_at words k = slice_index_or words k []
 
+-- a decimal digit
 abbrev pub is_digit : ℕ → Bool
 is_digit b = nat_le 48 b && nat_le b 57
 
@@ -23,6 +24,7 @@ unfoldable pub value_after : ℕ → List ℕ → Option ℕ
 value_after n [] = Some n
 value_after n (b ∷ bs) = if is_digit b then value_after (n * 10 + (b - 48)) bs else None
 
+-- a number within a range
 abbrev pub in_range : ℕ → ℕ → ℕ → Option ℕ
 in_range low high n = if nat_le low n && nat_le n high then Some n else None
 

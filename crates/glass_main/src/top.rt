@@ -17,8 +17,8 @@ use std::alloc::Global;
 /// status.
 ///
 /// Status 0: all is done, and `err` got nothing. Status 2: the words are no command. Status 9: the
-/// output failed. Status 11: there was not enough memory. With a status other than 0 `err` got one
-/// line, or a prefix of it where it failed itself.
+/// output failed. Status 11: memory ran out, which no clause ties to a growth that failed. With a
+/// status other than 0 `err` got one line, or a prefix of it where it failed itself.
 pub fn glass<R: Sync, H: Shelf, O: Sink, E: Sink, G: Gate + Sync>(
     _rt: &R,
     alloc: Global,
@@ -42,7 +42,8 @@ pub fn glass<R: Sync, H: Shelf, O: Sink, E: Sink, G: Gate + Sync>(
         (output O.taken O.faults out.old) (output O.taken O.faults out.new)
         (output E.taken E.faults err.old) (output E.taken E.faults err.new)) }
 
-    // Where neither the store nor the output failed, only want of memory keeps it from being done.
+    // Where the store did not fail a refusal is told, and where the output did not either the work is
+    // done, but for want of memory.
     ensures complete { IfSome (request (texts words.now) (H.holds shelf.old)) (λ asked.
         Completes asked result
         (store H.holds H.faults shelf.old) (store H.holds H.faults shelf.new)
