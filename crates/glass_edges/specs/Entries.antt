@@ -3,7 +3,6 @@ use Rattle.std.specs.Prelude.{◌≡◌, ℕ, ◌<◌, List, [], ◌∷◌, leng
 use Rattle.std.specs.Ordering.{nat_cmp}
 use Rattle.std.specs.Cmp.Lexicographic.{slice_cmp}
 use Rattle.std.specs.FinMap as map
-use Rattle.glass_edges.specs.MemoryStore.{MemoryStore}
 use Rattle.glass_edges.specs.declared.entries.Entry.{Entry}
 
 -- the map with this value at the key, or with none there

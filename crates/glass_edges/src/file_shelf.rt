@@ -1,6 +1,6 @@
 //! The adapter over the files of the system.
 
-ghost use Rattle.std.specs.Prelude.{◌≡◌, ◌+◌, ◌≤◌, ◌<◌, ℕ, length, None, OnOk, OnErr};
+ghost use Rattle.std.specs.Prelude.{◌≡◌, ◌+◌, ◌≤◌, ℕ, length, None, OnOk, OnErr};
 ghost use Rattle.glass_edges.specs.Causes.{one_more};
 
 use crate::{Fault, Fetched, Shelf};

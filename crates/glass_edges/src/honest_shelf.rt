@@ -1,8 +1,6 @@
 //! The store of named files that never fails.
 
-ghost use Rattle.std.specs.Prelude.{◌≡◌, ◌≤◌, ◌<◌, ℕ, Ok, None, Some, length, IfSome, OnOk, OnErr};
-ghost use Rattle.glass_edges.specs.Causes.{HasCause, Rose};
-ghost use Rattle.glass_edges.specs.Contents.{HoldsFile, LacksFile, HoldsAtLeast, Placed, SameElsewhere};
+ghost use Rattle.std.specs.Prelude.{◌≡◌, ◌≤◌, ◌<◌, ℕ, Ok, None, Some, length, IfSome};
 ghost use Rattle.glass_edges.specs.MemoryStore.{IsReading};
 
 use crate::{Fault, Fetched, MemoryShelf, Shelf};

@@ -1,11 +1,10 @@
 //! The store of named files in memory.
 
-ghost use Rattle.std.specs.Prelude.{◌≡◌, ◌≤◌, ◌<◌, ◌↔◌, ℕ, true, false, List, length, None, Some, is_ok, option_map, OnOk, OnErr};
+ghost use Rattle.std.specs.Prelude.{◌≡◌, ◌≤◌, ℕ, true, List, length, Some, is_ok, option_map, OnOk, OnErr};
 ghost use Rattle.std.specs.FinMap as map;
 ghost use Rattle.std.specs.Borrow.{Bor};
 ghost use Rattle.glass_edges.specs.Causes.{HasCause, Rose};
-ghost use Rattle.glass_edges.specs.Contents.{HoldsFile, LacksFile, HoldsAtLeast, Placed, SameElsewhere};
-ghost use Rattle.glass_edges.specs.MemoryStore.{MemoryStore, fails_now, accepts, fits, IsReading, IsFetched, after_fetch, after_fill, after_place, with_file, with_room};
+ghost use Rattle.glass_edges.specs.MemoryStore.{fails_now, accepts, fits, IsReading, IsFetched, after_fetch, after_fill, after_place, with_file, with_room};
 
 use crate::entries::{Entry, fill_entry, first_of};
 use crate::reserved_buffer::ReservedBuffer;

@@ -1,9 +1,8 @@
 //! The output in memory.
 
-ghost use Rattle.std.specs.Prelude.{◌≡◌, ℕ, ◌<◌, ◌≤◌, List, [], length, take, Some, IfOk, OnErr, is_err};
+ghost use Rattle.std.specs.Prelude.{◌≡◌, ◌<◌, ◌≤◌, [], length, Some, IfOk, is_err};
 ghost use Rattle.glass_edges.specs.Causes.{HasCause};
-ghost use Rattle.glass_edges.specs.Contents.{appended};
-ghost use Rattle.glass_edges.specs.MemoryOutput.{MemoryOutput, refuses, accepted, after_put};
+ghost use Rattle.glass_edges.specs.MemoryOutput.{refuses, accepted, after_put};
 
 use crate::{Fault, NoMemory, Sink};
 use std::alloc::Global;

@@ -97,11 +97,16 @@ rows-advance rows new are words =
     ∙ ap (λ v. drop 8 (state_of rows) ++ v) words
     ∙ sym (advanced-words (state_of rows) 8 (length-state_of rows are) (lit≤ tt))
 
--- eight rows, written out, with the last one new
+-- eight rows, written out
+pub rows-written : (rows : List (List ℕ)) → length rows ≡ 8 → rows
+    ≡ get_or rows 0 [] ∷ get_or rows 1 [] ∷ get_or rows 2 [] ∷ get_or rows 3 [] ∷ get_or rows 4 [] ∷ get_or rows 5 [] ∷ get_or rows 6 [] ∷ get_or rows 7 [] ∷ []
+unfolding table
+rows-written rows sized = table-of_items (λ q. get_or rows q []) 8 [] rows sized (λ q below. refl)
+
+-- and with a new one behind
 pub rows-moved : (rows : List (List ℕ)) (new : List ℕ) → length rows ≡ 8 →
     get_or rows 1 [] ∷ get_or rows 2 [] ∷ get_or rows 3 [] ∷ get_or rows 4 [] ∷ get_or rows 5 [] ∷ get_or rows 6 [] ∷ get_or rows 7 [] ∷ new ∷ [] ≡ drop 1 rows ++ new ∷ []
-unfolding table
-rows-moved rows new sized = sym (ap (λ r. drop 1 r ++ new ∷ []) (table-of_items (λ q. get_or rows q []) 8 [] rows sized (λ q below. refl)))
+rows-moved rows new sized = sym (ap (λ r. drop 1 r ++ new ∷ []) (rows-written rows sized))
 
 pub rows-are_rows : (rows : List (List ℕ)) (new : List ℕ) → AreRows rows → length new ≡ 8 → AreRows (drop 1 rows ++ new ∷ [])
 rows-are_rows rows new are long =

@@ -76,13 +76,39 @@ pub fn fill_rows(rows: &mut Rows, out: &mut [u32])
     ensures moved { state_of rows.new ≡ advanced (state_of rows.old) (length out.old) }
     ensures drawn { out.new ≡ draws (state_of rows.old) (length out.old) }
 {
-    // a copy of its own, which stays in registers
-    let mut turned = *rows;
+    // the rows in registers
+    let [a, b, c, d, e, f, g, h] = *rows;
+    let mut a = u32x8::from_array(a);
+    let mut b = u32x8::from_array(b);
+    let mut c = u32x8::from_array(c);
+    let mut d = u32x8::from_array(d);
+    let mut e = u32x8::from_array(e);
+    let mut f = u32x8::from_array(f);
+    let mut g = u32x8::from_array(g);
+    let mut h = u32x8::from_array(h);
     'turns: for i in 0..out.len() / 8 {
-        let drawn = turn(&mut turned);
+        let sums = sum_row(f, b, c);
+        let drawn = draw_row(sums, a, b).to_array();
         out[8 * i..8 * i + 8].copy_from_slice(&drawn);
+        a = b;
+        b = c;
+        c = d;
+        d = e;
+        e = f;
+        f = g;
+        g = h;
+        h = sums;
     }
-    *rows = turned;
+    *rows = [
+        a.to_array(),
+        b.to_array(),
+        c.to_array(),
+        d.to_array(),
+        e.to_array(),
+        f.to_array(),
+        g.to_array(),
+        h.to_array(),
+    ];
 }
 
 /// Writes the next random numbers, fewer than eight, and moves the rows on by as many.
@@ -138,33 +164,34 @@ fn turn(rows: &mut Rows) -> [u32; 8]
     ensures last { slice_index_or rows.new 7 [] ≡ table (λ k. stream_word (state_of rows.old) (61 + k)) 8 }
 {
     let [a, b, c, d, e, f, g, h] = *rows;
-    let sums = sum_row(&f, &b, &c);
-    *rows = [b, c, d, e, f, g, h, sums];
-    draw_row(&sums, &a, &b)
+    let far = u32x8::from_array(b);
+    let sums = sum_row(u32x8::from_array(f), far, u32x8::from_array(c));
+    *rows = [b, c, d, e, f, g, h, sums.to_array()];
+    draw_row(sums, u32x8::from_array(a), far).to_array()
 }
 
 // Eight sums: of the words of one row, which are 24 before, and of those 55 before, which begin at
 // the second word of the row far.
 #[inline]
-fn sum_row(near: &[u32; 8], far: &[u32; 8], behind: &[u32; 8]) -> [u32; 8]
+fn sum_row(near: u32x8, far: u32x8, behind: u32x8) -> u32x8
+    requires { length near ≡ 8 }
     ensures sized { length result ≡ 8 }
-    ensures sums { (k : ℕ) → k < 8 → slice_index result k
-        ≡ word_sum (slice_index near.now k) (slice_index (far.now ++ behind.now) (1 + k)) }
+    ensures sums { (k : ℕ) → k < 8 →
+        slice_index result k
+        ≡ word_sum (slice_index near k) (slice_index (far ++ behind) (1 + k)) }
 {
-    let far = u32x8::from_array(*far);
-    let far = far.shuffle(u32x8::from_array(*behind), [1, 2, 3, 4, 5, 6, 7, 8]);
-    (u32x8::from_array(*near) + far).to_array()
+    near + far.shuffle(behind, [1, 2, 3, 4, 5, 6, 7, 8])
 }
 
 // Eight random numbers: the sums xor the words 61 before them, which begin at the fourth word of
 // the row old.
 #[inline]
-fn draw_row(sums: &[u32; 8], old: &[u32; 8], behind: &[u32; 8]) -> [u32; 8]
+fn draw_row(sums: u32x8, old: u32x8, behind: u32x8) -> u32x8
+    requires { length sums ≡ 8 }
     ensures sized { length result ≡ 8 }
-    ensures xors { (k : ℕ) → k < 8 → slice_index result k
-        ≡ bit_xor (slice_index sums.now k) (slice_index (old.now ++ behind.now) (3 + k)) }
+    ensures xors { (k : ℕ) → k < 8 →
+        slice_index result k
+        ≡ bit_xor (slice_index sums k) (slice_index (old ++ behind) (3 + k)) }
 {
-    let old = u32x8::from_array(*old);
-    let old = old.shuffle(u32x8::from_array(*behind), [3, 4, 5, 6, 7, 8, 9, 10]);
-    (u32x8::from_array(*sums) ^ old).to_array()
+    sums ^ old.shuffle(behind, [3, 4, 5, 6, 7, 8, 9, 10])
 }
