@@ -21,6 +21,14 @@ bond_word couplings i d = slice_index couplings.words (place_of couplings.size i
 abbrev pub bonds_of : CouplingsView → ℕ → Bonds
 bonds_of couplings b = λ n. is_set (bond_word couplings (n / 3) (n % 3)) b
 
+-- such words on a lattice of side l
+abbrev pub words_on : ℕ → List ℕ → CouplingsView
+words_on l words = record { size = l; words = words }
+
+-- each of the 64 samples has at each bond the coupling that is given for the sample and the bond
+abbrev pub HasBonds : CouplingsView → (ℕ → Bonds) → Type 0
+HasBonds couplings bonds = (b n : ℕ) → b < 64 → n < bond_count couplings.size → bonds_of couplings b n ≡ bonds b n
+
 -- a lawful size, and as many words of 64 bits as there are bonds
 pub record AreCouplings (couplings : CouplingsView) : Type 0 where
   pub lawful : IsLawfulSize couplings.size

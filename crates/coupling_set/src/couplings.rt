@@ -1,11 +1,15 @@
 //! The couplings of 64 disorder samples.
 
-ghost use Rattle.std.specs.Prelude.{◌≡◌, ◌<◌};
-ghost use Rattle.coupling_set.specs.CouplingWords.{bond_word, AreCouplings};
-ghost use Rattle.spin_model.specs.Lattice.{volume};
+ghost use Rattle.std.specs.Prelude.{◌≡◌, ℕ, ◌+◌, ◌*◌, ◌^◌, ◌<◌, ◌≤◌, IfOk, length, slice_index};
+ghost use Rattle.coupling_set.specs.CouplingWords.{bond_word, words_on, HasBonds, AreCouplings};
+ghost use Rattle.spin_model.specs.Couplings.{plus, random};
+ghost use Rattle.spin_model.specs.Lattice.{volume, bond_count, half_plane, half_volume, from_compact};
 
+use crate::drawing::{draw_samples, place};
+use glass_edges::NoMemory;
 use lattice_geometry::Lattice;
 use plain_list::Items;
+use std::alloc::Global;
 use std::marker::Model;
 
 /// The quenched couplings of 64 disorder samples on one lattice: for each bond a word, whose bit b
@@ -29,6 +33,58 @@ impl Model for Couplings {
 }
 
 impl Couplings {
+    /// The ferromagnet: J is +1 at every bond of every sample.
+    ///
+    /// # Errors
+    ///
+    /// Refuses only for want of memory.
+    pub fn plus(alloc: Global, lattice: Lattice) -> Result<Couplings, NoMemory>
+        ensures size { IfOk result (λ couplings. couplings.size ≡ lattice) }
+        ensures bonds { IfOk result (λ couplings. HasBonds couplings plus) }
+    {
+        let words = vec![in alloc; 0u64; 3 * lattice.sites() as usize]?;
+        Ok(Couplings::of(lattice, words))
+    }
+
+    /// Couplings +1 and -1 with equal probability (Edwards and Anderson, J. Phys. F 5, 965 (1975)):
+    /// each sample has its own generator, by the seed and the sample's number, with one draw a bond.
+    ///
+    /// # Errors
+    ///
+    /// Refuses only for want of memory.
+    pub fn random(alloc: Global, lattice: Lattice, seed: u64) -> Result<Couplings, NoMemory>
+        ensures size { IfOk result (λ couplings. couplings.size ≡ lattice) }
+        ensures bonds { IfOk result (λ couplings. HasBonds couplings (random seed)) }
+    {
+        Couplings::random_from(alloc, lattice, seed, 0)
+    }
+
+    // The random couplings of 64 samples, of which sample 0 has this number.
+    fn random_from(
+        alloc: Global,
+        lattice: Lattice,
+        seed: u64,
+        first: u32,
+    ) -> Result<Couplings, NoMemory>
+        requires { first + 64 ≤ 2 ^ 32 }
+        ensures size { IfOk result (λ couplings. couplings.size ≡ lattice) }
+        ensures bonds { IfOk result (λ couplings. HasBonds couplings (λ b. random seed (first + b))) }
+    {
+        let mut words = vec![in alloc; 0u64; 3 * lattice.sites() as usize]?;
+        draw_samples(words.as_mut_slice(), &lattice, seed, first);
+        Ok(Couplings::of(lattice, words))
+    }
+
+    fn of(lattice: Lattice, words: Vec<u64>) -> Couplings
+        requires { length words.items ≡ bond_count lattice }
+        ensures { result ≡ words_on lattice words.items }
+    {
+        Couplings {
+            lattice,
+            words: Items::of(words),
+        }
+    }
+
     /// The side of the lattice.
     pub fn size(&self) -> u32
         ensures value { result ≡ self.now.size }
@@ -44,7 +100,25 @@ impl Couplings {
         requires direction { d < 3 }
         ensures { result ≡ bond_word self.now site d }
     {
-        let place = d * self.lattice.sites() + self.lattice.compact(site);
-        *self.words.at(place as usize)
+        *self.words.at(place(&self.lattice, site, d))
+    }
+
+    /// The words of the bonds in direction `d` from the sites of one checkerboard colour in plane
+    /// `z`, in order of y, then x.
+    pub fn plane(&self, colour: u32, z: u32, d: u32) -> &[u64]
+        requires colour { colour < 2 }
+        requires plane { z < self.now.size }
+        requires direction { d < 3 }
+        ensures sized { length result.now ≡ half_plane self.now.size }
+        ensures words { (k : ℕ) → k < half_plane self.now.size → slice_index result.now k
+            ≡ bond_word self.now
+            (from_compact self.now.size (colour * half_volume self.now.size + z * half_plane self.now.size + k))
+            d }
+    {
+        let size = self.lattice.size();
+        let half_plane = size * (size / 2);
+        let half_volume = size * half_plane;
+        let first = d * self.lattice.sites() + colour * half_volume + z * half_plane;
+        &self.words.as_slice()[first as usize..(first + half_plane) as usize]
     }
 }

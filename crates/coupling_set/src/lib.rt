@@ -2,5 +2,6 @@
 #![tactic(auto)]
 
 mod couplings;
+mod drawing;
 
 pub use couplings::Couplings;

@@ -1,0 +1,122 @@
+//! Random couplings, sample by sample.
+
+ghost use Rattle.std.specs.Prelude.{◌≡◌, ◌≢◌, ℕ, ◌+◌, ◌*◌, ◌^◌, ◌<◌, ◌≤◌, length, slice_index};
+ghost use Rattle.coupling_set.specs.CouplingWords.{bonds_of, place_of, words_on, HasBonds};
+ghost use Rattle.spin_model.specs.Couplings.{random};
+ghost use Rattle.spin_model.specs.Lattice.{volume, bond_count, IsLawfulSize};
+ghost use Rattle.spin_model.specs.Stream.{draw};
+ghost use Rattle.spin_model.specs.Words.{is_set};
+
+use lattice_geometry::Lattice;
+use multispin_word::with_bit;
+use pr_generator::Wheel;
+
+/// The kind of label of the generators of couplings.
+const COUPLINGS: u32 = 3;
+
+/// The greatest number of bonds of a row of sites.
+const ROW: usize = 192;
+
+/// Where the word of the bond from a site in direction `d` stands.
+pub(crate) fn place(lattice: &Lattice, site: u32, d: u32) -> usize
+    requires site { site < volume lattice.now }
+    requires direction { d < 3 }
+    ensures value { result ≡ place_of lattice.now site d }
+    ensures within { result < bond_count lattice.now }
+    ensures lawful { IsLawfulSize lattice.now }
+{
+    (d * lattice.sites() + lattice.compact(site)) as usize
+}
+
+/// Draws the couplings of 64 samples, of which the first has this number.
+pub(crate) fn draw_samples(words: &mut [u64], lattice: &Lattice, seed: u64, first: u32)
+    requires sized { length words.old ≡ bond_count lattice.now }
+    requires first { first + 64 ≤ 2 ^ 32 }
+    ensures { HasBonds (words_on lattice.now words.new) (λ b. random seed (first + b)) }
+{
+    let mut draws = [0u32; ROW];
+    draw_samples_with(words, lattice, seed, first, &mut draws);
+}
+
+// The same, with a buffer for the draws of a row.
+fn draw_samples_with(
+    words: &mut [u64],
+    lattice: &Lattice,
+    seed: u64,
+    first: u32,
+    draws: &mut [u32],
+)
+    requires sized { length words.old ≡ bond_count lattice.now }
+    requires first { first + 64 ≤ 2 ^ 32 }
+    requires room { length draws.old ≡ ROW }
+    ensures { HasBonds (words_on lattice.now words.new) (λ b. random seed (first + b)) }
+{
+    let row = &mut draws[..3 * lattice.size() as usize];
+    'samples: for b in 0..64u32 {
+        let mut wheel = Wheel::seeded(seed, COUPLINGS, first + b, 0, 0);
+        draw_sample(words, lattice, &mut wheel, b, row);
+    }
+}
+
+// The couplings of one sample, row by row.
+fn draw_sample(
+    words: &mut [u64],
+    lattice: &Lattice,
+    wheel: &mut Wheel,
+    sample: u32,
+    row: &mut [u32],
+)
+    requires sized { length words.old ≡ bond_count lattice.now }
+    requires sample { sample < 64 }
+    requires room { length row.old ≡ 3 * lattice.now }
+    ensures drawn { (n : ℕ) → n < bond_count lattice.now
+        → bonds_of (words_on lattice.now words.new) sample n ≡ is_set (draw wheel.old n) 31 }
+    ensures others { (b n : ℕ) → b < 64 → n < bond_count lattice.now → b ≢ sample
+        → bonds_of (words_on lattice.now words.new) b n ≡ bonds_of (words_on lattice.now words.old) b n }
+{
+    let size = lattice.size();
+    'rows: for r in 0..size * size {
+        wheel.fill(row);
+        write_bonds(words, lattice, row, 3 * size * r, sample);
+    }
+}
+
+// The couplings of one sample at the bonds from a number on, each by its draw.
+fn write_bonds(words: &mut [u64], lattice: &Lattice, draws: &[u32], start: u32, sample: u32)
+    requires sized { length words.old ≡ bond_count lattice.now }
+    requires sample { sample < 64 }
+    requires lawful { IsLawfulSize lattice.now }
+    requires bonds { start + length draws.now ≤ bond_count lattice.now }
+    ensures drawn { (k : ℕ) → k < length draws.now
+        → bonds_of (words_on lattice.now words.new) sample (start + k) ≡ is_set (slice_index draws.now k) 31 }
+    ensures before { (n : ℕ) → n < start
+        → bonds_of (words_on lattice.now words.new) sample n ≡ bonds_of (words_on lattice.now words.old) sample n }
+    ensures others { (b n : ℕ) → b < 64 → n < bond_count lattice.now → b ≢ sample
+        → bonds_of (words_on lattice.now words.new) b n ≡ bonds_of (words_on lattice.now words.old) b n }
+{
+    'bonds: for k in 0..draws.len() {
+        write_bond(words, lattice, start + k as u32, sample, is_negative(draws[k]));
+    }
+}
+
+// Whether a draw makes J -1: by its top bit.
+fn is_negative(draw: u32) -> bool
+    ensures { result ≡ is_set draw 31 }
+{
+    draw >> 31 == 1
+}
+
+// One coupling of one sample.
+fn write_bond(words: &mut [u64], lattice: &Lattice, bond: u32, sample: u32, negative: bool)
+    requires sized { length words.old ≡ bond_count lattice.now }
+    requires sample { sample < 64 }
+    requires bond { bond < bond_count lattice.now }
+    ensures written { bonds_of (words_on lattice.now words.new) sample bond ≡ negative }
+    ensures bonds { (n : ℕ) → n < bond_count lattice.now → n ≢ bond
+        → bonds_of (words_on lattice.now words.new) sample n ≡ bonds_of (words_on lattice.now words.old) sample n }
+    ensures others { (b n : ℕ) → b < 64 → n < bond_count lattice.now → b ≢ sample
+        → bonds_of (words_on lattice.now words.new) b n ≡ bonds_of (words_on lattice.now words.old) b n }
+{
+    let place = place(lattice, bond / 3, bond % 3);
+    words[place] = with_bit(words[place], sample, negative);
+}
