@@ -39,13 +39,7 @@ pub(crate) fn draw_samples(words: &mut [u64], lattice: &Lattice, seed: u64, firs
 }
 
 // The same, with a buffer for the draws of a row.
-fn draw_samples_with(
-    words: &mut [u64],
-    lattice: &Lattice,
-    seed: u64,
-    first: u32,
-    draws: &mut [u32],
-)
+fn draw_samples_with(words: &mut [u64], lattice: &Lattice, seed: u64, first: u32, draws: &mut [u32])
     requires sized { length words.old ≡ bond_count lattice.now }
     requires first { first + 64 ≤ 2 ^ 32 }
     requires room { length draws.old ≡ ROW }
@@ -95,7 +89,13 @@ fn write_bonds(words: &mut [u64], lattice: &Lattice, draws: &[u32], start: u32, 
         → bonds_of (words_on lattice.now words.new) b n ≡ bonds_of (words_on lattice.now words.old) b n }
 {
     'bonds: for k in 0..draws.len() {
-        write_bond(words, lattice, start + k as u32, sample, is_negative(draws[k]));
+        write_bond(
+            words,
+            lattice,
+            start + k as u32,
+            sample,
+            is_negative(draws[k]),
+        );
     }
 }
 

@@ -3,9 +3,8 @@
 
 use glass_edges::{MemoryShelf, OpenGate, StreamSink};
 use glass_main::{glass, no_memory};
-use std::env;
-use std::io;
 use std::process::ExitCode;
+use std::{env, io};
 
 fn main(rt: HostRuntime) -> ExitCode {
     let mut out = StreamSink::of(rt.stdout());
@@ -19,7 +18,15 @@ fn main(rt: HostRuntime) -> ExitCode {
         Err(_) => Vec::new(rt.alloc()),
     };
     let mut shelf = MemoryShelf::new(rt.alloc(), Vec::new(rt.alloc()));
-    let status = glass(&rt, rt.alloc(), &words, &mut shelf, &mut out, &mut err, &OpenGate);
+    let status = glass(
+        &rt,
+        rt.alloc(),
+        &words,
+        &mut shelf,
+        &mut out,
+        &mut err,
+        &OpenGate,
+    );
     ExitCode::from(status)
 }
 

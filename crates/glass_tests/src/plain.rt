@@ -20,7 +20,9 @@ fn scalar_run_prints_checkerboard(rt: HostRuntime) -> Result<(), Fail> {
     let always = "4294967296";
     let called = call(
         &rt,
-        &["plain", "4", "1", "7", always, always, always, "0", "0", "0", "0"],
+        &[
+            "plain", "4", "1", "7", always, always, always, "0", "0", "0", "0",
+        ],
     )?;
     assert_eq!(rt; called.status, 0);
     let text = b"plain 1 size=4 sweeps=1 seed=7\nenergy,192\nspin,5a5aa5a55a5aa5a5\n";
@@ -62,7 +64,10 @@ fn scalar_run_write_fault_leaves_16_bytes(rt: HostRuntime) -> Result<(), Fail> {
     let called = call_over(&rt, ALL_DOWN, output(&rt, 16, 1)?, ample(&rt)?)?;
     assert_eq!(rt; called.status, 9);
     assert_eq!(rt; called.out.taken(), b"plain 1 size=4 s".as_slice());
-    assert_eq!(rt; called.err.taken(), b"glass: writing the report failed\n".as_slice());
+    assert_eq!(rt;
+        called.err.taken(),
+        b"glass: writing the report failed\n".as_slice()
+    );
     Ok(())
 }
 
