@@ -5,7 +5,8 @@ ghost use Rattle.coupling_set.specs.CouplingWords.{bond_word, words_on, HasBonds
 ghost use Rattle.spin_model.specs.Couplings.{plus, random};
 ghost use Rattle.spin_model.specs.Lattice.{volume, bond_count, half_plane, half_volume, from_compact};
 
-use crate::drawing::{draw_samples, place};
+use crate::bond_words::place;
+use crate::drawing::draw_samples;
 use glass_edges::NoMemory;
 use lattice_geometry::Lattice;
 use plain_list::Items;
@@ -47,7 +48,8 @@ impl Couplings {
     }
 
     /// Couplings +1 and -1 with equal probability (Edwards and Anderson, J. Phys. F 5, 965 (1975)):
-    /// each sample has its own generator, by the seed and the sample's number, with one draw a bond.
+    /// each sample has a generator of its own, labelled by the seed and the sample's number. Draw
+    /// 3i + d is that of the bond from site i in direction d, and J is -1 where its top bit is 1.
     ///
     /// # Errors
     ///
@@ -75,6 +77,7 @@ impl Couplings {
         Ok(Couplings::of(lattice, words))
     }
 
+    // The couplings in these words.
     fn of(lattice: Lattice, words: Vec<u64>) -> Couplings
         requires { length words.items ≡ bond_count lattice }
         ensures { result ≡ words_on lattice words.items }

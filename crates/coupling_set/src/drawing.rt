@@ -1,14 +1,14 @@
 //! Random couplings, sample by sample.
 
-ghost use Rattle.std.specs.Prelude.{◌≡◌, ◌≢◌, ℕ, ◌+◌, ◌*◌, ◌^◌, ◌<◌, ◌≤◌, length, slice_index};
-ghost use Rattle.coupling_set.specs.CouplingWords.{bonds_of, place_of, words_on, HasBonds};
+ghost use Rattle.std.specs.Prelude.{◌≡◌, ℕ, ◌+◌, ◌*◌, ◌^◌, ◌<◌, ◌≤◌, length, slice_index};
+ghost use Rattle.coupling_set.specs.CouplingWords.{bonds_of, words_on, HasBonds, KeepsOthers};
 ghost use Rattle.spin_model.specs.Couplings.{random};
-ghost use Rattle.spin_model.specs.Lattice.{volume, bond_count, IsLawfulSize};
+ghost use Rattle.spin_model.specs.Lattice.{bond_count, IsLawfulSize};
 ghost use Rattle.spin_model.specs.Stream.{draw};
 ghost use Rattle.spin_model.specs.Words.{is_set};
 
+use crate::bond_words::write_bond;
 use lattice_geometry::Lattice;
-use multispin_word::with_bit;
 use pr_generator::Wheel;
 
 /// The kind of label of the generators of couplings.
@@ -16,17 +16,6 @@ const COUPLINGS: u32 = 3;
 
 /// The greatest number of bonds of a row of sites.
 const ROW: usize = 192;
-
-/// Where the word of the bond from a site in direction `d` stands.
-pub(crate) fn place(lattice: &Lattice, site: u32, d: u32) -> usize
-    requires site { site < volume lattice.now }
-    requires direction { d < 3 }
-    ensures value { result ≡ place_of lattice.now site d }
-    ensures within { result < bond_count lattice.now }
-    ensures lawful { IsLawfulSize lattice.now }
-{
-    (d * lattice.sites() + lattice.compact(site)) as usize
-}
 
 /// Draws the couplings of 64 samples, of which the first has this number.
 pub(crate) fn draw_samples(words: &mut [u64], lattice: &Lattice, seed: u64, first: u32)
@@ -47,26 +36,19 @@ fn draw_samples_with(words: &mut [u64], lattice: &Lattice, seed: u64, first: u32
 {
     let row = &mut draws[..3 * lattice.size() as usize];
     'samples: for b in 0..64u32 {
-        let mut wheel = Wheel::seeded(seed, COUPLINGS, first + b, 0, 0);
-        draw_sample(words, lattice, &mut wheel, b, row);
+        let wheel = Wheel::seeded(seed, COUPLINGS, first + b, 0, 0);
+        draw_sample(words, lattice, wheel, b, row);
     }
 }
 
-// The couplings of one sample, row by row.
-fn draw_sample(
-    words: &mut [u64],
-    lattice: &Lattice,
-    wheel: &mut Wheel,
-    sample: u32,
-    row: &mut [u32],
-)
+// The couplings of one sample by its generator, row by row: one draw a bond.
+fn draw_sample(words: &mut [u64], lattice: &Lattice, mut wheel: Wheel, sample: u32, row: &mut [u32])
     requires sized { length words.old ≡ bond_count lattice.now }
     requires sample { sample < 64 }
     requires room { length row.old ≡ 3 * lattice.now }
     ensures drawn { (n : ℕ) → n < bond_count lattice.now
-        → bonds_of (words_on lattice.now words.new) sample n ≡ is_set (draw wheel.old n) 31 }
-    ensures others { (b n : ℕ) → b < 64 → n < bond_count lattice.now → b ≢ sample
-        → bonds_of (words_on lattice.now words.new) b n ≡ bonds_of (words_on lattice.now words.old) b n }
+        → bonds_of (words_on lattice.now words.new) sample n ≡ is_set (draw wheel n) 31 }
+    ensures others { KeepsOthers sample (words_on lattice.now words.old) (words_on lattice.now words.new) }
 {
     let size = lattice.size();
     'rows: for r in 0..size * size {
@@ -85,8 +67,7 @@ fn write_bonds(words: &mut [u64], lattice: &Lattice, draws: &[u32], start: u32, 
         → bonds_of (words_on lattice.now words.new) sample (start + k) ≡ is_set (slice_index draws.now k) 31 }
     ensures before { (n : ℕ) → n < start
         → bonds_of (words_on lattice.now words.new) sample n ≡ bonds_of (words_on lattice.now words.old) sample n }
-    ensures others { (b n : ℕ) → b < 64 → n < bond_count lattice.now → b ≢ sample
-        → bonds_of (words_on lattice.now words.new) b n ≡ bonds_of (words_on lattice.now words.old) b n }
+    ensures others { KeepsOthers sample (words_on lattice.now words.old) (words_on lattice.now words.new) }
 {
     'bonds: for k in 0..draws.len() {
         write_bond(
@@ -104,19 +85,4 @@ fn is_negative(draw: u32) -> bool
     ensures { result ≡ is_set draw 31 }
 {
     draw >> 31 == 1
-}
-
-// One coupling of one sample.
-fn write_bond(words: &mut [u64], lattice: &Lattice, bond: u32, sample: u32, negative: bool)
-    requires sized { length words.old ≡ bond_count lattice.now }
-    requires sample { sample < 64 }
-    requires bond { bond < bond_count lattice.now }
-    ensures written { bonds_of (words_on lattice.now words.new) sample bond ≡ negative }
-    ensures bonds { (n : ℕ) → n < bond_count lattice.now → n ≢ bond
-        → bonds_of (words_on lattice.now words.new) sample n ≡ bonds_of (words_on lattice.now words.old) sample n }
-    ensures others { (b n : ℕ) → b < 64 → n < bond_count lattice.now → b ≢ sample
-        → bonds_of (words_on lattice.now words.new) b n ≡ bonds_of (words_on lattice.now words.old) b n }
-{
-    let place = place(lattice, bond / 3, bond % 3);
-    words[place] = with_bit(words[place], sample, negative);
 }

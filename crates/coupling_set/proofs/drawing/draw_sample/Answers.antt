@@ -36,7 +36,7 @@ write_bonds-requires-clause-bonds c =
 pub rows-preserved : goal.rows-preserved
 rows-preserved c =
     let l = c.args.lattice.now in
-    let w = c.args.wheel.now in
+    let w = c.args.wheel in
     let start = 3 * l * c.rows.r in
     let known = c.rows.invariant in
     let size = c.size-size.ensures.value in

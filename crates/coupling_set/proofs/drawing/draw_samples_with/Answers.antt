@@ -1,5 +1,5 @@
 -- One sample more, by the stream of its own generator.
-use Rattle.std.proofs.Common.{◌≡◌, ◌≢◌, ℕ, ◌+◌, below_more, refl, arith, ◌∙◌}
+use Rattle.std.proofs.Common.{◌≡◌, ◌≢◌, ◌+◌, below_more, refl, arith, ◌∙◌}
 use Rattle.spin_model.specs.Couplings.{random}
 use Rattle.coupling_set.specs.CouplingWords.{bonds_of, words_on}
 use Rattle.coupling_set.proofs.drawing.draw_samples_with.Goals as goal

@@ -1,5 +1,5 @@
 -- One bond more, which no earlier one is.
-use Rattle.std.proofs.Common.{◌≡◌, ◌≢◌, ℕ, ◌+◌, ◌*◌, ◌<◌, below_more, arith, ◌∙◌}
+use Rattle.std.proofs.Common.{◌≢◌, ◌+◌, below_more, arith, ◌∙◌}
 use Rattle.spin_model.proofs.Sites.{volume-bound}
 use Rattle.coupling_set.proofs.drawing.write_bonds.Goals as goal
 

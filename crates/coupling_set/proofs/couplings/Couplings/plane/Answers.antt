@@ -1,8 +1,8 @@
 -- The words of a plane lie within the list, and each is at the place of its bond.
-use Rattle.std.proofs.Common.{◌≡◌, ℕ, ◌+◌, ◌-◌, ◌*◌, ◌/◌, ◌^◌, ◌<◌, ◌≤◌, Fits, List, length, get_or, take, drop, get_or-drop, refl, sym, ap, ◌∙◌, arith, w32}
+use Rattle.std.proofs.Common.{◌≡◌, ℕ, ◌+◌, ◌-◌, ◌*◌, ◌^◌, ◌<◌, ◌≤◌, List, length, get_or, take, drop, get_or-drop, sym, ap, ◌∙◌, arith}
 use Rattle.std.proofs.lemmas.List.{get_or-take}
 use Rattle.std.proofs.lemmas.Nat.{mul-le}
-use Rattle.spin_model.specs.Lattice.{IsLawfulSize, volume, half_plane, half_volume, from_compact}
+use Rattle.spin_model.specs.Lattice.{IsLawfulSize, volume, half_plane, half_volume}
 use Rattle.spin_model.proofs.Sites.{volume-bound}
 use Rattle.coupling_set.specs.CouplingWords.{CouplingsView}
 use Rattle.coupling_set.proofs.Places.{plane-within, place-in_plane}

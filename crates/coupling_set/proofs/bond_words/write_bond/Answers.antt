@@ -1,9 +1,9 @@
 -- The words of other bonds stay.
-use Rattle.std.proofs.Common.{◌≡◌, ◌/◌, ◌%◌, get_or, get_or-set_other, ap, ◌∙◌}
+use Rattle.std.proofs.Common.{◌/◌, ◌%◌, get_or-set_other, ap, ◌∙◌}
 use Rattle.spin_model.specs.Words.{is_set}
 use Rattle.coupling_set.specs.CouplingWords.{place_of}
 use Rattle.coupling_set.proofs.Places.{places-apart}
-use Rattle.coupling_set.proofs.drawing.write_bond.Goals as goal
+use Rattle.coupling_set.proofs.bond_words.write_bond.Goals as goal
 
 pub returns-clause-bonds : goal.returns-clause-bonds
 returns-clause-bonds c = λ n within other.

@@ -1,0 +1,4 @@
+pub mod Cases
+pub mod Counts
+pub mod Lanes
+mod WorkedRules

@@ -1,0 +1,14 @@
+//! The spin update at a site for 64 samples at once, by heat bath or Metropolis: on one word with one
+//! draw, and on eight words with eight draws.
+#![tactic(auto)]
+
+pub use lane_rule::{heat_bath_lanes, metropolis_lanes};
+pub use laws::{heat_bath_both_ways, metropolis_both_ways};
+pub use word_rule::{heat_bath, metropolis};
+
+mod lane_rule;
+mod laws;
+#[cfg(test)]
+mod tests;
+mod vectors;
+mod word_rule;
