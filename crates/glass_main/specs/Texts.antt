@@ -2,7 +2,7 @@
 use Rattle.std.specs.Prelude.{ℕ, List, Bool, ◌++◌, codes, decimal}
 use Rattle.std.specs.Fmt.{signed_decimal}
 use Rattle.spin_model.specs.Couplings.{plus}
-use Rattle.scalar_rule.specs.Opening.{plain_configuration}
+use Rattle.scalar_rule.specs.PlainRun.{plain_configuration}
 use Rattle.scalar_rule.specs.SpinDigits.{spin_digits}
 use Rattle.scalar_rule.specs.Sums.{energy}
 use Rattle.glass_main.specs.CommandLine.{PlainOrder}

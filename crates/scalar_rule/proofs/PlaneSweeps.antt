@@ -12,7 +12,6 @@ use Rattle.spin_model.specs.Stream.{draw, draws}
 use Rattle.spin_model.proofs.Stepping.{steps-same, steps-add}
 use Rattle.spin_model.proofs.Tables.{get_or-table}
 use Rattle.scalar_rule.specs.Neighbours.{spin, aligned, satisfied}
-use Rattle.scalar_rule.specs.Planes.{visit_with}
 use Rattle.scalar_rule.specs.Sweep.{Dynamics, Configuration, visit, site_draw, plane_drawn}
 use Rattle.scalar_rule.specs.declared.plain_copy.PlainCopy.{PlainCopy}
 use Rattle.scalar_rule.specs.Replica.{configuration_of}
@@ -38,9 +37,9 @@ draw-listed l words c z i lawful same plane =
 
 -- the sites of plane z
 plane-visits : (d : Dynamics) (words : List (List ℕ)) (c z : ℕ) (spins : List Bool) → IsLawfulSize d.size
-    → steps (visit_with d (draws (get_or words (c * d.size + z) []) (half_plane d.size)) c) (z * (d.size * d.size)) (d.size * d.size) spins
-    ≡ steps (visit d words c) (z * (d.size * d.size)) (d.size * d.size) spins
-unfolding visit visit_with
+    → steps (visit d (λ i. get_or (draws (get_or words (c * d.size + z) []) (half_plane d.size)) (place_in_plane d.size i) 0) c) (z * (d.size * d.size)) (d.size * d.size) spins
+    ≡ steps (visit d (site_draw d.size words) c) (z * (d.size * d.size)) (d.size * d.size) spins
+unfolding visit
 plane-visits d words c z spins lawful = steps-same _ _ _ _ spins (λ k t below.
     let l = d.size in
     let i = z * (l * l) + k in
@@ -62,20 +61,20 @@ plane_drawn-before l c (suc n) j words h =
 
 -- one plane more
 pub visits-more : (d : Dynamics) (words : List (List ℕ)) (c z : ℕ) (spins now new : List Bool) (drawn w : List ℕ) → IsLawfulSize d.size
-    → now ≡ steps (visit d words c) 0 (z * (d.size * d.size)) spins
+    → now ≡ steps (visit d (site_draw d.size words) c) 0 (z * (d.size * d.size)) spins
     → w ≡ get_or words (c * d.size + z) []
     → drawn ≡ draws w (half_plane d.size)
-    → new ≡ steps (visit_with d drawn c) (z * (d.size * d.size)) (d.size * d.size) now
-    → new ≡ steps (visit d words c) 0 ((z + 1) * (d.size * d.size)) spins
+    → new ≡ steps (visit d (λ i. get_or drawn (place_in_plane d.size i) 0) c) (z * (d.size * d.size)) (d.size * d.size) now
+    → new ≡ steps (visit d (site_draw d.size words) c) 0 ((z + 1) * (d.size * d.size)) spins
 visits-more d words c z spins now new drawn w lawful before wheel listed swept =
     let plane = d.size * d.size in
     let range : (z + 1) * plane ≡ z * plane + plane = rw add-one (suc-mul z plane) in
-    let P : List ℕ → Type 0 = λ u. new ≡ steps (visit_with d u c) (z * plane) plane now in
-    let Q : List ℕ → Type 0 = λ v. new ≡ steps (visit_with d (draws v (half_plane d.size)) c) (z * plane) plane now in
+    let P : List ℕ → Type 0 = λ u. new ≡ steps (visit d (λ i. get_or u (place_in_plane d.size i) 0) c) (z * plane) plane now in
+    let Q : List ℕ → Type 0 = λ v. new ≡ steps (visit d (λ i. get_or (draws v (half_plane d.size)) (place_in_plane d.size i) 0) c) (z * plane) plane now in
     subst Q wheel (subst P listed swept)
     ∙ plane-visits d words c z now lawful
-    ∙ ap (λ s. steps (visit d words c) (z * plane) plane s) before
-    ∙ sym (rw range (rw (zero-add (z * plane)) at (steps-add (visit d words c) 0 (z * plane) plane spins)))
+    ∙ ap (λ s. steps (visit d (site_draw d.size words) c) (z * plane) plane s) before
+    ∙ sym (rw range (rw (zero-add (z * plane)) at (steps-add (visit d (site_draw d.size words) c) 0 (z * plane) plane spins)))
 
 -- a replica by its spins and its words
 pub configuration_is : (replica : PlainCopy) (s : Configuration) → replica.spins ≡ s.spins → replica.wheels ≡ s.words → configuration_of replica ≡ s

@@ -4,9 +4,9 @@ use Rattle.std.specs.Prelude.{ℕ, ◌+◌, ◌-◌, ◌%◌, Bool, ◌==◌, na
 use Rattle.coupling_set.specs.CouplingWords.{bonds_of}
 use Rattle.spin_model.specs.Steps.{table}
 use Rattle.scalar_rule.specs.Plan.{Plan, slots_of, pairs_of, dynamics_of}
-use Rattle.scalar_rule.specs.Replica.{configuration_of}
+use Rattle.scalar_rule.specs.Replica.{configuration_of, with_configuration}
 use Rattle.scalar_rule.specs.Sums.{energy, overlap}
-use Rattle.scalar_rule.specs.Sweep.{Configuration, sweeps}
+use Rattle.scalar_rule.specs.Sweep.{sweeps}
 use Rattle.scalar_rule.specs.Exchange.{cold_side, hot_side, drawn_pair}
 use Rattle.scalar_rule.specs.declared.plain_copy.PlainCopy.{PlainCopy}
 use Rattle.scalar_rule.specs.declared.sample.PlainSlot.{PlainSlot}
@@ -14,22 +14,20 @@ use Rattle.scalar_rule.specs.declared.sample.PlainPair.{PlainPair}
 use Rattle.scalar_rule.specs.declared.sample.Record.{Record}
 use Rattle.scalar_rule.specs.declared.sample.Sample.{Sample}
 
--- slot t and pair k of a state; one without spins or words where there is none
+-- slot t of a list; one without spins or words where there is none
 abbrev pub slot_at : List PlainSlot → ℕ → PlainSlot
 slot_at slots t = slice_index_or slots t (record { first = nothing; second = nothing })
   where
     nothing : PlainCopy
     nothing = record { spins = []; wheels = []; replica = 0 }
 
+-- pair k of a list; one without words where there is none
 abbrev pub pair_at : List PlainPair → ℕ → PlainPair
 pair_at pairs k = slice_index_or pairs k (record { first = []; second = [] })
 
 -- a replica of slot t after the sweeps of an epoch; its label stays
 abbrev pub swept_copy : Plan → ℕ → ℕ → PlainCopy → PlainCopy
-swept_copy plan b t copy = record { spins = s.spins; wheels = s.words; replica = copy.replica }
-  where
-    s : Configuration
-    s = sweeps (dynamics_of plan b t) plan.sweeps (configuration_of copy)
+swept_copy plan b t copy = with_configuration copy (sweeps (dynamics_of plan b t) plan.sweeps (configuration_of copy))
 
 -- slot t after the sweeps of an epoch, before the exchange
 unfoldable pub swept_slot : Plan → ℕ → ℕ → PlainSlot → PlainSlot
@@ -49,10 +47,11 @@ record_of plan b slot = record {
 abbrev pub has_turn : ℕ → ℕ → Bool
 has_turn k e = (k + e) % 2 == 0
 
--- whether slot t of n slots is in a pair that has its turn at epoch e, and which
+-- slot t of n slots is in a pair that has its turn at epoch e
 abbrev pub has_partner : ℕ → ℕ → ℕ → Bool
 has_partner n t e = if has_turn t e then nat_lt (t + 1) n else nat_lt 0 t
 
+-- that pair
 abbrev pub pair_of : ℕ → ℕ → ℕ
 pair_of t e = if has_turn t e then t else t - 1
 

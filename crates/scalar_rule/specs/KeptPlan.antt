@@ -2,6 +2,7 @@
 use Rattle.scalar_rule.specs.Plan.{Plan, IsLawfulPlan}
 use Rattle.scalar_rule.specs.declared.plan.Plan.TheInside.{Inside}
 
+-- the plan of the program, part by part
 abbrev pub plan_of : Inside → Plan
 plan_of plan = record {
   size = plan.lattice;
@@ -12,5 +13,6 @@ plan_of plan = record {
   seed = plan.seed;
 }
 
+-- it is lawful
 abbrev pub KeepsPlan : Inside → Type 0
 KeepsPlan plan = IsLawfulPlan (plan_of plan)

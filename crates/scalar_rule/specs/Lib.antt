@@ -5,10 +5,14 @@ pub mod Plan
 pub mod KeptPlan
 pub mod Replica
 pub mod Opening
+pub mod PlainRun
 pub mod Exchange
 pub mod Epoch
+pub mod Shape
+pub mod Turns
 pub mod Serial
 pub mod Records
 pub mod Ragged
-pub mod Planes
+pub mod Laws
+pub mod SlotRules
 pub mod SpinDigits

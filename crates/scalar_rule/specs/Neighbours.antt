@@ -23,13 +23,15 @@ pub record Neighbour : Type 0 where
   pub site : ℕ
   pub bond : ℕ
 
--- the neighbour one step on in direction d, and the one step back, whose bond is its own forward bond
+-- the neighbour one step on in direction d
 abbrev pub ahead : ℕ → ℕ → ℕ → Neighbour
 ahead l i d = record { site = forward l i d; bond = bond i d }
 
+-- the neighbour one step back in direction d, whose bond is its own forward bond
 abbrev pub behind : ℕ → ℕ → ℕ → Neighbour
 behind l i d = record { site = backward l i d; bond = bond (backward l i d) d }
 
+-- the six neighbours: three ahead, three behind
 abbrev pub neighbours : ℕ → ℕ → List Neighbour
 neighbours l i = ahead l i 0 ∷ ahead l i 1 ∷ ahead l i 2 ∷ behind l i 0 ∷ behind l i 1 ∷ behind l i 2 ∷ []
 

@@ -5,10 +5,7 @@ use Rattle.spin_model.specs.Steps.{table}
 use Rattle.spin_model.specs.Stream.{draw}
 use Rattle.spin_model.specs.Seeding.{sweep_words, exchange_words, start_words}
 use Rattle.spin_model.specs.Lattice.{volume}
-use Rattle.spin_model.specs.Couplings.{Bonds, plus}
-use Rattle.spin_model.specs.SiteRule.{HeatBath}
 use Rattle.scalar_rule.specs.Plan.{Plan, slots_of, pairs_of}
-use Rattle.scalar_rule.specs.Sweep.{Dynamics, Configuration, sweeps}
 use Rattle.scalar_rule.specs.declared.plain_copy.PlainCopy.{PlainCopy}
 use Rattle.scalar_rule.specs.declared.sample.Start.{Start}
 use Rattle.scalar_rule.specs.declared.sample.Start.TheVariants.{Up, Random}
@@ -41,6 +38,7 @@ opening_copy plan start bank b slot replica = record {
   replica = slot;
 }
 
+-- both replicas of a slot at the start
 abbrev pub opening_slot : Plan → Start → ℕ → ℕ → ℕ → PlainSlot
 opening_slot plan start bank b slot = record {
   first = opening_copy plan start bank b slot 0;
@@ -62,12 +60,3 @@ opening plan start bank b = record {
   slots = table (opening_slot plan start bank b) (slots_of plan);
   pairs = table (opening_pair plan bank) (pairs_of plan);
 }
-
--- heat bath at some thresholds, on a sample's couplings
-abbrev pub heat_bath_on : ℕ → List ℕ → Bonds → Dynamics
-heat_bath_on l thresholds bonds = record { size = l; rule = HeatBath; thresholds = thresholds; bonds = bonds }
-
--- replica 0 of slot 0 of the ferromagnet by heat bath, begun with every spin +1, after that many sweeps
-abbrev pub plain_configuration : ℕ → ℕ → ℕ → List ℕ → Configuration
-plain_configuration l count seed thresholds =
-    sweeps (heat_bath_on l thresholds (plus 0)) count (record { spins = all_up l; words = seeded_words l seed 0 0 })

@@ -12,18 +12,19 @@ pub record Position : Type 0 where
   pub epoch : ℕ
   pub waits : Bool
 
--- a state from which slots go on by themselves: each slot's position and content, and the generators of each pair,
--- which stand where the colder slot of the pair is
+-- the positions and contents of the slots of one sample, and the words of each pair, moved on as far as the colder slot's
+-- epoch asks
 pub record UnevenState : Type 0 where
   pub bit : ℕ
   pub positions : List Position
   pub slots : List PlainSlot
   pub pairs : List PlainPair
 
+-- where slot t is
 abbrev pub position_at : UnevenState → ℕ → Position
 position_at s t = slice_index_or s.positions t (record { epoch = 0; waits = false })
 
--- the generators of pair k where its colder slot has epoch e
+-- the generators of pair k where its colder slot has epoch e, for epochs not before its own
 unfoldable pub generators : Plan → UnevenState → ℕ → ℕ → PlainPair
 generators plan s k zero = pair_at s.pairs k
 generators plan s k (suc e) =
@@ -35,7 +36,7 @@ waiting_from plan s e t rest =
     if (position_at s t).waits && (position_at s t).epoch == e then slot_at s.slots t else swept_slot plan s.bit t rest
 
 -- the content of slot t at rest at epoch e: its own where it is there; else, after epoch e - 1, its side of the exchange
--- with its partner, or where it had none what it was after its sweeps
+-- with its partner, or where it had none what it was after its sweeps; for epochs not before its own position
 unfoldable pub ready : Plan → UnevenState → ℕ → ℕ → PlainSlot
 ready plan s zero t = slot_at s.slots t
 ready plan s (suc e) t =
@@ -46,6 +47,6 @@ ready plan s (suc e) t =
     (waiting_from plan s e (partner t e) (ready plan s e (partner t e)))
     else waiting_from plan s e t (ready plan s e t)
 
--- the content of slot t that waits at epoch e
+-- the content of slot t that waits at epoch e, for epochs not before its own position
 abbrev pub arrived : Plan → UnevenState → ℕ → ℕ → PlainSlot
 arrived plan s e t = waiting_from plan s e t (ready plan s e t)

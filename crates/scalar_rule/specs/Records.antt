@@ -11,11 +11,19 @@ use Rattle.scalar_rule.specs.declared.sample.Record.{Record}
 abbrev pub is_recorded : ℕ → ℕ → Bool
 is_recorded every e = e % every == every - 1
 
--- the records of epoch e: of the first samples, each from the state that it starts with
-abbrev pub records_at : Plan → (ℕ → Sample) → ℕ → ℕ → List Record
-records_at plan start samples e = flat_map (λ b. epoch_records plan (serial plan (start b) e)) (table (λ b. b) samples)
+-- the records of the first samples at epoch e, where `measured b e` are those of sample b, slot by slot
+abbrev pub records_at : (ℕ → ℕ → List Record) → ℕ → ℕ → List Record
+records_at measured samples e = flat_map (λ b. measured b e) (table (λ b. b) samples)
 
--- the records of the epochs from c on and below e
-abbrev pub records_between : Plan → (ℕ → Sample) → ℕ → ℕ → ℕ → ℕ → List Record
-records_between plan start samples every c e =
-    flat_map (λ f. if is_recorded every f then records_at plan start samples f else []) (table (λ k. c + k) (e - c))
+-- the records of the recorded epochs from c on and below e, in order of epoch, sample, slot
+abbrev pub in_order : (ℕ → ℕ → List Record) → ℕ → ℕ → ℕ → ℕ → List Record
+in_order measured samples every c e =
+    flat_map (λ f. if is_recorded every f then records_at measured samples f else []) (table (λ k. c + k) (e - c))
+
+-- what is measured of sample b at epoch e, from the state that it starts with
+abbrev pub measured_from : Plan → (ℕ → Sample) → ℕ → ℕ → List Record
+measured_from plan start b e = epoch_records plan (serial plan (start b) e)
+
+-- the records of a run until epoch e, from states at one epoch, which is that of sample 0
+abbrev pub records_until : Plan → (ℕ → Sample) → ℕ → ℕ → ℕ → List Record
+records_until plan start samples every e = in_order (measured_from plan start) samples every (start 0).epoch e

@@ -23,13 +23,13 @@ pub record Configuration : Type 0 where
 abbrev pub site_draw : ℕ → List (List ℕ) → ℕ → ℕ
 site_draw l words i = draw (slice_index_or words (colour l i * l + z_of l i) []) (place_in_plane l i)
 
--- the spins once site i is updated, which it is where it has colour c
-unfoldable pub visit : Dynamics → List (List ℕ) → ℕ → ℕ → List Bool → List Bool
-visit d words c i spins = if colour d.size i == c then slice_set spins i updated else spins
+-- the spins once site i is updated by its draw, which it is where it has colour c
+unfoldable pub visit : Dynamics → (ℕ → ℕ) → ℕ → ℕ → List Bool → List Bool
+visit d draw_at c i spins = if colour d.size i == c then slice_set spins i updated else spins
   where
     updated : Bool
     updated = new_spin d.rule d.thresholds (aligned d.size d.bonds spins i) (satisfied d.size d.bonds spins i)
-        (site_draw d.size words i) (spin spins i)
+        (draw_at i) (spin spins i)
 
 -- the words once those of colour c in plane z have given a number to each of the plane's sites of that colour
 abbrev pub plane_drawn : ℕ → ℕ → ℕ → List (List ℕ) → List (List ℕ)
@@ -39,7 +39,7 @@ plane_drawn l c z words =
 -- a half sweep of colour c: its sites in rising order, by the words as they stood before
 abbrev pub half_sweep : Dynamics → ℕ → Configuration → Configuration
 half_sweep d c s = record {
-  spins = steps (visit d s.words c) 0 (volume d.size) s.spins;
+  spins = steps (visit d (site_draw d.size s.words) c) 0 (volume d.size) s.spins;
   words = steps (plane_drawn d.size c) 0 d.size s.words;
 }
 

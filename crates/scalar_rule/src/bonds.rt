@@ -3,7 +3,9 @@
 ghost use Rattle.std.specs.Prelude.{◌≡◌, ℕ, ◌<◌, Bool};
 ghost use Rattle.spin_model.specs.Lattice.{volume, bond};
 
+use coupling_set::Couplings;
 use lattice_geometry::Lattice;
+use multispin_word::bit;
 
 /// The couplings of one disorder sample: of each bond, whether J is -1.
 pub trait Bonds {
@@ -35,5 +37,36 @@ impl Bonds for Ferromagnet {
 
     fn is_negative(&self, _site: u32, _d: u32) -> bool {
         false
+    }
+}
+
+/// The couplings of one of 64 disorder samples: bit `bit` of each bond's word.
+#[derive(Clone, Copy)]
+pub(crate) struct SampleBonds<'a> {
+    couplings: &'a Couplings,
+    bit: u32,
+    ghost one_of_64: { bit < 64 },
+}
+
+impl<'a> SampleBonds<'a> {
+    /// The couplings of sample `bit`.
+    pub fn of(couplings: &'a Couplings, bit: u32) -> SampleBonds<'a>
+        requires { bit < 64 }
+        ensures couplings { result.couplings.now ≡ couplings.now }
+        ensures bit { result.bit ≡ bit }
+    {
+        SampleBonds { couplings, bit }
+    }
+}
+
+impl Bonds for SampleBonds<'_> {
+    ghost use Rattle.coupling_set.specs.CouplingWords.{bonds_of};
+
+    ghost size = { λ sample. sample.couplings.now.size };
+
+    ghost negative = { λ sample. bonds_of sample.couplings.now sample.bit };
+
+    fn is_negative(&self, site: u32, d: u32) -> bool {
+        bit(self.couplings.negative(site, d), self.bit)
     }
 }

@@ -2,16 +2,30 @@
 #![tactic(auto)]
 
 mod bonds;
-mod half_sweep;
+mod epoch;
+mod exchange;
+mod laws;
 mod neighbours;
+mod opening;
 mod plain;
 mod plain_copy;
 mod plan;
+mod planes;
 mod sample;
+mod spin_rule;
 mod sums;
+mod sweeps;
+#[cfg(test)]
+mod tests;
 
 pub use bonds::{Bonds, Ferromagnet};
+pub use laws::{
+    energies_have_one_parity, level_generators_are_serial, level_start_is_serial, records_go_on,
+    resuming_goes_on, words_stay_same,
+};
 pub use plain::{PlainOut, plain_run};
 pub use plain_copy::PlainCopy;
 pub use plan::Plan;
 pub use sample::{PlainPair, PlainSlot, Record, Sample, Start};
+pub use sums::{agreeing, unsatisfied};
+pub use sweeps::{half_sweep, sweep};

@@ -67,3 +67,15 @@ pub(crate) fn aligned<B: Bonds>(lattice: &Lattice, bonds: &B, spins: &[bool], si
         + pull_behind(lattice, bonds, spins, site, 1)
         + pull_behind(lattice, bonds, spins, site, 2)
 }
+
+/// How many of the six bonds have J s s' = +1, with s the spin at the site.
+pub(crate) fn satisfied<B: Bonds>(lattice: &Lattice, bonds: &B, spins: &[bool], site: u32) -> u32
+    requires size { B.size bonds.now ≡ lattice.now }
+    requires spins { length spins.now ≡ volume lattice.now }
+    requires site { site < volume lattice.now }
+    ensures value { result ≡ model.satisfied lattice.now (B.negative bonds.now) spins.now site }
+    ensures within { result ≤ 6 }
+{
+    let up = aligned(lattice, bonds, spins, site);
+    if spins[site as usize] { up } else { 6 - up }
+}

@@ -1,13 +1,56 @@
 //! The energy of one configuration, bond by bond.
 
-ghost use Rattle.std.specs.Prelude.{◌≡◌, ◌+◌, ◌*◌, ◌<◌, ◌≤◌, ◌-ℤ◌, pos, length};
+ghost use Rattle.std.specs.Prelude.{◌≡◌, ℕ, ◌+◌, ◌*◌, ◌<◌, ◌≤◌, ◌-ℤ◌, pos, length};
 ghost use Rattle.spin_model.specs.Lattice.{volume, bond_count};
 ghost use Rattle.spin_model.specs.Words.{one_if};
+ghost use Rattle.coupling_set.specs.CouplingWords.{bonds_of};
+ghost use Rattle.scalar_rule.specs.Neighbours.{agree, spin};
+ghost use Rattle.scalar_rule.specs.Shape.{IsLatticeVolume};
 ghost use Rattle.scalar_rule.specs.Sums as model;
 
-use crate::bonds::Bonds;
+use crate::bonds::{Bonds, SampleBonds};
 use crate::neighbours::{coupled, one_if};
+use crate::plain_copy::PlainCopy;
+use crate::plan::Plan;
 use lattice_geometry::Lattice;
+
+/// U of one replica in the disorder sample that is bit `bit` of its bank: the number of bonds with
+/// J s s' = -1, of 3V. Takes no memory.
+pub fn unsatisfied(copy: &PlainCopy, plan: &Plan, bit: u32) -> u32
+    requires spins { length copy.now.spins ≡ volume plan.now.size }
+    requires bit { bit < 64 }
+    ensures value { result ≡ model.unsatisfied plan.now.size (bonds_of plan.now.couplings bit) copy.now.spins }
+    ensures within { result ≤ bond_count plan.now.size }
+{
+    let bonds = SampleBonds::of(plan.couplings(), bit);
+    unsatisfied_by(&plan.lattice(), &bonds, copy.spins.as_slice())
+}
+
+/// Q: at how many of V sites two replicas agree. Both have V spins of one lattice. Takes no memory.
+pub fn agreeing(a: &PlainCopy, b: &PlainCopy) -> u32
+    requires sites { IsLatticeVolume (length a.now.spins) }
+    requires same { length b.now.spins ≡ length a.now.spins }
+    ensures value { (l : ℕ) → length a.now.spins ≡ volume l
+        → result ≡ model.agreeing l a.now.spins b.now.spins }
+    ensures within { result ≤ length a.now.spins }
+{
+    let (first, second) = (a.spins.as_slice(), b.spins.as_slice());
+    let mut count = 0;
+    'sites: for site in 0..first.len() {
+        count += agreeing_at(first, second, site);
+    }
+    count
+}
+
+// 1 where two configurations agree.
+fn agreeing_at(first: &[bool], second: &[bool], site: usize) -> u32
+    requires first { site < length first.now }
+    requires second { site < length second.now }
+    ensures value { result ≡ one_if (agree (spin first.now site) (spin second.now site)) }
+    ensures within { result ≤ 1 }
+{
+    one_if(first[site] == second[site])
+}
 
 /// The energy in units of the coupling, from -3V to 3V for V sites.
 pub(crate) fn energy<B: Bonds>(lattice: &Lattice, bonds: &B, spins: &[bool]) -> i32
@@ -15,12 +58,12 @@ pub(crate) fn energy<B: Bonds>(lattice: &Lattice, bonds: &B, spins: &[bool]) -> 
     requires spins { length spins.now ≡ volume lattice.now }
     ensures { result ≡ model.energy lattice.now (B.negative bonds.now) spins.now }
 {
-    let count = unsatisfied(lattice, bonds, spins);
+    let count = unsatisfied_by(lattice, bonds, spins);
     excess(count, 3 * lattice.sites())
 }
 
-// Twice a part, less the whole.
-fn excess(part: u32, whole: u32) -> i32
+/// Twice a part, less the whole.
+pub(crate) fn excess(part: u32, whole: u32) -> i32
     requires part { part ≤ whole }
     requires whole { whole ≤ 786432 }
     ensures { result ≡ pos (2 * part) -ℤ pos whole }
@@ -29,7 +72,7 @@ fn excess(part: u32, whole: u32) -> i32
 }
 
 /// The number of bonds with J s s' = -1.
-pub(crate) fn unsatisfied<B: Bonds>(lattice: &Lattice, bonds: &B, spins: &[bool]) -> u32
+pub(crate) fn unsatisfied_by<B: Bonds>(lattice: &Lattice, bonds: &B, spins: &[bool]) -> u32
     requires size { B.size bonds.now ≡ lattice.now }
     requires spins { length spins.now ≡ volume lattice.now }
     ensures value { result ≡ model.unsatisfied lattice.now (B.negative bonds.now) spins.now }

@@ -1,0 +1,11 @@
+-- The number lies between its bounds.
+use Rattle.std.proofs.Common.{arith, refl}
+use Rattle.toml.specs.View.{table_view}
+use Rattle.run_plan.specs.declared.key.Key.TheVariants.{Sweeps}
+use Rattle.run_plan.proofs.Rows.{number-bounded}
+use Rattle.run_plan.proofs.values.sweeps_in.Goals as goal
+
+pub overflow_cast-result : goal.overflow_cast-result
+overflow_cast-result c =
+    let small = number-bounded (table_view c.args.table.now) Sweeps 1 1000000 refl c.requires in
+    omega (arith, small.1, c.number.ensures)

@@ -1,0 +1,133 @@
+//! The tests of a run file, key by key.
+
+ghost use Rattle.std.specs.Prelude.{◌≡◌, option_copied, option_map};
+ghost use Rattle.toml.specs.View.{view, table_view};
+ghost use Rattle.glass_edges.specs.Refusals.{first_found};
+ghost use Rattle.run_plan.specs.RunFile as model;
+
+use crate::key::{Key, is_key, keys};
+use crate::refused::PlanRefused;
+use toml::{Table, Value};
+
+// Why an integer outside two bounds, or no integer, is refused.
+#[tactic(auto, unfolding(crate::specs::RunFile::value_refusal))]
+fn integer(key: Key, value: &Value, least: i64, most: i64) -> Option<PlanRefused>
+    ensures { result ≡ model.value_refusal key (model.integer least most) (view value.now) }
+{
+    match value.as_integer() {
+        None => Some(PlanRefused::Kind { key }),
+        Some(n) if least <= n && n <= most => None,
+        Some(value) => Some(PlanRefused::Range { key, value }),
+    }
+}
+
+// Why an integer that is no size of a lattice, or no integer, is refused.
+#[tactic(auto, unfolding(crate::specs::RunFile::value_refusal))]
+fn size(key: Key, value: &Value) -> Option<PlanRefused>
+    ensures { result ≡ model.value_refusal key model.size (view value.now) }
+{
+    match value.as_integer() {
+        None => Some(PlanRefused::Kind { key }),
+        Some(n) if n >= 4 && n <= 64 && n % 2 == 0 => None,
+        Some(value) => Some(PlanRefused::Range { key, value }),
+    }
+}
+
+// Why a text other than two words, or no text, is refused.
+#[tactic(auto, unfolding(crate::specs::RunFile::value_refusal))]
+fn word(key: Key, value: &Value, first: &str, second: &str) -> Option<PlanRefused>
+    ensures { result ≡ model.value_refusal key (model.word first.now second.now) (view value.now) }
+{
+    match value.as_str() {
+        None => Some(PlanRefused::Kind { key }),
+        Some(text) if text == first || text == second => None,
+        Some(_) => Some(PlanRefused::Word { key }),
+    }
+}
+
+// Why a text that names no file, or no text, is refused.
+#[tactic(auto, unfolding(crate::specs::RunFile::value_refusal))]
+fn name(key: Key, value: &Value) -> Option<PlanRefused>
+    ensures { result ≡ model.value_refusal key model.name (view value.now) }
+{
+    match value.as_str() {
+        None => Some(PlanRefused::Kind { key }),
+        Some(text) if 1 <= text.len() && text.len() <= 255 => None,
+        Some(_) => Some(PlanRefused::Word { key }),
+    }
+}
+
+// Why no boolean is refused.
+#[tactic(auto, unfolding(crate::specs::RunFile::value_refusal))]
+fn boolean(key: Key, value: &Value) -> Option<PlanRefused>
+    ensures { result ≡ model.value_refusal key model.boolean (view value.now) }
+{
+    match value.as_bool() {
+        None => Some(PlanRefused::Kind { key }),
+        Some(_) => None,
+    }
+}
+
+// Why the row of a key refuses a value.
+fn refuse_value(key: Key, value: &Value) -> Option<PlanRefused>
+    ensures { result ≡ model.value_refusal key (model.row_of key) (view value.now) }
+{
+    match key {
+        Key::Size => size(key, value),
+        Key::Rule => word(key, value, "heat", "metropolis"),
+        Key::Rules => name(key, value),
+        Key::Swaps => name(key, value),
+        Key::Couplings => word(key, value, "plus", "random"),
+        Key::Sweeps => integer(key, value, 1, 1_000_000),
+        Key::Seed => integer(key, value, 0, i64::MAX),
+        Key::Samples => integer(key, value, 1, 64),
+        Key::Epochs => integer(key, value, 0, 1_000_000_000),
+        Key::Every => integer(key, value, 1, 1_000_000_000),
+        Key::Start => word(key, value, "up", "random"),
+        Key::Spins => boolean(key, value),
+    }
+}
+
+// The value at a key.
+#[tactic(auto, unfolding(crate::specs::RunFile::value_at))]
+pub(crate) fn value_at(table: &Table, key: Key) -> Option<&Value>
+    ensures { option_map (λ v. view v.now) result ≡ model.value_at key (table_view table.now) }
+{
+    table.get(key.name())
+}
+
+// Why a key is refused.
+#[tactic(auto, unfolding(crate::specs::RunFile::key_refusal))]
+fn refuse_key(table: &Table, key: Key) -> Option<PlanRefused>
+    ensures { result ≡ model.key_refusal (table_view table.now) key }
+{
+    match value_at(table, key) {
+        Some(value) => refuse_value(key, value),
+        None => Some(PlanRefused::Missing { key }),
+    }
+}
+
+/// The refusal of the first key that is refused, in their order.
+pub(crate) fn refuse_keys(table: &Table) -> Option<PlanRefused>
+    ensures { result ≡ first_found (λ _ key. model.key_refusal (table_view table.now) key) 0 model.keys }
+{
+    let all = keys();
+    'keys: for key in &all {
+        if let Some(refused) = refuse_key(table, *key) {
+            return Some(refused);
+        }
+    }
+    None
+}
+
+/// The first key, in the order of bytes, that isn't in the table of keys.
+pub(crate) fn first_unknown(table: &Table) -> Option<&str>
+    ensures { option_copied result ≡ model.first_unknown (table_view table.now) }
+{
+    'members: for (text, _value) in table.iter() {
+        if !is_key(text.as_str()) {
+            return Some(text.as_str());
+        }
+    }
+    None
+}

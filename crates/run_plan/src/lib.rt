@@ -1,0 +1,21 @@
+//! The run file, which says what a run is made of, and the digest of a plan.
+#![tactic(auto)]
+
+mod key;
+mod lawful;
+mod plan_digest;
+mod reading;
+mod refused;
+mod run_file;
+mod texts;
+mod values;
+
+pub use key::Key;
+pub use plan_digest::{canonical_length, digest};
+pub use reading::read_plan;
+pub use refused::PlanRefused;
+pub use run_file::{CouplingSource, Orders, RunFile};
+pub use texts::{KeyText, NameText};
+
+#[cfg(test)]
+mod tests;

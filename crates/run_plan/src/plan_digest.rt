@@ -1,0 +1,153 @@
+//! The digest of a plan.
+
+ghost use Rattle.std.specs.Prelude.{◌≡◌, ℕ, ◌<◌, ◌++◌, List, length, flat_map};
+ghost use Rattle.byteorder.specs.Endian.{big_bytes};
+ghost use Rattle.sha2.specs.Hashers.{Holds256};
+ghost use Rattle.sha2.specs.Sha256.{sha256};
+ghost use Rattle.threshold_table.specs.Tables.{cases_of, thresholds_of, entries_of};
+ghost use Rattle.scalar_rule.specs.Plan.{slots_of};
+ghost use Rattle.run_plan.specs.CanonicalPlan as model;
+
+use byteorder::{BigEndian, ByteOrder};
+use coupling_set::Couplings;
+use scalar_rule::Plan;
+use sha2::{Digest, Sha256};
+use threshold_table::{RuleKind, RuleTable, SwapTable};
+
+/// The SHA-256 of the plan's canonical bytes, which stand in docs/specification/run_file.md. Takes
+/// no memory.
+#[tactic(auto, unfolding(crate::specs::CanonicalPlan::canonical))]
+pub fn digest(plan: &Plan) -> [u8; 32]
+    ensures { result ≡ sha256 (model.canonical plan.now) }
+{
+    let mut hasher = Sha256::new();
+    add_header(&mut hasher, plan);
+    add_rules(&mut hasher, plan.rules());
+    add_swaps(&mut hasher, plan.swaps());
+    add_couplings(&mut hasher, plan.couplings());
+    hasher.finalize()
+}
+
+/// The law of the number of a plan's canonical bytes: by the numbers of its slots, entries and sites,
+/// and 1624 of the smallest plan, one slot of heat bath on the lattice of size 4.
+pub fn canonical_length(plan: &Plan)
+    ensures formula { length (model.canonical plan.now) ≡ model.canonical_length plan.now }
+    ensures smallest { plan.now.size ≡ 4 → slots_of plan.now ≡ 1 → plan.now.rules.kind ≡ RuleKind.Heat →
+        length (model.canonical plan.now) ≡ 1624 }
+{
+    let _ = plan.lattice();
+}
+
+// The number of a kind of dynamics.
+fn kind_number(kind: RuleKind) -> u32
+    ensures { result ≡ model.kind_number kind }
+{
+    match kind {
+        RuleKind::Heat => 1,
+        RuleKind::Metropolis => 2,
+    }
+}
+
+// The thresholds of a slot of this kind.
+fn cases(kind: RuleKind) -> usize
+    ensures { result ≡ cases_of kind }
+{
+    match kind {
+        RuleKind::Heat => 7,
+        RuleKind::Metropolis => 3,
+    }
+}
+
+// Adds a number as four bytes to the message that a hasher holds.
+fn add_u32(hasher: &mut Sha256, number: u32)
+    ensures { (m : List ℕ) → Holds256 hasher.old m → Holds256 hasher.new (m ++ big_bytes 4 number) }
+{
+    let mut bytes = [0u8; 4];
+    BigEndian::write_u32(&mut bytes, number);
+    hasher.update(&bytes);
+}
+
+// Adds a number as eight bytes.
+fn add_u64(hasher: &mut Sha256, number: u64)
+    ensures { (m : List ℕ) → Holds256 hasher.old m → Holds256 hasher.new (m ++ big_bytes 8 number) }
+{
+    let mut bytes = [0u8; 8];
+    BigEndian::write_u64(&mut bytes, number);
+    hasher.update(&bytes);
+}
+
+// Adds the header.
+#[tactic(auto, unfolding(crate::specs::CanonicalPlan::header_bytes))]
+fn add_header(hasher: &mut Sha256, plan: &Plan)
+    ensures { (m : List ℕ) → Holds256 hasher.old m → Holds256 hasher.new (m ++ model.header_bytes plan.now) }
+{
+    hasher.update(b"GLASSPL1");
+    add_u32(hasher, plan.lattice().size());
+    add_u32(hasher, plan.slots());
+    add_u32(hasher, kind_number(plan.rules().kind()));
+    add_u32(hasher, plan.sweeps());
+    add_u64(hasher, plan.seed());
+}
+
+// Adds the thresholds slot by slot.
+fn add_rules(hasher: &mut Sha256, rules: &RuleTable)
+    ensures { (m : List ℕ) → Holds256 hasher.old m →
+        Holds256 hasher.new (m ++ flat_map model.number_bytes rules.now.rows) }
+{
+    'slots: for slot in 0..rules.slots() {
+        add_slot(hasher, rules, slot);
+    }
+}
+
+// Adds the thresholds of a slot.
+fn add_slot(hasher: &mut Sha256, rules: &RuleTable, slot: u32)
+    requires { slot < length rules.now.rows }
+    ensures { (m : List ℕ) → Holds256 hasher.old m →
+        Holds256 hasher.new (m ++ model.number_bytes (thresholds_of rules.now slot)) }
+{
+    let thresholds = &rules.row(slot).values;
+    add_numbers(hasher, &thresholds[..cases(rules.kind())]);
+}
+
+// Adds numbers one after the other.
+fn add_numbers(hasher: &mut Sha256, numbers: &[u64])
+    ensures { (m : List ℕ) → Holds256 hasher.old m →
+        Holds256 hasher.new (m ++ model.number_bytes numbers.now) }
+{
+    'numbers: for number in numbers {
+        add_u64(hasher, *number);
+    }
+}
+
+// Adds the entries pair by pair.
+fn add_swaps(hasher: &mut Sha256, swaps: &SwapTable)
+    ensures { (m : List ℕ) → Holds256 hasher.old m →
+        Holds256 hasher.new (m ++ flat_map model.pair_bytes swaps.now) }
+{
+    'pairs: for pair in 0..swaps.pairs() {
+        add_u32(hasher, swaps.entries(pair));
+        add_entries(hasher, swaps, pair);
+    }
+}
+
+// Adds the entries of a pair.
+fn add_entries(hasher: &mut Sha256, swaps: &SwapTable, pair: u32)
+    requires { pair < length swaps.now }
+    ensures { (m : List ℕ) → Holds256 hasher.old m →
+        Holds256 hasher.new (m ++ model.number_bytes (entries_of swaps.now pair)) }
+{
+    'entries: for entry in 0..swaps.entries(pair) {
+        add_u64(hasher, swaps.threshold(pair, entry));
+    }
+}
+
+// Adds the word of each bond.
+fn add_couplings(hasher: &mut Sha256, couplings: &Couplings)
+    ensures { (m : List ℕ) → Holds256 hasher.old m →
+        Holds256 hasher.new (m ++ model.number_bytes (model.bond_words couplings.now)) }
+{
+    let size = couplings.size();
+    'bonds: for bond in 0..3 * (size * size * size) {
+        add_u64(hasher, couplings.negative(bond / 3, bond % 3));
+    }
+}

@@ -1,0 +1,194 @@
+//! The states that a run begins with.
+
+ghost use Rattle.std.specs.Prelude.{◌≡◌, ◌+◌, ◌-◌, ◌*◌, ◌/◌, ◌%◌, ◌<◌, ◌≤◌, IfOk};
+ghost use Rattle.spin_model.specs.Steps.{table};
+ghost use Rattle.spin_model.specs.Stream.{advanced, draw};
+ghost use Rattle.spin_model.specs.Words.{is_set};
+ghost use Rattle.scalar_rule.specs.Opening as model;
+ghost use Rattle.scalar_rule.specs.Plan.{pairs_of, slots_of};
+ghost use Rattle.scalar_rule.specs.Shape.{Fits};
+
+use crate::plain_copy::PlainCopy;
+use crate::plan::Plan;
+use crate::sample::{PlainPair, PlainSlot, Sample, Start};
+use glass_edges::NoMemory;
+use lattice_geometry::Lattice;
+use multispin_word::bit;
+use plain_list::Items;
+use pr_generator::Wheel;
+use std::alloc::Global;
+
+impl Sample {
+    /// The state that the disorder sample at bit `bit` of its bank begins with: epoch 0, each
+    /// replica labelled by its slot, the generators as the seed gives them.
+    ///
+    /// # Errors
+    ///
+    /// Refuses only for want of memory.
+    pub fn opening(alloc: Global, plan: &Plan, bit: u32, start: Start) -> Result<Sample, NoMemory>
+        requires { bit < 64 }
+        ensures opening { IfOk result (λ s. s ≡ model.opening plan.now start 0 bit) }
+        ensures fits { IfOk result (λ s. Fits plan.now s) }
+    {
+        Ok(Sample {
+            bit,
+            epoch: 0,
+            slots: opening_slots(alloc, plan, bit, start)?,
+            pairs: opening_pairs(alloc, plan)?,
+        })
+    }
+}
+
+// All slots, slot 0 first.
+fn opening_slots(
+    alloc: Global,
+    plan: &Plan,
+    bit: u32,
+    start: Start,
+) -> Result<Items<PlainSlot>, NoMemory>
+    requires { bit < 64 }
+    ensures { IfOk result (λ slots. slots ≡
+        table (model.opening_slot plan.now start 0 bit) (slots_of plan.now)) }
+{
+    let mut slots = Vec::with_capacity(alloc, plan.slots() as usize)?;
+    'opened: for slot in 0..plan.slots() {
+        slots.push(opening_slot(alloc, plan, bit, start, slot)?)?;
+    }
+    Ok(Items::of(slots))
+}
+
+// All pairs, pair 0 first.
+fn opening_pairs(alloc: Global, plan: &Plan) -> Result<Items<PlainPair>, NoMemory>
+    ensures { IfOk result (λ pairs. pairs ≡ table (model.opening_pair plan.now 0) (pairs_of plan.now)) }
+{
+    let count = plan.slots() - 1;
+    let mut pairs = Vec::with_capacity(alloc, count as usize)?;
+    'opened: for pair in 0..count {
+        pairs.push(opening_pair(plan, pair))?;
+    }
+    Ok(Items::of(pairs))
+}
+
+fn opening_pair(plan: &Plan, pair: u32) -> PlainPair
+    ensures { result ≡ model.opening_pair plan.now 0 pair }
+{
+    PlainPair {
+        first: Wheel::seeded(plan.seed(), 2, pair, 0, 0),
+        second: Wheel::seeded(plan.seed(), 2, pair, 1, 0),
+    }
+}
+
+fn opening_slot(
+    alloc: Global,
+    plan: &Plan,
+    bit: u32,
+    start: Start,
+    slot: u32,
+) -> Result<PlainSlot, NoMemory>
+    requires bit { bit < 64 }
+    requires slot { slot < slots_of plan.now }
+    ensures { IfOk result (λ s. s ≡ model.opening_slot plan.now start 0 bit slot) }
+{
+    Ok(PlainSlot {
+        first: opening_copy(alloc, plan, bit, start, slot, 0)?,
+        second: opening_copy(alloc, plan, bit, start, slot, 1)?,
+    })
+}
+
+// One replica of a slot; its label is the number of the slot.
+fn opening_copy(
+    alloc: Global,
+    plan: &Plan,
+    bit: u32,
+    start: Start,
+    slot: u32,
+    replica: u32,
+) -> Result<PlainCopy, NoMemory>
+    requires bit { bit < 64 }
+    requires slot { slot < slots_of plan.now }
+    requires replica { replica < 2 }
+    ensures { IfOk result (λ copy. copy ≡ model.opening_copy plan.now start 0 bit slot replica) }
+{
+    // A plan has at most 32 slots.
+    let _ = plan.slots();
+    Ok(PlainCopy {
+        spins: start_spins(alloc, plan, bit, start, slot, replica)?,
+        wheels: seeded_wheels(alloc, &plan.lattice(), plan.seed(), slot, replica)?,
+        replica: slot as u8,
+    })
+}
+
+#[tactic(auto, unfolding(crate::specs::Opening::start_spins))]
+fn start_spins(
+    alloc: Global,
+    plan: &Plan,
+    bit: u32,
+    start: Start,
+    slot: u32,
+    replica: u32,
+) -> Result<Items<bool>, NoMemory>
+    requires bit { bit < 64 }
+    ensures { IfOk result (λ spins. spins ≡ model.start_spins plan.now start 0 bit slot replica) }
+{
+    let lattice = plan.lattice();
+    match start {
+        Start::Up => all_up(alloc, &lattice),
+        Start::Random => {
+            let mut wheel = Wheel::seeded(plan.seed(), 4, slot, replica, 0);
+            random_spins(alloc, &lattice, &mut wheel, bit)
+        }
+    }
+}
+
+/// Every spin +1.
+pub(crate) fn all_up(alloc: Global, lattice: &Lattice) -> Result<Items<bool>, NoMemory>
+    ensures { IfOk result (λ spins. spins ≡ model.all_up lattice.now) }
+{
+    Ok(Items::of(vec![in alloc; true; lattice.sites() as usize]?))
+}
+
+// Spins at random, two draws a site: the sample's bit of the 64 that they have.
+fn random_spins(
+    alloc: Global,
+    lattice: &Lattice,
+    wheel: &mut Wheel,
+    bit: u32,
+) -> Result<Items<bool>, NoMemory>
+    requires { bit < 64 }
+    ensures { IfOk result (λ spins. spins ≡ model.random_spins lattice.now wheel.old bit) }
+{
+    let mut spins = Vec::with_capacity(alloc, lattice.sites() as usize)?;
+    'sites: for _ in 0..lattice.sites() {
+        spins.push(random_spin(wheel, bit))?;
+    }
+    Ok(Items::of(spins))
+}
+
+fn random_spin(wheel: &mut Wheel, sample: u32) -> bool
+    requires { sample < 64 }
+    ensures moved { wheel.new ≡ advanced wheel.old 2 }
+    ensures spin { result ≡ is_set (draw wheel.old (sample / 32)) (sample % 32) }
+{
+    let mut words = [0u32; 2];
+    wheel.fill(&mut words);
+    bit(words[(sample / 32) as usize] as u64, sample % 32)
+}
+
+/// The generators of a temperature slot and replica.
+pub(crate) fn seeded_wheels(
+    alloc: Global,
+    lattice: &Lattice,
+    seed: u64,
+    slot: u32,
+    replica: u32,
+) -> Result<Items<Wheel>, NoMemory>
+    requires { replica < 2 }
+    ensures { IfOk result (λ wheels. wheels ≡ model.seeded_words lattice.now seed slot replica) }
+{
+    let size = lattice.size();
+    let mut wheels = Vec::with_capacity(alloc, 2 * size as usize)?;
+    'wheels: for k in 0..2 * size {
+        wheels.push(Wheel::seeded(seed, 1, slot, 2 * replica + k / size, k % size))?;
+    }
+    Ok(Items::of(wheels))
+}

@@ -1,0 +1,152 @@
+//! The half sweep of one checkerboard colour, one spin at a time.
+
+ghost use Rattle.std.specs.Prelude.{◌≡◌, ◌+◌, ◌*◌, ◌<◌, length, slice_index};
+ghost use Rattle.spin_model.specs.Lattice.{volume, half_plane, place_in_plane};
+ghost use Rattle.spin_model.specs.Steps.{steps};
+ghost use Rattle.scalar_rule.specs.Sweep as model;
+ghost use Rattle.scalar_rule.specs.SlotRules.{dynamics_with};
+ghost use Rattle.scalar_rule.specs.Replica.{configuration_of};
+
+use crate::bonds::Bonds;
+use crate::plain_copy::PlainCopy;
+use crate::spin_rule::{SlotRule, new_spin};
+use lattice_geometry::Lattice;
+
+/// The greatest number of sites of one colour in a plane.
+const PLANE: usize = 2048;
+
+/// The half sweep of a colour: its sites in rising order, one draw a site.
+pub(crate) fn half_sweep_by<B: Bonds>(
+    replica: &mut PlainCopy,
+    lattice: &Lattice,
+    bonds: &B,
+    rule: &SlotRule,
+    colour: u32,
+)
+    requires size { B.size bonds.now ≡ lattice.now }
+    requires spins { length replica.old.spins ≡ volume lattice.now }
+    requires wheels { length replica.old.wheels ≡ 2 * lattice.now }
+    requires colour { colour < 2 }
+    ensures swept { configuration_of replica.new ≡ model.half_sweep
+        (dynamics_with lattice.now rule.now (B.negative bonds.now))
+        colour
+        (configuration_of replica.old) }
+    ensures spins { length replica.new.spins ≡ length replica.old.spins }
+    ensures wheels { length replica.new.wheels ≡ length replica.old.wheels }
+    ensures label { replica.new.replica ≡ replica.old.replica }
+{
+    let mut draws = [0u32; PLANE];
+    half_sweep_with(replica, lattice, bonds, rule, colour, &mut draws);
+}
+
+// The same, with a buffer for the draws of a plane.
+fn half_sweep_with<B: Bonds>(
+    replica: &mut PlainCopy,
+    lattice: &Lattice,
+    bonds: &B,
+    rule: &SlotRule,
+    colour: u32,
+    draws: &mut [u32],
+)
+    requires size { B.size bonds.now ≡ lattice.now }
+    requires spins { length replica.old.spins ≡ volume lattice.now }
+    requires wheels { length replica.old.wheels ≡ 2 * lattice.now }
+    requires colour { colour < 2 }
+    requires room { length draws.old ≡ PLANE }
+    ensures swept { configuration_of replica.new ≡ model.half_sweep
+        (dynamics_with lattice.now rule.now (B.negative bonds.now))
+        colour
+        (configuration_of replica.old) }
+    ensures spins { length replica.new.spins ≡ length replica.old.spins }
+    ensures wheels { length replica.new.wheels ≡ length replica.old.wheels }
+    ensures label { replica.new.replica ≡ replica.old.replica }
+{
+    let size = lattice.size();
+    let count = (size * (size / 2)) as usize;
+    let plane_draws = &mut draws[..count];
+    'planes: for z in 0..size {
+        // Each site of the colour has a draw, used or not, so that all samples can share it.
+        replica
+            .wheels
+            .at_mut((colour * size + z) as usize)
+            .fill(plane_draws);
+        visit_plane(
+            lattice,
+            bonds,
+            rule,
+            replica.spins.as_mut_slice(),
+            plane_draws,
+            colour,
+            z,
+        );
+    }
+}
+
+// The sites of plane z in rising order.
+fn visit_plane<B: Bonds>(
+    lattice: &Lattice,
+    bonds: &B,
+    rule: &SlotRule,
+    spins: &mut [bool],
+    draws: &[u32],
+    colour: u32,
+    z: u32,
+)
+    requires size { B.size bonds.now ≡ lattice.now }
+    requires spins { length spins.old ≡ volume lattice.now }
+    requires draws { length draws.now ≡ half_plane lattice.now }
+    requires plane { z < lattice.now }
+    ensures { spins.new ≡ steps
+        (model.visit
+        (dynamics_with lattice.now rule.now (B.negative bonds.now))
+        (λ i. slice_index draws.now (place_in_plane lattice.now i))
+        colour)
+        (z * (lattice.now * lattice.now))
+        (lattice.now * lattice.now)
+        spins.old }
+{
+    let size = lattice.size();
+    let plane = size * size;
+    'sites: for k in 0..plane {
+        visit(lattice, bonds, rule, spins, draws, colour, z * plane + k);
+    }
+}
+
+// The new spin of one site, where it has the colour.
+#[tactic(auto, unfolding(crate::specs::Sweep::visit))]
+fn visit<B: Bonds>(
+    lattice: &Lattice,
+    bonds: &B,
+    rule: &SlotRule,
+    spins: &mut [bool],
+    draws: &[u32],
+    colour: u32,
+    site: u32,
+)
+    requires size { B.size bonds.now ≡ lattice.now }
+    requires spins { length spins.old ≡ volume lattice.now }
+    requires draws { length draws.now ≡ half_plane lattice.now }
+    requires site { site < volume lattice.now }
+    ensures { spins.new ≡ model.visit
+        (dynamics_with lattice.now rule.now (B.negative bonds.now))
+        (λ i. slice_index draws.now (place_in_plane lattice.now i))
+        colour
+        site
+        spins.old }
+{
+    if lattice.colour(site) == colour {
+        let draw = draws[place(lattice, site) as usize];
+        spins[site as usize] = new_spin(lattice, bonds, rule, spins, draw, site);
+    }
+}
+
+// The number of the site's draw in its plane.
+fn place(lattice: &Lattice, site: u32) -> u32
+    requires { site < volume lattice.now }
+    ensures value { result ≡ place_in_plane lattice.now site }
+    ensures within { result < half_plane lattice.now }
+{
+    let half = lattice.size() / 2;
+    let (x, y, _) = lattice.coordinates(site);
+    y * half + x / 2
+}
