@@ -1,5 +1,7 @@
 //! One call of the program over outputs and files in memory.
 
+ghost use Rattle.std.specs.Prelude.{◌<◌};
+
 use glass_edges::{MemoryShelf, MemorySink, OpenGate};
 use glass_main::glass;
 use std::test::Fail;
@@ -13,8 +15,11 @@ pub struct Called {
 }
 
 /// An output with ample room that takes at most `most` bytes at once and fails at one put.
-pub fn output(rt: &HostRuntime, most: usize, failing: u64) -> Result<MemorySink, Fail> {
-    Ok(MemorySink::new(rt.alloc(), 1000000, most, [failing].to_vec(rt.alloc())?)?)
+pub fn output(rt: &HostRuntime, most: usize, failing: u64) -> Result<MemorySink, Fail>
+    requires { 0 < most }
+{
+    let fails = [failing].to_vec(rt.alloc())?;
+    Ok(MemorySink::new(rt.alloc(), 1000000, most, fails)?)
 }
 
 /// An output with ample room that never fails in a test.
@@ -22,17 +27,17 @@ pub fn ample(rt: &HostRuntime) -> Result<MemorySink, Fail> {
     output(rt, 1000000, u64::MAX)
 }
 
-/// Calls the program with these words, over these outputs and an empty store.
-pub fn call_over(
-    rt: &HostRuntime,
-    words: &[&str],
-    out: MemorySink,
-    err: MemorySink,
-) -> Result<Called, Fail> {
-    let mut given = Vec::new(rt.alloc());
-    for word in words {
-        given.push(String::from_str(rt.alloc(), word)?)?;
+/// The words of a line, with one space between two of them.
+fn words_of(rt: &HostRuntime, line: &str) -> Result<Vec<String>, Fail> {
+    let mut words = Vec::new(rt.alloc());
+    for word in line.split(' ') {
+        words.push(String::from_str(rt.alloc(), word)?)?;
     }
+    Ok(words)
+}
+
+/// Calls the program with these words, over these outputs and an empty store.
+pub fn call_words(rt: &HostRuntime, words: &[String], out: MemorySink, err: MemorySink) -> Called {
     let mut shelf = MemoryShelf::new(rt.alloc(), Vec::new(rt.alloc()));
     let mut called = Called {
         status: 0,
@@ -42,16 +47,27 @@ pub fn call_over(
     called.status = glass(
         rt,
         rt.alloc(),
-        &given,
+        words,
         &mut shelf,
         &mut called.out,
         &mut called.err,
         &OpenGate,
     );
-    Ok(called)
+    called
 }
 
-/// Calls the program with these words, over outputs with ample room and an empty store.
-pub fn call(rt: &HostRuntime, words: &[&str]) -> Result<Called, Fail> {
-    call_over(rt, words, ample(rt)?, ample(rt)?)
+/// Calls the program with the words of a line, over these outputs and an empty store.
+pub fn call_over(
+    rt: &HostRuntime,
+    line: &str,
+    out: MemorySink,
+    err: MemorySink,
+) -> Result<Called, Fail> {
+    let words = words_of(rt, line)?;
+    Ok(call_words(rt, &words, out, err))
+}
+
+/// Calls the program with the words of a line, over outputs with ample room and an empty store.
+pub fn call(rt: &HostRuntime, line: &str) -> Result<Called, Fail> {
+    call_over(rt, line, ample(rt)?, ample(rt)?)
 }

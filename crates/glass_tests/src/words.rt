@@ -1,159 +1,76 @@
 //! Words that are no command.
 
-use crate::called::call;
+use crate::called::{Called, ample, call, call_words};
 use std::test::Fail;
+
+// Status 2 with its line, and nothing on the output.
+fn is_not_understood(called: &Called) -> bool {
+    called.status == 2
+        && called.out.taken().is_empty()
+        && called.err.taken() == b"glass: the command line is not understood\n".as_slice()
+}
 
 #[test]
 fn bad_command_lines_print_one_line(rt: HostRuntime) -> Result<(), Fail> {
-    let zero = "0";
-    let cases: [(&str, &[&str]); 15] = [
-        ("no word", &[]),
-        ("an unknown command", &["simulate"]),
-        ("a command not built", &["check", "run.toml"]),
-        ("a command not built", &["run", "run.toml"]),
-        ("a command not built", &["demo", "1"]),
-        (
-            "a word too few",
-            &["plain", "4", "1", "7", zero, zero, zero, zero, zero, zero],
-        ),
-        (
-            "a word too many",
-            &[
-                "plain", "4", "1", "7", zero, zero, zero, zero, zero, zero, zero, zero,
-            ],
-        ),
-        (
-            "a letter",
-            &[
-                "plain", "4", "1", "7", zero, zero, "x", zero, zero, zero, zero,
-            ],
-        ),
-        (
-            "a sign",
-            &[
-                "plain", "4", "+1", "7", zero, zero, zero, zero, zero, zero, zero,
-            ],
-        ),
-        (
-            "an empty word",
-            &[
-                "plain", "4", "1", "7", zero, zero, zero, zero, zero, zero, "",
-            ],
-        ),
-        (
-            "too many sweeps",
-            &[
-                "plain", "4", "1000001", "7", zero, zero, zero, zero, zero, zero, zero,
-            ],
-        ),
+    for (case, line) in [
+        ("an empty word alone", ""),
+        ("an unknown command", "simulate"),
+        ("a command not built", "check run.toml"),
+        ("a command not built", "run run.toml"),
+        ("a command not built", "demo 1"),
+        ("no help text", "--help"),
+        ("a word too few", "plain 4 1 7 0 0 0 0 0 0"),
+        ("a word too many", "plain 4 1 7 0 0 0 0 0 0 0 0"),
+        ("a letter", "plain 4 1 7 0 0 x 0 0 0 0"),
+        ("a sign", "plain 4 +1 7 0 0 0 0 0 0 0"),
+        ("an empty word", "plain 4 1 7 0 0 0 0 0 0 "),
+        ("an odd size", "plain 5 1 7 0 0 0 0 0 0 0"),
+        ("too many sweeps", "plain 4 1000001 7 0 0 0 0 0 0 0"),
         (
             "a seed too great",
-            &[
-                "plain",
-                "4",
-                "1",
-                "9223372036854775808",
-                zero,
-                zero,
-                zero,
-                zero,
-                zero,
-                zero,
-                zero,
-            ],
+            "plain 4 1 9223372036854775808 0 0 0 0 0 0 0",
         ),
         (
             "a threshold too great",
-            &[
-                "plain",
-                "4",
-                "1",
-                "7",
-                "4294967297",
-                zero,
-                zero,
-                zero,
-                zero,
-                zero,
-                zero,
-            ],
+            "plain 4 1 7 4294967297 0 0 0 0 0 0",
         ),
         (
             "twenty-one digits",
-            &[
-                "plain",
-                "4",
-                "1",
-                "000000000000000000007",
-                zero,
-                zero,
-                zero,
-                zero,
-                zero,
-                zero,
-                zero,
-            ],
+            "plain 4 1 000000000000000000007 0 0 0 0 0 0 0",
         ),
         (
             "twenty digits past 2^64",
-            &[
-                "plain",
-                "4",
-                "1",
-                "18446744073709551623",
-                zero,
-                zero,
-                zero,
-                zero,
-                zero,
-                zero,
-                zero,
-            ],
+            "plain 4 1 18446744073709551623 0 0 0 0 0 0 0",
         ),
-    ];
-    for (case, words) in cases {
-        let called = call(&rt, words)?;
-        assert_eq!(rt; called.status, 2, "at {case}");
-        assert_eq!(rt; called.out.taken(), b"".as_slice(), "at {case}");
-        assert_eq!(rt;
-            called.err.taken(),
-            b"glass: the command line is not understood\n".as_slice(),
-            "at {case}"
-        );
+    ] {
+        assert!(rt; is_not_understood(&call(&rt, line)?), "at {case}");
     }
     Ok(())
 }
 
 #[test]
+fn no_word_is_no_command(rt: HostRuntime) -> Result<(), Fail> {
+    let words = Vec::new(rt.alloc());
+    let called = call_words(&rt, &words, ample(&rt)?, ample(&rt)?);
+    assert!(rt; is_not_understood(&called));
+    Ok(())
+}
+
+#[test]
 fn odd_size_is_a_bad_command_line(rt: HostRuntime) -> Result<(), Fail> {
-    for size in ["5", "2", "66"] {
-        let called = call(
-            &rt,
-            &["plain", size, "1", "7", "0", "0", "0", "0", "0", "0", "0"],
-        )?;
-        assert_eq!(rt; called.status, 2, "at {size}");
+    for line in [
+        "plain 5 1 7 0 0 0 0 0 0 0",
+        "plain 2 1 7 0 0 0 0 0 0 0",
+        "plain 66 1 7 0 0 0 0 0 0 0",
+    ] {
+        assert!(rt; is_not_understood(&call(&rt, line)?), "{line}");
     }
     Ok(())
 }
 
 #[test]
 fn number_words_may_have_leading_zeros(rt: HostRuntime) -> Result<(), Fail> {
-    let called = call(
-        &rt,
-        &[
-            "plain",
-            "00000000000000000004",
-            "0",
-            "007",
-            "0",
-            "0",
-            "0",
-            "0",
-            "0",
-            "0",
-            "0",
-        ],
-    )?;
+    let called = call(&rt, "plain 00000000000000000004 0 007 0 0 0 0 0 0 0")?;
     assert_eq!(rt; called.status, 0);
     assert!(rt;
         called

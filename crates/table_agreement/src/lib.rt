@@ -1,6 +1,11 @@
-//! A test alone: the two tables of a run at sixteen temperatures are read by `threshold_table` and by
-//! the crate `csv`, and the two agree record by record and field by field.
+//! Tests alone, on the tables of a run at sixteen temperatures: they are read by `threshold_table` and
+//! by the crate `csv`, and the two agree record by record and field by field; and the digest of the
+//! run's plan and the records of two of its samples are those of an independent program.
 #![tactic(auto)]
 
 #[cfg(test)]
-mod tests;
+mod agreement;
+#[cfg(test)]
+mod sixteen_temperatures;
+#[cfg(test)]
+mod tables;

@@ -1,44 +1,10 @@
+//! The tables as `threshold_table` and as `csv` read them.
+
+use crate::tables::{rule_text, swap_text};
 use csv::{ByteRecord, ReaderBuilder};
 use std::alloc::{AllocError, Global};
 use std::test::Fail;
 use threshold_table::{RuleKind, read_rule, read_swap};
-
-/// The probability 1.
-const ALWAYS: u64 = 4294967296;
-
-// x·y div divisor; no product here reaches 2^64.
-fn scaled(x: u64, y: u64, divisor: u64) -> u64 {
-    x.saturating_mul(y).checked_div(divisor).unwrap_or(0)
-}
-
-// The Metropolis thresholds of sixteen slots: powers of (t + 2) / (t + 10), which is near exp(-4β)
-// of slot t.
-fn rule_text(alloc: Global) -> Result<String, AllocError> {
-    let mut text = String::new(alloc);
-    for t in 0..16u64 {
-        let x = scaled(ALWAYS, t + 2, t + 10);
-        let y = scaled(x, x, ALWAYS);
-        let z = scaled(y, x, ALWAYS);
-        text.push_str(format!(in alloc; "{x}, {y}, {z}\n")?.as_str())?;
-    }
-    Ok(text)
-}
-
-// The exchange thresholds of fifteen pairs, 64 each: powers of the ratio of neighbouring slots.
-fn swap_text(alloc: Global) -> Result<String, AllocError> {
-    let mut text = String::new(alloc);
-    for k in 0..15u64 {
-        let ratio = scaled(ALWAYS, (k + 2) * (k + 11), (k + 10) * (k + 3));
-        let mut entry = ratio;
-        text.push_str(format!(in alloc; "{entry}")?.as_str())?;
-        for _ in 1..64 {
-            entry = scaled(entry, ratio, ALWAYS);
-            text.push_str(format!(in alloc; ", {entry}")?.as_str())?;
-        }
-        text.push_str("\n")?;
-    }
-    Ok(text)
-}
 
 // The records that `csv` finds, the spaces round their fields taken off.
 fn csv_records(alloc: Global, text: &str) -> Result<Vec<ByteRecord>, Fail> {
