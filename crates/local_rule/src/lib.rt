@@ -4,6 +4,7 @@
 
 pub use lane_rule::{heat_bath_lanes, metropolis_lanes};
 pub use laws::{heat_bath_both_ways, metropolis_both_ways};
+pub use vectors::{full_adder_lanes, load};
 pub use word_rule::{heat_bath, metropolis};
 
 mod lane_rule;

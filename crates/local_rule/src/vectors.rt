@@ -83,7 +83,7 @@ pub fn flipped_lanes(spins: u64x8, costly: u64x8, accepted: u64x8) -> u64x8
 
 /// Of three bits of each lane and sample the low and the high bit of their sum.
 #[inline]
-fn full_adder_lanes(a: u64x8, b: u64x8, carry: u64x8) -> (u64x8, u64x8)
+pub fn full_adder_lanes(a: u64x8, b: u64x8, carry: u64x8) -> (u64x8, u64x8)
     requires { (length a ≡ 8) × (length b ≡ 8) × (length carry ≡ 8) }
     ensures lengths { (length result.0 ≡ 8) × (length result.1 ≡ 8) }
     ensures sum { (i k : ℕ) → i < 8

@@ -1,0 +1,65 @@
+//! The Rattle side of bench/totals.sh: times `unsatisfied` and `agreeing` on one size. Given no size and
+//! number of passes it prints one line and does no work.
+#![tactic(auto)]
+
+mod inputs;
+
+use anyhow::Result;
+use bit_totals::{agreeing, unsatisfied};
+use coupling_set::Couplings;
+use lattice_geometry::Lattice;
+use multispin_word::Planes;
+use std::env;
+use std::time::Instant;
+
+/// All planes in one number.
+fn all_planes(total: &Planes<20>) -> u64 {
+    let mut all = 0u64;
+    for w in 0..20usize {
+        all = all.wrapping_mul(3) ^ total.words[w];
+    }
+    all
+}
+
+/// Prints for each function the least nanoseconds of a pass and the planes that it left.
+fn measure(rt: &HostRuntime, lattice: Lattice, passes: u32) -> Result<()> {
+    let alloc = rt.alloc();
+    let plan = inputs::plan_of(alloc, lattice, Couplings::plus(alloc, lattice)?)?;
+    let mut state = 88172645463325252;
+    let first = inputs::random_words(alloc, &lattice, &mut state)?;
+    let second = inputs::random_words(alloc, &lattice, &mut state)?;
+    let a = inputs::replica_of(alloc, &lattice, first.as_slice())?;
+    let b = inputs::replica_of(alloc, &lattice, second.as_slice())?;
+
+    let mut total = Planes::zero();
+    let mut least = u128::MAX;
+    for _ in 0..passes {
+        let start = Instant::now(rt)?;
+        total = unsatisfied(&a, &plan);
+        least = least.min(start.elapsed(rt)?.as_nanos());
+    }
+    println!(rt; "unsatisfied {least} {}", all_planes(&total))?;
+
+    let mut least = u128::MAX;
+    for _ in 0..passes {
+        let start = Instant::now(rt)?;
+        total = agreeing(&a, &b);
+        least = least.min(start.elapsed(rt)?.as_nanos());
+    }
+    println!(rt; "agreeing {least} {}", all_planes(&total))?;
+    Ok(())
+}
+
+fn main(rt: HostRuntime) -> Result<()> {
+    let mut words = env::args(&rt)?;
+    match (words.nth(1), words.nth(0)) {
+        (Some(size), Some(passes)) => {
+            let lattice = Lattice::of(size.as_str().parse::<u32>()?)?;
+            measure(&rt, lattice, passes.as_str().parse::<u32>()?)
+        }
+        _ => {
+            println!(rt; "bench_totals: give a size and the number of passes")?;
+            Ok(())
+        }
+    }
+}

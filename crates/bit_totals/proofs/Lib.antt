@@ -1,0 +1,4 @@
+pub mod LaneNumbers
+pub mod Tallying
+pub mod Places
+pub mod PlaceCounts

@@ -1,0 +1,33 @@
+-- The sites of all places are all sites, of which there are at most 262144.
+use Rattle.std.proofs.Common.{ℕ, ◌-◌, ◌^◌, ◌∙◌, arith}
+use Rattle.std.proofs.lemmas.List.{get_or-replicate}
+use Rattle.plane_sweep.specs.Packed.{spins_of}
+use Rattle.scalar_rule.specs.Neighbours.{spin, agree}
+use Rattle.spin_model.specs.Lattice.{volume}
+use Rattle.spin_model.proofs.Sites.{volume-bound}
+use Rattle.bit_totals.proofs.PlaceCounts.{all-agreeing, count-le, size-lawful}
+use Rattle.bit_totals.proofs.overlap.agreeing.Goals as goal
+
+pub count_planes-requires-clause-ones : goal.count_planes-requires-clause-ones
+count_planes-requires-clause-ones c = λ j h. get_or-replicate {A = ℕ} 2048 j (2 ^ 64 - 1) 0 h
+
+pub total-requires : goal.total-requires
+total-requires c = λ s h.
+    let one = c.requires in
+    let l = one.size in
+    let a = spins_of l s c.args.a.now.planes in
+    let b = spins_of l s c.args.b.now.planes in
+    omega (arith, c.count_planes.ensures l s one.first h, all-agreeing l a b one.lawful, count-le (λ i. agree (spin a i) (spin b i)) (volume l), volume-bound l one.lawful)
+
+pub returns-clause-value : goal.returns-clause-value
+returns-clause-value c = λ l s f h.
+    let a = spins_of l s c.args.a.now.planes in
+    let b = spins_of l s c.args.b.now.planes in
+    c.total.ensures s h ∙ c.count_planes.ensures l s f h ∙ all-agreeing l a b (size-lawful l c.args.a.now c.args.b.now f c.requires)
+
+pub returns-clause-within : goal.returns-clause-within
+returns-clause-within c = λ l s f h.
+    let a = spins_of l s c.args.a.now.planes in
+    let b = spins_of l s c.args.b.now.planes in
+    let all = all-agreeing l a b (size-lawful l c.args.a.now c.args.b.now f c.requires) in
+    omega (arith, c.total.ensures s h, c.count_planes.ensures l s f h, all, count-le (λ i. agree (spin a i) (spin b i)) (volume l))

@@ -1,0 +1,10 @@
+-- The words below i.
+use Rattle.std.proofs.Common.{◌≡◌, ℕ, ◌+◌, ◌<◌, length, get_or}
+use Rattle.bit_totals.specs.Tallies.{mixed}
+use Rattle.bit_totals.proofs.tally.row_at.Given as goal
+
+abbrev pub invariant-words : goal.invariant-words
+invariant-words l = record {
+  long : length l.row ≡ 8;
+  done : (j : ℕ) → j < l.i → get_or l.row j 0 ≡ mixed l.first l.second l.third (l.at + j);
+}

@@ -1,0 +1,50 @@
+//! The words of the forward neighbours of a plane's sites, in the order of the sites.
+
+ghost use Rattle.std.specs.Prelude.{◌≡◌, ℕ, ◌+◌, ◌*◌, ◌%◌, ◌<◌, ◌≤◌, length, slice_index};
+ghost use Rattle.bit_totals.specs.Ahead.{Turned, TurnedRows};
+
+/// The words so many places on, the last ones followed by the first.
+#[inline]
+pub(crate) fn turn(out: &mut [u64], words: &[u64], step: usize)
+    requires sized { length out.old ≡ length words.now }
+    requires step { step ≤ length words.now }
+    ensures { Turned step words.now out.new }
+{
+    let kept = words.len() - step;
+    'front: for k in 0..kept {
+        out[k] = words[k + step];
+    }
+    'back: for k in 0..step {
+        out[kept + k] = words[k];
+    }
+}
+
+/// Row by row the words of the same row, those of each second row one place on.
+pub(crate) fn turn_rows(out: &mut [u64], words: &[u64], rows: usize, row: usize, parity: usize)
+    requires sized { length out.old ≡ length words.now }
+    requires rows { length words.now ≡ rows * row }
+    requires row { 0 < row }
+    requires parity { parity < 2 }
+    ensures { TurnedRows rows row parity words.now out.new }
+{
+    'rows: for y in 0..rows {
+        turn_row(out, words, y * row, row, (parity + y) % 2);
+    }
+}
+
+// One row, from a place on.
+#[inline]
+fn turn_row(out: &mut [u64], words: &[u64], start: usize, row: usize, step: usize)
+    requires sized { length out.old ≡ length words.now }
+    requires within { start + row ≤ length words.now }
+    requires step { step ≤ row }
+    ensures turned { (k : ℕ) → k < row
+        → slice_index out.new (start + k) ≡ slice_index words.now (start + (k + step) % row) }
+    ensures before { (j : ℕ) → j < start → slice_index out.new j ≡ slice_index out.old j }
+{
+    turn(
+        &mut out[start..start + row],
+        &words[start..start + row],
+        step,
+    );
+}

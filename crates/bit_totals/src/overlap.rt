@@ -1,0 +1,42 @@
+//! The agreeing sites of two replicas.
+
+ghost use Rattle.std.specs.Prelude.{◌≡◌, ℕ, ◌-◌, ◌*◌, ◌^◌, ◌<◌, ◌≤◌, length, slice_index};
+ghost use Rattle.bit_totals.specs.Counted.{agreeing_from, HaveOneSize};
+ghost use Rattle.bit_totals.specs.Tallies.{tallied};
+ghost use Rattle.multispin_word.specs.Planes.{number};
+ghost use Rattle.plane_sweep.specs.Packed.{spins_of, FitsReplica};
+ghost use Rattle.scalar_rule.specs.Sums as model;
+ghost use Rattle.spin_model.specs.Lattice.{half_plane, volume};
+
+use crate::energy::{PLANE, words_of};
+use crate::tally::Tally;
+use multispin_word::Planes;
+use plane_sweep::Replica;
+
+/// Q of each disorder sample: at how many of V sites two replicas of one size from 4 to 64 agree.
+/// Takes no memory.
+pub fn agreeing(a: &Replica, b: &Replica) -> Planes<20>
+    requires { HaveOneSize a.now b.now }
+    ensures value { (l s : ℕ) → FitsReplica l a.now → s < 64 → number result.words s
+        ≡ model.agreeing l (spins_of l s a.now.planes) (spins_of l s b.now.planes) }
+    ensures within { (l s : ℕ) → FitsReplica l a.now → s < 64 → number result.words s ≤ volume l }
+{
+    let ones = [u64::MAX; PLANE];
+    count_planes(a, b, &ones).total()
+}
+
+// The same, with words of ones: plane by plane.
+fn count_planes(a: &Replica, b: &Replica, ones: &[u64]) -> Tally
+    requires size { HaveOneSize a.now b.now }
+    requires room { length ones.now ≡ PLANE }
+    requires ones { (j : ℕ) → j < PLANE → slice_index ones.now j ≡ 2 ^ 64 - 1 }
+    ensures { (l s : ℕ) → FitsReplica l a.now → s < 64 → tallied result.rows s
+        ≡ agreeing_from l (spins_of l s a.now.planes) (spins_of l s b.now.planes) (2 * l * half_plane l) }
+{
+    let mut tally = Tally::none();
+    'planes: for q in 0..a.planes.len() as u32 {
+        let own = words_of(a, q);
+        tally.add(&ones[..own.len()], own, words_of(b, q));
+    }
+    tally
+}

@@ -1,0 +1,155 @@
+//! How many of many words have each sample's bit.
+
+ghost use Rattle.std.specs.Prelude.{◌≡◌, ℕ, ◌+◌, ◌^◌, ◌<◌, ◌≤◌, length, slice_index};
+ghost use Rattle.multispin_word.specs.Planes.{number};
+ghost use Rattle.bit_totals.specs.Tallies.{lane_number, in_lanes, tallied, mixed, set_below};
+
+use crate::lanes::{add_rows, count_rows};
+use bit_compare::add;
+use multispin_word::Planes;
+
+/// A number of each sample, as the sum of eight that lie side by side: word i of row w is plane w of
+/// the number in lane i.
+#[derive(Drop)]
+pub(crate) struct Tally {
+    pub rows: [[u64; 8]; 20],
+}
+
+impl Tally {
+    /// The number 0 for all samples.
+    pub fn none() -> Tally
+        ensures { (b : ℕ) → tallied result.rows b ≡ 0 }
+    {
+        Tally {
+            rows: [[0u64; 8]; 20],
+        }
+    }
+
+    /// The numbers in planes.
+    pub fn total(&self) -> Planes<20>
+        requires { (b : ℕ) → b < 64 → tallied self.now.rows b < 2 ^ 20 }
+        ensures { (b : ℕ) → b < 64 → number result.words b ≡ tallied self.now.rows b }
+    {
+        let mut total = Planes::zero();
+        'lanes: for lane in 0..8usize {
+            add(&mut total, &column(&self.rows, lane));
+        }
+        total
+    }
+
+    /// Adds to each sample's number in how many places an odd number of the three words has its bit.
+    pub fn add(&mut self, first: &[u64], second: &[u64], third: &[u64])
+        requires second { length second.now ≡ length first.now }
+        requires third { length third.now ≡ length first.now }
+        requires room { (b : ℕ) → b < 64 → tallied self.old.rows b + length first.now + 64 < 2 ^ 20 }
+        ensures { (b : ℕ) → b < 64 → tallied self.new.rows b
+            ≡ tallied self.old.rows b + set_below (mixed first.now second.now third.now) b (length first.now) }
+    {
+        let mut at = 0;
+        'whole_blocks: while first.len() - at >= 64 {
+            add_block(&mut self.rows, first, second, third, at);
+            at += 64;
+        }
+        'rows: while at < first.len() {
+            add_row(&mut self.rows, first, second, third, at);
+            at += 8;
+        }
+    }
+}
+
+// One lane's number.
+#[inline]
+fn column(rows: &[[u64; 8]; 20], lane: usize) -> Planes<20>
+    requires { lane < 8 }
+    ensures { (b : ℕ) → number result.words b ≡ lane_number rows.now lane b }
+{
+    let mut words = [0u64; 20];
+    'rows: for w in 0..20usize {
+        words[w] = rows[w][lane];
+    }
+    Planes { words }
+}
+
+// The 64 places from one on.
+#[inline]
+fn add_block(rows: &mut [[u64; 8]; 20], first: &[u64], second: &[u64], third: &[u64], at: usize)
+    requires second { length second.now ≡ length first.now }
+    requires third { length third.now ≡ length first.now }
+    requires within { at + 64 ≤ length first.now }
+    requires room { (b : ℕ) → b < 64 → tallied rows.old b + 64 < 2 ^ 20 }
+    ensures { (b : ℕ) → b < 64
+        → tallied rows.new b + set_below (mixed first.now second.now third.now) b at
+        ≡ tallied rows.old b + set_below (mixed first.now second.now third.now) b (at + 64) }
+{
+    let eight = [
+        row_at(first, second, third, at),
+        row_at(first, second, third, at + 8),
+        row_at(first, second, third, at + 16),
+        row_at(first, second, third, at + 24),
+        row_at(first, second, third, at + 32),
+        row_at(first, second, third, at + 40),
+        row_at(first, second, third, at + 48),
+        row_at(first, second, third, at + 56),
+    ];
+    add_rows(rows, &count_rows(&eight));
+}
+
+// The eight places from one on, of which some may be past the end.
+#[inline]
+fn add_row(rows: &mut [[u64; 8]; 20], first: &[u64], second: &[u64], third: &[u64], at: usize)
+    requires second { length second.now ≡ length first.now }
+    requires third { length third.now ≡ length first.now }
+    requires within { at < length first.now }
+    requires room { (b : ℕ) → b < 64 → tallied rows.old b + 64 < 2 ^ 20 }
+    ensures { (b : ℕ) → b < 64
+        → tallied rows.new b + set_below (mixed first.now second.now third.now) b at
+        ≡ tallied rows.old b + set_below (mixed first.now second.now third.now) b (at + 8) }
+{
+    let row = row_from(first, second, third, at);
+    add_rows(rows, &[row, [0; 8], [0; 8], [0; 8]]);
+}
+
+// The mixed words of the eight places from one on, zeros past the end.
+#[inline]
+fn row_from(first: &[u64], second: &[u64], third: &[u64], at: usize) -> [u64; 8]
+    requires second { length second.now ≡ length first.now }
+    requires third { length third.now ≡ length first.now }
+    requires within { at < length first.now }
+    ensures { (i : ℕ) → i < 8 → slice_index result i ≡ mixed first.now second.now third.now (at + i) }
+{
+    if at + 8 <= first.len() {
+        row_at(first, second, third, at)
+    } else {
+        last_row(first, second, third, at)
+    }
+}
+
+// The mixed words of eight places.
+#[inline]
+fn row_at(first: &[u64], second: &[u64], third: &[u64], at: usize) -> [u64; 8]
+    requires second { length second.now ≡ length first.now }
+    requires third { length third.now ≡ length first.now }
+    requires within { at + 8 ≤ length first.now }
+    ensures { (i : ℕ) → i < 8 → slice_index result i ≡ mixed first.now second.now third.now (at + i) }
+{
+    let mut row = [0u64; 8];
+    'words: for i in 0..8usize {
+        row[i] = first[at + i] ^ second[at + i] ^ third[at + i];
+    }
+    row
+}
+
+// The mixed words of the last places, and zeros.
+fn last_row(first: &[u64], second: &[u64], third: &[u64], at: usize) -> [u64; 8]
+    requires second { length second.now ≡ length first.now }
+    requires third { length third.now ≡ length first.now }
+    requires within { at < length first.now }
+    requires last { length first.now < at + 8 }
+    ensures { (i : ℕ) → i < 8 → slice_index result i ≡ mixed first.now second.now third.now (at + i) }
+{
+    let mut row = [0u64; 8];
+    'words: for i in 0..first.len() - at {
+        row[i] = first[at + i] ^ second[at + i] ^ third[at + i];
+    }
+    row
+}

@@ -1,0 +1,145 @@
+//! Sums at the greatest size, and against the scalar calls at a size whose planes fill no row of eight
+//! words.
+
+ghost use Rattle.std.specs.Prelude.{◌≡◌, ◌<◌, length, IfOk, vec_len};
+ghost use Rattle.plane_sweep.specs.Packed.{FitsPlane, FitsReplica};
+ghost use Rattle.spin_model.specs.Lattice.{volume, half_plane};
+
+use crate::{agreeing, unsatisfied};
+use coupling_set::Couplings;
+use lattice_geometry::Lattice;
+use multispin_word::bit;
+use plain_list::Items;
+use plane_sweep::{Plane, Replica};
+use pr_generator::Wheel;
+use scalar_rule::{PlainCopy, Plan};
+use std::alloc::Global;
+use std::test::Fail;
+use threshold_table::{RuleKind, RuleRow, RuleTable, SwapTable};
+
+// A plan of one slot with these couplings.
+fn plan_of(alloc: Global, lattice: Lattice, couplings: Couplings) -> Result<Plan, Fail>
+    requires { couplings.size ≡ lattice }
+    ensures { IfOk result (λ plan. plan.size ≡ lattice) }
+{
+    let rules = RuleTable::from_rows(alloc, RuleKind::Heat, &[RuleRow { values: [0; 7] }])?;
+    let swaps = SwapTable::from_rows(alloc, &[[0; 1]; 0])?;
+    Ok(Plan::new(lattice, rules, swaps, couplings, 1, 7))
+}
+
+// A replica with these words, those of the sites in compact order.
+fn replica_of(alloc: Global, lattice: &Lattice, words: &[u64]) -> Result<Replica, Fail>
+    requires { length words.now ≡ volume lattice.now }
+    ensures { IfOk result (λ replica. FitsReplica lattice.now replica) }
+{
+    let size = lattice.size() as usize;
+    let half_plane = size * (size / 2);
+    let mut planes = Vec::new(alloc);
+    'planes: for q in 0..2 * size {
+        planes.push(plane_of(
+            alloc,
+            lattice,
+            &words[q * half_plane..q * half_plane + half_plane],
+        )?)?;
+    }
+    Ok(Replica {
+        planes: Items::of(planes),
+        labels: [0; 64],
+    })
+}
+
+fn plane_of(alloc: Global, lattice: &Lattice, words: &[u64]) -> Result<Plane, Fail>
+    requires { length words.now ≡ half_plane lattice.now }
+    ensures { IfOk result (λ plane. FitsPlane lattice.now plane) }
+{
+    Ok(Plane {
+        words: Items::of(Vec::from_slice(alloc, words)?),
+        wheel: Wheel::from_words(&[0; 61]),
+    })
+}
+
+// One sample's spins in these words.
+fn copy_of(alloc: Global, lattice: &Lattice, words: &[u64], sample: u32) -> Result<PlainCopy, Fail>
+    requires words { length words.now ≡ volume lattice.now }
+    requires sample { sample < 64 }
+    ensures { IfOk result (λ copy. length copy.spins ≡ volume lattice.now) }
+{
+    let mut spins = Vec::new(alloc);
+    'sites: for site in 0..lattice.sites() {
+        spins.push(bit(words[lattice.compact(site) as usize], sample))?;
+    }
+    Ok(PlainCopy {
+        spins: Items::of(spins),
+        wheels: Items::of(Vec::new(alloc)),
+        replica: 0,
+    })
+}
+
+// Words by Marsaglia's xorshift generator, with the shifts 13, 7 and 17.
+fn random_words(alloc: Global, lattice: &Lattice, mut state: u64) -> Result<Vec<u64>, Fail>
+    ensures { IfOk result (λ words. vec_len words ≡ volume lattice.now) }
+{
+    let mut words = Vec::new(alloc);
+    'words: for _ in 0..lattice.sites() {
+        state ^= state << 13;
+        state ^= state >> 7;
+        state ^= state << 17;
+        words.push(state)?;
+    }
+    Ok(words)
+}
+
+// +1 at the sites of colour 0, and -1 at those of colour 1.
+fn checkerboard(alloc: Global, lattice: &Lattice) -> Result<Vec<u64>, Fail>
+    ensures { IfOk result (λ words. vec_len words ≡ volume lattice.now) }
+{
+    let mut words = Vec::new(alloc);
+    'words: for place in 0..lattice.sites() {
+        words.push(if place < lattice.sites() / 2 {
+            u64::MAX
+        } else {
+            0
+        })?;
+    }
+    Ok(words)
+}
+
+#[test]
+fn greatest_energy_and_overlap(rt: HostRuntime) -> Result<(), Fail> {
+    let alloc = rt.alloc();
+    let lattice = Lattice::of(64)?;
+    let plan = plan_of(alloc, lattice, Couplings::plus(alloc, lattice)?)?;
+    let words = checkerboard(alloc, &lattice)?;
+    let replica = replica_of(alloc, &lattice, words.as_slice())?;
+    let mut energies = [0; 64];
+    unsatisfied(&replica, &plan).to_numbers(&mut energies);
+    let mut overlaps = [0; 64];
+    agreeing(&replica, &replica).to_numbers(&mut overlaps);
+    for sample in 0..64usize {
+        assert_eq!(rt; energies[sample], 786432, "sample {sample}");
+        assert_eq!(rt; overlaps[sample], 262144, "sample {sample}");
+    }
+    Ok(())
+}
+
+#[test]
+fn sums_at_size_6_equal_64_scalar_sums(rt: HostRuntime) -> Result<(), Fail> {
+    let alloc = rt.alloc();
+    let lattice = Lattice::of(6)?;
+    let plan = plan_of(alloc, lattice, Couplings::random(alloc, lattice, 3)?)?;
+    let first = random_words(alloc, &lattice, 88172645463325252)?;
+    let second = random_words(alloc, &lattice, 1)?;
+    let a = replica_of(alloc, &lattice, first.as_slice())?;
+    let b = replica_of(alloc, &lattice, second.as_slice())?;
+    let energies = unsatisfied(&a, &plan);
+    let overlaps = agreeing(&a, &b);
+    for sample in 0..64 {
+        let own = copy_of(alloc, &lattice, first.as_slice(), sample)?;
+        let other = copy_of(alloc, &lattice, second.as_slice(), sample)?;
+        let energy = scalar_rule::unsatisfied(&own, &plan, sample);
+        let overlap = scalar_rule::agreeing(&own, &other);
+        assert_eq!(rt; energies.number_at(sample), energy, "sample {sample}");
+        assert_eq!(rt; overlaps.number_at(sample), overlap, "sample {sample}");
+    }
+    Ok(())
+}

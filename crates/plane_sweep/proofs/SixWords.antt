@@ -1,0 +1,142 @@
+-- Six words of 64 samples: their agreement with a spin, and what they are of the words lent.
+use Rattle.std.proofs.Common.{◌≡◌, ℕ, ◌+◌, ◌-◌, ◌*◌, ◌/◌, ◌%◌, ◌^◌, ◌<◌, ◌≤◌, ◌==◌, Bool, true, false, not, cond, bit_xor, List, [], ◌∷◌, length, get_or, refl, sym, ap, ◌∙◌, arith}
+use Rattle.std.proofs.lemmas.Nat.{xor_lt, mul-le, mul-add-lt, mod_below, row_fits}
+use Rattle.std.proofs.Math.Nat.{mul_comm}
+use Rattle.std.specs.Int.{bit_not, w64}
+use Rattle.coupling_set.specs.CouplingWords.{CouplingsView, bond_word}
+use Rattle.local_rule.specs.SiteBits.{set_count}
+use Rattle.multispin_word.specs.Planes.{differs}
+use Rattle.multispin_word.proofs.Bits.{is_set-xor, is_set-not}
+use Rattle.scalar_rule.specs.Neighbours.{agree}
+use Rattle.spin_model.specs.Lattice.{IsLawfulSize, half_plane, next, previous}
+use Rattle.spin_model.specs.Words.{is_set}
+use Rattle.plane_sweep.specs.Packed.{plane_at}
+use Rattle.plane_sweep.specs.Beginnings.{site_of}
+use Rattle.plane_sweep.specs.Neighbourhood.{pulls, Surrounds, IsLent, right_place, left_place}
+use Rattle.plane_sweep.specs.PlaneSweep.{agreeing_count, IsRow, HasRows, pulls_lent}
+use Rattle.plane_sweep.specs.declared.replica.Plane.{Plane}
+use Rattle.plane_sweep.specs.declared.rows.Row.{Row}
+use Rattle.plane_sweep.specs.declared.surroundings.Surroundings.{Surroundings}
+
+not-differs : (x y : Bool) → not (differs x y) ≡ agree x y
+not-differs true true = refl
+not-differs true false = refl
+not-differs false true = refl
+not-differs false false = refl
+
+pub is_set-agree : (a b k : ℕ) → a < 2 ^ 64 → b < 2 ^ 64 → k < 64 → is_set (bit_not w64 (bit_xor a b)) k ≡ agree (is_set a k) (is_set b k)
+is_set-agree a b k a_fits b_fits below =
+    is_set-not (bit_xor a b) k (xor_lt 64 a b a_fits b_fits) below ∙ ap not (is_set-xor a b k) ∙ not-differs (is_set a k) (is_set b k)
+
+-- six words that agree bit by bit
+pub agreeing-six : (six : List ℕ) (w b : ℕ) (p q r s t u : ℕ) → length six ≡ 6
+    → is_set p b ≡ agree (is_set (get_or six 0 0) b) (is_set w b)
+    → is_set q b ≡ agree (is_set (get_or six 1 0) b) (is_set w b)
+    → is_set r b ≡ agree (is_set (get_or six 2 0) b) (is_set w b)
+    → is_set s b ≡ agree (is_set (get_or six 3 0) b) (is_set w b)
+    → is_set t b ≡ agree (is_set (get_or six 4 0) b) (is_set w b)
+    → is_set u b ≡ agree (is_set (get_or six 5 0) b) (is_set w b)
+    → set_count (p ∷ q ∷ r ∷ s ∷ t ∷ u ∷ []) b ≡ agreeing_count six w b
+agreeing-six (x₀ ∷ x₁ ∷ x₂ ∷ x₃ ∷ x₄ ∷ x₅ ∷ []) w b p q r s t u sized e₀ e₁ e₂ e₃ e₄ e₅ = rw (e₀, e₁, e₂, e₃, e₄, e₅) refl
+agreeing-six [] w b p q r s t u sized e₀ e₁ e₂ e₃ e₄ e₅ = absurd (omega (arith, sized))
+agreeing-six (x₀ ∷ []) w b p q r s t u sized e₀ e₁ e₂ e₃ e₄ e₅ = absurd (omega (arith, sized))
+agreeing-six (x₀ ∷ x₁ ∷ []) w b p q r s t u sized e₀ e₁ e₂ e₃ e₄ e₅ = absurd (omega (arith, sized))
+agreeing-six (x₀ ∷ x₁ ∷ x₂ ∷ []) w b p q r s t u sized e₀ e₁ e₂ e₃ e₄ e₅ = absurd (omega (arith, sized))
+agreeing-six (x₀ ∷ x₁ ∷ x₂ ∷ x₃ ∷ []) w b p q r s t u sized e₀ e₁ e₂ e₃ e₄ e₅ = absurd (omega (arith, sized))
+agreeing-six (x₀ ∷ x₁ ∷ x₂ ∷ x₃ ∷ x₄ ∷ []) w b p q r s t u sized e₀ e₁ e₂ e₃ e₄ e₅ = absurd (omega (arith, sized))
+agreeing-six (x₀ ∷ x₁ ∷ x₂ ∷ x₃ ∷ x₄ ∷ x₅ ∷ x₆ ∷ xs) w b p q r s t u sized e₀ e₁ e₂ e₃ e₄ e₅ = absurd (omega (arith, sized))
+
+-- a place of a row lies in its plane
+pub row-within : (l y k : ℕ) → y < l → k < l / 2 → y * (l / 2) + k < half_plane l
+row-within l y k row column =
+    let bound = mul-add-lt y (l / 2) k l row column in
+    let turned = mul_comm (l / 2) l in
+    omega arith
+
+row-whole : (l y : ℕ) → y < l → y * (l / 2) + l / 2 ≤ half_plane l
+row-whole l y row = row_fits y (l / 2) l (l / 2) row (omega arith)
+
+half_plane-few : (l : ℕ) → l ≤ 64 → half_plane l ≤ 2048
+half_plane-few l few = mul-le l (l / 2) 64 32 few (omega arith)
+
+-- the rows of a plane lie in the words lent
+pub rows-lent : (couplings : CouplingsView) (other : List Plane) (c z y : ℕ) (s : Surroundings) (row : Row) → IsLawfulSize couplings.size → y < couplings.size
+    → Surrounds couplings other c z s → IsRow couplings.size c z y row → HasRows (length s.here.now) s row
+rows-lent couplings other c z y s row lawful within around at =
+    let l = couplings.size in
+    let on : next l y < l = mod_below (y + 1) l (omega arith) in
+    let back : previous l y < l = mod_below (y + l - 1) l (omega arith) in
+    let middle = row-whole l y within in
+    let up = row-whole l (next l y) on in
+    let down = row-whole l (previous l y) back in
+    let few = half_plane-few l (omega arith) in
+    let sized = around.here_sized in
+    let half = at.half in
+    let here = at.here in
+    let above = at.up in
+    let below = at.down in
+    record {
+      few = omega arith;
+      above = around.above_sized ∙ sym sized;
+      below = around.below_sized ∙ sym sized;
+      ahead_x = around.ahead_x.sized ∙ sym sized;
+      ahead_y = around.ahead_y.sized ∙ sym sized;
+      ahead_z = around.ahead_z.sized ∙ sym sized;
+      here_x = around.here_x.sized ∙ sym sized;
+      here_y = around.here_y.sized ∙ sym sized;
+      below_z = around.below_z.sized ∙ sym sized;
+      middle = omega arith;
+      up = omega arith;
+      down = omega arith;
+    }
+
+-- the columns beside a column, by whether the row's sites begin at x = 0
+right-is : (half p y k : ℕ) (even : Bool) → even ≡ (p == 0) → y * half + cond even k (next half k) ≡ right_place half p y k
+right-is half p y k even same = ap (λ t. y * half + cond t k (next half k)) same
+
+left-is : (half p y k : ℕ) (even : Bool) → even ≡ (p == 0) → y * half + cond even (previous half k) k ≡ left_place half p y k
+left-is half p y k even same = ap (λ t. y * half + cond t (previous half k) k) same
+
+pub right-within : (l p y k : ℕ) → IsLawfulSize l → y < l → k < l / 2 → right_place (l / 2) p y k < half_plane l
+right-within l p y k lawful row column = elim (p == 0) as (λ t. y * (l / 2) + cond t k (next (l / 2) k) < half_plane l) [
+  | true ↦ row-within l y k row column
+  | false ↦ row-within l y (next (l / 2) k) row (mod_below (k + 1) (l / 2) (omega arith))
+]
+
+pub left-within : (l p y k : ℕ) → IsLawfulSize l → y < l → k < l / 2 → left_place (l / 2) p y k < half_plane l
+left-within l p y k lawful row column = elim (p == 0) as (λ t. y * (l / 2) + cond t (previous (l / 2) k) k < half_plane l) [
+  | true ↦ row-within l y (previous (l / 2) k) row (mod_below (k + l / 2 - 1) (l / 2) (omega arith))
+  | false ↦ row-within l y k row column
+]
+
+-- a word lent and a bond lent
+both-lent : (couplings : CouplingsView) (c z d : ℕ) (words spins lent : List ℕ) (i j m n : ℕ) → spins ≡ words → IsLent couplings c z d lent → n < half_plane couplings.size → i ≡ m → j ≡ n
+    → bit_xor (get_or spins i 0) (get_or lent j 0) ≡ bit_xor (get_or words m 0) (bond_word couplings (site_of couplings.size c z n) d)
+both-lent couplings c z d words spins lent i j m n same bonds within at to =
+    ap (λ xs. bit_xor (get_or xs i 0) (get_or lent j 0)) same
+    ∙ ap (λ a. bit_xor (get_or words a 0) (get_or lent j 0)) at
+    ∙ ap (λ a. bit_xor (get_or words m 0) (get_or lent a 0)) to
+    ∙ ap (bit_xor (get_or words m 0)) (bonds.words n within)
+
+pub pulls-lent : (couplings : CouplingsView) (other : List Plane) (c z y k : ℕ) (s : Surroundings) (row : Row) → IsLawfulSize couplings.size → y < couplings.size → k < couplings.size / 2
+    → Surrounds couplings other c z s → IsRow couplings.size c z y row → pulls_lent s row k ≡ pulls couplings other c z y k
+unfolding pulls pulls_lent
+pulls-lent couplings other c z y k s row lawful within column around at =
+    let l = couplings.size in
+    let p = (c + y + z) % 2 in
+    let on : next l y < l = mod_below (y + 1) l (omega arith) in
+    let back : previous l y < l = mod_below (y + l - 1) l (omega arith) in
+    let here : row.here + k ≡ y * (l / 2) + k = ap (λ n. n + k) at.here in
+    let up : row.up + k ≡ next l y * (l / 2) + k = ap (λ n. n + k) at.up in
+    let down : row.down + k ≡ previous l y * (l / 2) + k = ap (λ n. n + k) at.down in
+    let right : row.here + cond row.even k (next row.half k) ≡ right_place (l / 2) p y k =
+    ap (λ n. n + cond row.even k (next row.half k)) at.here ∙ ap (λ h. y * (l / 2) + cond row.even k (next h k)) at.half ∙ right-is (l / 2) p y k row.even at.even in
+    let left : row.here + cond row.even (previous row.half k) k ≡ left_place (l / 2) p y k =
+    ap (λ n. n + cond row.even (previous row.half k) k) at.here ∙ ap (λ h. y * (l / 2) + cond row.even (previous h k) k) at.half ∙ left-is (l / 2) p y k row.even at.even in
+    let e₀ = both-lent couplings c z 0 _ s.here.now s.ahead_x.now _ _ _ _ around.here around.ahead_x (row-within l y k within column) right here in
+    let e₁ = both-lent couplings c z 1 _ s.here.now s.ahead_y.now _ _ _ _ around.here around.ahead_y (row-within l y k within column) up here in
+    let e₂ = both-lent couplings c z 2 _ s.above.now s.ahead_z.now _ _ _ _ around.above around.ahead_z (row-within l y k within column) here here in
+    let e₃ = both-lent couplings (1 - c) z 0 _ s.here.now s.here_x.now _ _ _ _ around.here around.here_x (left-within l p y k lawful within column) left left in
+    let e₄ = both-lent couplings (1 - c) z 1 _ s.here.now s.here_y.now _ _ _ _ around.here around.here_y (row-within l (previous l y) k back column) down down in
+    let e₅ = both-lent couplings (1 - c) (previous l z) 2 _ s.below.now s.below_z.now _ _ _ _ around.below around.below_z (row-within l y k within column) here here in
+    cc

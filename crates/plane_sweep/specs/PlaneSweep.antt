@@ -1,0 +1,86 @@
+-- The sweep of the sites of one colour in a plane, for 64 samples at once.
+use Rattle.std.specs.Prelude.{◌≡◌, ℕ, ◌+◌, ◌-◌, ◌*◌, ◌/◌, ◌%◌, ◌^◌, ◌<◌, ◌≤◌, ◌==◌, if◌then◌else◌, bit_xor, List, [], ◌∷◌, take, drop, length, slice_index, count_by}
+use Rattle.coupling_set.specs.CouplingWords.{CouplingsView}
+use Rattle.local_rule.specs.SiteBits.{site_bits, set_count}
+use Rattle.scalar_rule.specs.Neighbours.{agree}
+use Rattle.spin_model.specs.Lattice.{half_plane, next, previous}
+use Rattle.spin_model.specs.SiteRule.{Rule, new_spin}
+use Rattle.spin_model.specs.Stream.{advanced, draws}
+use Rattle.spin_model.specs.Words.{is_set}
+use Rattle.threshold_table.specs.Tables.{rule_of}
+use Rattle.plane_sweep.specs.Neighbourhood.{pulls}
+use Rattle.plane_sweep.specs.Packed.{FitsPlane}
+use Rattle.plane_sweep.specs.Storing.{Changed}
+use Rattle.plane_sweep.specs.declared.replica.Plane.{Plane}
+use Rattle.plane_sweep.specs.declared.rows.Row.{Row}
+use Rattle.plane_sweep.specs.declared.rows.SlotRule.{SlotRule}
+use Rattle.plane_sweep.specs.declared.surroundings.Surroundings.{Surroundings}
+
+-- how many of the six neighbours of sample b agree with its spin: J s s' = +1
+abbrev pub agreeing_count : List ℕ → ℕ → ℕ → ℕ
+agreeing_count six word b = count_by (λ bit. agree bit (is_set word b)) (site_bits six b)
+
+-- a word after its site's update: in each sample the spin rule on the sample's six bits and its spin
+pub record SweepsWord (rule : Rule) (thresholds six : List ℕ) (random old new : ℕ) : Type 0 where
+  pub in_range : new < 2 ^ 64
+  pub bits : (b : ℕ) → b < 64 → is_set new b ≡ new_spin rule thresholds (set_count six b) (agreeing_count six old b) random (is_set old b)
+
+-- the words of plane z of colour c after the first n of its sites are updated, each by its draw
+abbrev pub SweepsWords : CouplingsView → List Plane → SlotRule → List ℕ → ℕ → ℕ → ℕ → List ℕ → List ℕ → Type 0
+SweepsWords couplings other rule draws c z n old new =
+    Changed (λ j. SweepsWord (rule_of rule.kind) rule.row.values (pulls couplings other c z (j / (couplings.size / 2)) (j % (couplings.size / 2))) (slice_index draws j)) n old new
+
+-- row y of plane z of colour c, and the rows beside it
+pub record IsRow (l c z y : ℕ) (row : Row) : Type 0 where
+  pub half : row.half ≡ l / 2
+  pub here : row.here ≡ y * (l / 2)
+  pub up : row.up ≡ next l y * (l / 2)
+  pub down : row.down ≡ previous l y * (l / 2)
+  pub even : row.even ≡ ((c + y + z) % 2 == 0)
+
+-- the words lent have as many items as those of the plane itself, and the three rows lie within them
+pub record HasRows (n : ℕ) (s : Surroundings) (row : Row) : Type 0 where
+  pub few : n ≤ 2048
+  pub above : length s.above.now ≡ n
+  pub below : length s.below.now ≡ n
+  pub ahead_x : length s.ahead_x.now ≡ n
+  pub ahead_y : length s.ahead_y.now ≡ n
+  pub ahead_z : length s.ahead_z.now ≡ n
+  pub here_x : length s.here_x.now ≡ n
+  pub here_y : length s.here_y.now ≡ n
+  pub below_z : length s.below_z.now ≡ n
+  pub middle : row.here + row.half ≤ n
+  pub up : row.up + row.half ≤ n
+  pub down : row.down + row.half ≤ n
+
+-- J times the neighbours' spins at column k, from the words lent
+unfoldable pub pulls_lent : Surroundings → Row → ℕ → List ℕ
+pulls_lent s row k =
+    bit_xor (slice_index s.here.now right) (slice_index s.ahead_x.now here)
+    ∷ bit_xor (slice_index s.here.now (row.up + k)) (slice_index s.ahead_y.now here)
+    ∷ bit_xor (slice_index s.above.now here) (slice_index s.ahead_z.now here)
+    ∷ bit_xor (slice_index s.here.now left) (slice_index s.here_x.now left)
+    ∷ bit_xor (slice_index s.here.now (row.down + k)) (slice_index s.here_y.now (row.down + k))
+    ∷ bit_xor (slice_index s.below.now here) (slice_index s.below_z.now here)
+    ∷ []
+  where
+    here : ℕ
+    here = row.here + k
+
+    right : ℕ
+    right = row.here + (if row.even then k else next row.half k)
+
+    left : ℕ
+    left = row.here + (if row.even then previous row.half k else k)
+
+-- a plane after its half sweep: its words from the other colour's planes, its generator a draw for each site further
+pub record SweepsPlane (couplings : CouplingsView) (other : List Plane) (rule : SlotRule) (c z : ℕ) (old new : Plane) : Type 0 where
+  pub fits : FitsPlane couplings.size new
+  pub words : SweepsWords couplings other rule (draws old.wheel (half_plane couplings.size)) c z (half_plane couplings.size) old.words new.words
+  pub generator : new.wheel ≡ advanced old.wheel (half_plane couplings.size)
+
+-- all planes after a sweep: those of colour 0 by the old ones of colour 1, and those of colour 1 by the new ones of colour 0
+pub record SweepsColours (couplings : CouplingsView) (rule : SlotRule) (old new : List Plane) : Type 0 where
+  pub sized : length new ≡ length old
+  pub first : Changed (SweepsPlane couplings (drop couplings.size old) rule 0) couplings.size (take couplings.size old) (take couplings.size new)
+  pub second : Changed (SweepsPlane couplings (take couplings.size new) rule 1) couplings.size (drop couplings.size old) (drop couplings.size new)

@@ -1,0 +1,74 @@
+//! What the sites of one colour in a plane read of the other colour's sites and of the bonds.
+
+ghost use Rattle.std.specs.Prelude.{◌≡◌, ℕ, ◌*◌, ◌-◌, ◌<◌, length, All};
+ghost use Rattle.plane_sweep.specs.Packed.{FitsPlane};
+ghost use Rattle.plane_sweep.specs.Neighbourhood.{Surrounds};
+ghost use Rattle.spin_model.specs.Lattice.{next, previous};
+
+use crate::replica::Plane;
+use coupling_set::Couplings;
+
+/// The words around the sites of one colour in plane z, each list in order of y, then x.
+#[derive(Drop)]
+pub(crate) struct Surroundings<'a> {
+    /// The spins of the other colour in plane z, one plane on, and one plane back.
+    pub(crate) here: &'a [u64],
+    pub(crate) above: &'a [u64],
+    pub(crate) below: &'a [u64],
+    /// The bonds from the sites one step on in x, y and z.
+    pub(crate) ahead_x: &'a [u64],
+    pub(crate) ahead_y: &'a [u64],
+    pub(crate) ahead_z: &'a [u64],
+    /// The bonds one step on from the other colour's sites: x and y in plane z, z one plane back.
+    pub(crate) here_x: &'a [u64],
+    pub(crate) here_y: &'a [u64],
+    pub(crate) below_z: &'a [u64],
+}
+
+/// The surroundings of the sites of a colour in plane `z`, from the planes of the other colour.
+pub(crate) fn lend<'a>(
+    other: &'a [Plane],
+    couplings: &'a Couplings,
+    colour: u32,
+    z: u32,
+) -> Surroundings<'a>
+    requires colour { colour < 2 }
+    requires plane { z < couplings.now.size }
+    requires count { length other.now ≡ couplings.now.size }
+    requires planes { All (FitsPlane couplings.now.size) other.now }
+    ensures { Surrounds couplings.now other.now colour z result }
+{
+    let size = couplings.size();
+    let (on, back) = (next(size, z), previous(size, z));
+    Surroundings {
+        here: other[z as usize].words.as_slice(),
+        above: other[on as usize].words.as_slice(),
+        below: other[back as usize].words.as_slice(),
+        ahead_x: couplings.plane(colour, z, 0),
+        ahead_y: couplings.plane(colour, z, 1),
+        ahead_z: couplings.plane(colour, z, 2),
+        here_x: couplings.plane(1 - colour, z, 0),
+        here_y: couplings.plane(1 - colour, z, 1),
+        below_z: couplings.plane(1 - colour, back, 2),
+    }
+}
+
+/// One step on around a boundary of n places.
+#[inline]
+pub(crate) fn next(n: u32, x: u32) -> u32
+    requires { x < n }
+    ensures value { result ≡ next n x }
+    ensures within { result < n }
+{
+    if x < n - 1 { x + 1 } else { 0 }
+}
+
+/// One step back.
+#[inline]
+pub(crate) fn previous(n: u32, x: u32) -> u32
+    requires { x < n }
+    ensures value { result ≡ previous n x }
+    ensures within { result < n }
+{
+    if x > 0 { x - 1 } else { n - 1 }
+}

@@ -1,0 +1,127 @@
+//! The sweep of all 64 samples of one replica.
+
+ghost use Rattle.std.specs.Prelude.{◌≡◌, ℕ, ◌*◌, ◌<◌, ◌≤◌, length, All};
+ghost use Rattle.plane_sweep.specs.Packed.{part_copy, FitsPlane, FitsReplica};
+ghost use Rattle.plane_sweep.specs.PlaneSweep.{SweepsPlane, SweepsColours};
+ghost use Rattle.plane_sweep.specs.Storing.{Changed};
+ghost use Rattle.scalar_rule.specs.Plan.{dynamics_of, slots_of};
+ghost use Rattle.scalar_rule.specs.Replica.{configuration_of, with_configuration};
+ghost use Rattle.scalar_rule.specs.Sweep as model;
+
+use crate::replica::{Plane, Replica};
+use crate::rows::{SlotRule, sweep_words};
+use coupling_set::Couplings;
+use scalar_rule::Plan;
+
+/// The greatest number of sites of one colour in a plane.
+const PLANE: usize = 2048;
+
+/// A sweep of one replica of a temperature slot, in all 64 samples at once: the half sweep of colour
+/// 0, then that of colour 1, which sees the new spins of colour 0. The planes of a colour may be cut
+/// into as many runs as there are `pieces`, 1 to 16; they are swept in one. Takes no memory.
+pub fn sweep<R: Sync>(_rt: &R, replica: &mut Replica, plan: &Plan, slot: u32, pieces: u32)
+    requires replica { FitsReplica plan.now.size replica.old }
+    requires slot { slot < slots_of plan.now }
+    requires some_pieces { 1 ≤ pieces }
+    requires few_pieces { pieces ≤ 16 }
+    ensures swept { (b : ℕ) → b < 64 → part_copy plan.now.size b replica.new
+        ≡ with_configuration (part_copy plan.now.size b replica.old)
+        (model.sweep (dynamics_of plan.now b slot) (configuration_of (part_copy plan.now.size b replica.old))) }
+    ensures fits { FitsReplica plan.now.size replica.new }
+{
+    // Until runs are forked the number of pieces changes nothing.
+    let _ = pieces;
+    sweep_replica(replica, plan, slot);
+}
+
+// The same, in one run a colour.
+fn sweep_replica(replica: &mut Replica, plan: &Plan, slot: u32)
+    requires replica { FitsReplica plan.now.size replica.old }
+    requires slot { slot < slots_of plan.now }
+    ensures swept { (b : ℕ) → b < 64 → part_copy plan.now.size b replica.new
+        ≡ with_configuration (part_copy plan.now.size b replica.old)
+        (model.sweep (dynamics_of plan.now b slot) (configuration_of (part_copy plan.now.size b replica.old))) }
+    ensures fits { FitsReplica plan.now.size replica.new }
+{
+    let rule = SlotRule {
+        kind: plan.rules().kind(),
+        row: *plan.rules().row(slot),
+    };
+    let size = plan.lattice().size() as usize;
+    sweep_colours(replica.planes.as_mut_slice(), plan.couplings(), &rule, size);
+}
+
+// Colour 0, then colour 1.
+fn sweep_colours(planes: &mut [Plane], couplings: &Couplings, rule: &SlotRule, size: usize)
+    requires size { size ≡ couplings.now.size }
+    requires count { length planes.old ≡ 2 * couplings.now.size }
+    requires planes { All (FitsPlane couplings.now.size) planes.old }
+    ensures { SweepsColours couplings.now rule.now planes.old planes.new }
+{
+    let mut draws = [0u32; PLANE];
+    let (first, second) = planes.split_at_mut(size);
+    sweep_colour(first, second, couplings, rule, &mut draws, 0);
+    sweep_colour(second, first, couplings, rule, &mut draws, 1);
+}
+
+// The planes of a colour, each of them by the planes of the other colour.
+fn sweep_colour(
+    own: &mut [Plane],
+    other: &[Plane],
+    couplings: &Couplings,
+    rule: &SlotRule,
+    draws: &mut [u32],
+    colour: u32,
+)
+    requires own { length own.old ≡ couplings.now.size }
+    requires planes { All (FitsPlane couplings.now.size) own.old }
+    requires other { length other.now ≡ couplings.now.size }
+    requires others { All (FitsPlane couplings.now.size) other.now }
+    requires draws { length draws.old ≡ PLANE }
+    requires colour { colour < 2 }
+    ensures { Changed (SweepsPlane couplings.now other.now rule.now colour) couplings.now.size own.old own.new }
+{
+    'planes: for z in 0..couplings.size() {
+        sweep_plane(
+            &mut own[z as usize],
+            other,
+            couplings,
+            rule,
+            draws,
+            colour,
+            z,
+        );
+    }
+}
+
+// The sites of a colour in plane z. Each has a draw, used or not, so that all samples can share it.
+fn sweep_plane(
+    plane: &mut Plane,
+    other: &[Plane],
+    couplings: &Couplings,
+    rule: &SlotRule,
+    draws: &mut [u32],
+    colour: u32,
+    z: u32,
+)
+    requires own { FitsPlane couplings.now.size plane.old }
+    requires other { length other.now ≡ couplings.now.size }
+    requires others { All (FitsPlane couplings.now.size) other.now }
+    requires draws { length draws.old ≡ PLANE }
+    requires colour { colour < 2 }
+    requires plane { z < couplings.now.size }
+    ensures { SweepsPlane couplings.now other.now rule.now colour z plane.old plane.new }
+{
+    let size = couplings.size();
+    let draws = &mut draws[..(size * (size / 2)) as usize];
+    plane.wheel.fill(draws);
+    sweep_words(
+        plane.words.as_mut_slice(),
+        other,
+        couplings,
+        rule,
+        draws,
+        colour,
+        z,
+    );
+}
