@@ -1,2 +1,4 @@
+pub mod Amounts
 pub mod RunFile
 pub mod CanonicalPlan
+pub mod PlanOf

@@ -24,7 +24,7 @@ pub enum Key {
 
 impl Key {
     /// The key as a run file writes it.
-    pub(crate) fn name(self) -> &'static str
+    pub fn name(self) -> &'static str
         ensures { result.now ≡ model.name_of self }
     {
         match self {

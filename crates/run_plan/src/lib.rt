@@ -1,8 +1,10 @@
-//! The run file, which says what a run is made of, and the digest of a plan.
+//! The run file, which says what a run is made of, the limits of a run and the digest of a plan.
 #![tactic(auto)]
 
+mod amounts;
 mod key;
 mod lawful;
+mod made;
 mod plan_digest;
 mod reading;
 mod refused;
@@ -10,7 +12,9 @@ mod run_file;
 mod texts;
 mod values;
 
+pub use amounts::{check_amount, row_count};
 pub use key::Key;
+pub use made::couplings_are_their_bonds;
 pub use plan_digest::{canonical_length, digest};
 pub use reading::read_plan;
 pub use refused::PlanRefused;

@@ -4,7 +4,7 @@ use lattice_geometry::Lattice;
 use scalar_rule::{Plan, Start};
 use std::alloc::{AllocError, Global};
 use std::test::Fail;
-use threshold_table::{RuleKind, RuleRow, RuleTable, SwapTable};
+use threshold_table::{RuleKind, RuleRow, RuleTable, SwapTable, read_rule, read_swap};
 
 const FILE: &str = "size = 4
 rule = \"heat\"
@@ -205,5 +205,59 @@ fn digests_of_known_plans(rt: HostRuntime) -> Result<(), Fail> {
         0x53, 0xe7,
     ];
     assert_eq!(rt; digest(&plan), known);
+    Ok(())
+}
+
+/// The ferromagnet at so many slots, each of whose thresholds is 0.
+fn ferromagnet(alloc: Global, size: u32, slots: u32) -> Result<Plan, Fail> {
+    let mut rules = String::new(alloc);
+    let mut swaps = String::new(alloc);
+    for slot in 0..slots {
+        rules.push_str("0,0,0,0,0,0,0\n")?;
+        if slot > 0 {
+            swaps.push_str("0\n")?;
+        }
+    }
+    let rules = read_rule(alloc, rules.as_bytes(), RuleKind::Heat)?;
+    let swaps = read_swap(alloc, swaps.as_bytes(), rules.slots())?;
+    if swaps.pairs() + 1 != rules.slots() {
+        return Err("as many pairs as slots".into());
+    }
+    let lattice = Lattice::of(size)?;
+    let couplings = Couplings::plus(alloc, lattice)?;
+    Ok(Plan::new(lattice, rules, swaps, couplings, 1, 7))
+}
+
+/// What the amount of a run from epoch 0, which prints each row and all spins, is answered.
+fn amount(alloc: Global, plan: &Plan, samples: u32, until: u64) -> Result<String, Fail> {
+    if samples < 1 || samples > 64 || until > 1000000000 {
+        return Err("an amount within its limits".into());
+    }
+    let orders = Orders {
+        samples,
+        epochs: 1,
+        every: 1,
+        start: Start::Up,
+        spins: true,
+    };
+    match check_amount(plan, &orders, 0, until) {
+        Ok(()) => Ok(String::from_str(alloc, "printed")?),
+        Err(refused) => Ok(format!(in alloc; "{refused}")?),
+    }
+}
+
+#[test]
+fn amounts_at_their_limits(rt: HostRuntime) -> Result<(), Fail> {
+    let alloc = rt.alloc();
+    for (size, slots, samples, until, told) in [
+        (4, 1, 1, 4194304, "printed"),
+        (4, 1, 1, 4194305, "too many rows: 4194305"),
+        (64, 8, 64, 0, "printed"),
+        (64, 9, 64, 0, "too many spin bits: 301989888"),
+        (64, 9, 64, 1000000000, "too many spin bits: 301989888"),
+    ] {
+        let plan = ferromagnet(alloc, size, slots)?;
+        assert_eq!(rt; amount(alloc, &plan, samples, until)?.as_str(), told);
+    }
     Ok(())
 }

@@ -1,0 +1,36 @@
+-- What is put behind the head of the line is a prefix of it at each error.
+use Rattle.std.proofs.Common.{◌≡◌, ◌++◌, ◌%◌, ap, ◌∙◌, subst, codes}
+use Rattle.std.specs.Prelude.{Result, Ok, Err, OnErr}
+use Rattle.glass_edges.specs.Contents.{AppendsPrefix}
+use Rattle.glass_edges.proofs.Puts.{front-then, front-more, front-prefix, front-failed, OnErr_of}
+use Rattle.scalar_rule.specs.SpinDigits.{spin_digits}
+use Rattle.plane_sweep.specs.Packed.{spins_of}
+use Rattle.report_text.specs.Lines.{spins_head, spins_line}
+use Rattle.report_text.proofs.spin_line.spins.Goals as goal
+
+OnErr_map : {T E P Q : Type 0} → (P → Q) → (r : Result T E) → OnErr r P → OnErr r Q
+OnErr_map f (Ok x) p = tt
+OnErr_map f (Err e) p = f p
+
+pub returns-in_err-make_room-clause-prefix : goal.returns-in_err-make_room-clause-prefix
+unfolding spins_line
+returns-in_err-make_room-clause-prefix g c =
+    let words = spins_head c.args.sample c.args.slot c.args.copy in
+    let digits = spin_digits c.args.lattice (spins_of c.args.lattice (c.args.sample % 64) c.args.replica.now.planes) in
+    let before = g.O.Sink.taken c.args.out.now in
+    let now = g.O.Sink.taken c.make_room.new.out in
+    let head : c.add_head.new.line ≡ words = c.add_head.ensures ∙ ap (λ xs. xs ++ words) c.new-line.ensures in
+    OnErr_of _ (subst (λ xs. AppendsPrefix before now (xs ++ digits ++ codes "\n")) head
+    (front-failed _ _ _ _ _ (codes "\n") c.in_ok-put_digits.ensures.front c.in_err-make_room.ensures.prefix))
+
+pub returns-clause-prefix : goal.returns-clause-prefix
+unfolding spins_line
+returns-clause-prefix g c =
+    let words = spins_head c.args.sample c.args.slot c.args.copy in
+    let digits = spin_digits c.args.lattice (spins_of c.args.lattice (c.args.sample % 64) c.args.replica.now.planes) in
+    let before = g.O.Sink.taken c.args.out.now in
+    let now = g.O.Sink.taken c.put.new.out in
+    let head : c.add_head.new.line ≡ words = c.add_head.ensures ∙ ap (λ xs. xs ++ words) c.new-line.ensures in
+    let front = front-then _ _ _ _ _ _ c.in_ok-put_digits.ensures.front c.in_ok-make_room.ensures.front in
+    OnErr_map (λ p. subst (λ xs. AppendsPrefix before now (xs ++ digits ++ codes "\n")) head
+    (front-prefix _ _ _ _ _ (front-more _ _ _ _ (codes "\n") front) (subst (AppendsPrefix _ now) c.add.ensures p))) c.put.result c.put.ensures.prefix

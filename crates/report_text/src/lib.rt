@@ -1,0 +1,12 @@
+//! The lines of a report. Each goes to the output through a fixed buffer, and takes no memory.
+#![tactic(auto)]
+
+mod digits;
+mod lines;
+mod spin_line;
+#[cfg(test)]
+mod tests;
+
+pub use digits::spin_digit;
+pub use lines::{end, header, row};
+pub use spin_line::spins;
