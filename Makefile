@@ -1,8 +1,7 @@
 # make        builds the program as ./glass, for this processor
-# make run    builds it and runs the main job
+# make run    builds it and runs the study of examples/ising_4
 # make clean  removes the program; what was proved is kept
 
-ARGUMENTS = plain 4 1 7 0 0 0 0 0 0 0
 SOURCES := $(shell find crates -path '*/out' -prune -o \( -name '*.rt' -o -name '*.antt' \) -print)
 
 .PHONY: all run clean
@@ -12,7 +11,7 @@ glass: $(SOURCES) crates.txt tools/build
 	@tools/build
 
 run: glass
-	@./glass $(ARGUMENTS)
+	@examples/ising_4/study
 
 clean:
 	rm -f glass
