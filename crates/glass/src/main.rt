@@ -1,7 +1,7 @@
 //! The program `glass`: the command line, the standard streams and the exit status.
 #![tactic(auto)]
 
-use glass_edges::{MemoryShelf, OpenGate, StreamSink};
+use glass_edges::{FileShelf, OpenGate, StreamSink};
 use glass_main::{glass, no_memory};
 use std::process::ExitCode;
 use std::{env, io};
@@ -17,7 +17,7 @@ fn main(rt: HostRuntime) -> ExitCode {
         // Words that are not UTF-8 are no command, and neither are no words.
         Err(_) => Vec::new(rt.alloc()),
     };
-    let mut shelf = MemoryShelf::new(rt.alloc(), Vec::new(rt.alloc()));
+    let mut shelf = FileShelf::of(&rt);
     let status = glass(
         &rt,
         rt.alloc(),

@@ -1,4 +1,11 @@
-pub mod Digits
 pub mod Numbers
 pub mod SpinText
 pub mod Outcomes
+pub mod Fetching
+pub mod SwapPairs
+pub mod PrintedBytes
+pub mod LongLines
+pub mod OpenedRuns
+pub mod Amounts
+pub mod RunEndings
+pub mod SaidWords

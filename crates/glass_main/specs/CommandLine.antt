@@ -1,5 +1,6 @@
 -- The command that the words after the program's name ask for.
-use Rattle.std.specs.Prelude.{ℕ, ◌^◌, ◌-◌, ◌==◌, if◌then◌else◌, List, length, codes, Option, Some, None, option_map}
+use Rattle.std.specs.Prelude.{ℕ, ◌^◌, ◌-◌, Bool, not, ◌&&◌, ◌==◌, nat_le, nat_lt, if◌then◌else◌, List, length, take, drop, codes, Option, Some, None, option_map, unwrap_or}
+use Rattle.std.specs.List.{fold, position_or_len, before_first, after_first}
 use Rattle.std.specs.Str.{bytes_eq}
 use Rattle.glass_main.specs.Words.{given, word_at, size_word, number_word, number_words}
 
@@ -10,9 +11,19 @@ pub record PlainOrder : Type 0 where
   pub seed : ℕ
   pub thresholds : List ℕ
 
--- a command of the program
+-- a run: the name of its run file, the workers, the pieces that the planes of a sweep are cut into, and the epoch to stop at
+-- where it isn't the run file's
+pub record RunOrder : Type 0 where
+  pub run : List ℕ
+  pub workers : ℕ
+  pub pieces : ℕ
+  pub until : Option ℕ
+
+-- a command of the program: one replica of the ferromagnet; a look at the run file of a name; a run
 pub data Command : Type 0 where
   Plain : PlainOrder → Command
+  Check : List ℕ → Command
+  Run : RunOrder → Command
 
 -- `plain SIZE SWEEPS SEED T0 T1 T2 T3 T4 T5 T6`
 unfoldable pub plain_order : List (List ℕ) → Option PlainOrder
@@ -25,6 +36,98 @@ plain_order words =
     Some (record { size = size; sweeps = sweeps; seed = seed; thresholds = thresholds })))))
     else None
 
+-- a word that begins with two hyphens is an option
+abbrev pub is_option : List ℕ → Bool
+is_option word = bytes_eq (take 2 word) (codes "--")
+
+-- a word that can name a file: 1 to 255 bytes
+abbrev pub is_file_name : List ℕ → Bool
+is_file_name word = nat_le 1 (length word) && nat_le (length word) 255
+
+-- `check RUN`
+unfoldable pub check_name : List (List ℕ) → Option (List ℕ)
+check_name words =
+    if length words == 2 && is_file_name (word_at words 1) && not (is_option (word_at words 1)) then Some (word_at words 1) else None
+
+-- ---- the words of `run`, read from the left
+
+-- what they have said so far; an option without a value waits for the next word
+pub record RunWords : Type 0 where
+  pub run : Option (List ℕ)
+  pub waiting : Option (List ℕ)
+  pub workers : Option ℕ
+  pub pieces : Option ℕ
+  pub until : Option ℕ
+
+abbrev pub nothing_said : RunWords
+nothing_said = record { run = None; waiting = None; workers = None; pieces = None; until = None }
+
+-- what comes of a thing that may be said once
+abbrev pub once : {A B : Type 0} → Option A → Option B → Option B
+once None next = next
+once (Some earlier) next = None
+
+-- an option with its value, each at most once: 1 to 64 workers, 1 to 16 pieces, an epoch up to 1000000000
+abbrev pub with_workers : RunWords → List ℕ → Option RunWords
+with_workers said value = once said.workers (option_map (λ n. record said { waiting = None; workers = Some n }) (number_word 1 64 value))
+
+abbrev pub with_pieces : RunWords → List ℕ → Option RunWords
+with_pieces said value = once said.pieces (option_map (λ n. record said { waiting = None; pieces = Some n }) (number_word 1 16 value))
+
+abbrev pub with_until : RunWords → List ℕ → Option RunWords
+with_until said value = once said.until (option_map (λ n. record said { waiting = None; until = Some n }) (number_word 0 1000000000 value))
+
+unfoldable pub with_option : RunWords → List ℕ → List ℕ → Option RunWords
+with_option said name value =
+    if bytes_eq name (codes "--workers") then with_workers said value
+    else if bytes_eq name (codes "--pieces") then with_pieces said value
+    else if bytes_eq name (codes "--until") then with_until said value
+    else None
+
+-- 61 is the equals sign
+abbrev pub is_equals : ℕ → Bool
+is_equals b = b == 61
+
+-- a word that is an option: its value stands behind the first equals sign, or is the next word
+unfoldable pub with_option_word : RunWords → List ℕ → Option RunWords
+with_option_word said word =
+    if nat_lt (position_or_len is_equals word) (length word)
+    then with_option said (before_first is_equals word) (after_first is_equals word)
+    else Some (record said { waiting = Some word })
+
+-- a word that is no option names the run file
+unfoldable pub with_run : RunWords → List ℕ → Option RunWords
+with_run said word = once said.run (if is_file_name word then Some (record said { run = Some word }) else None)
+
+-- the next word, which is taken as it stands where an option waits for it
+abbrev pub with_next : Option (List ℕ) → RunWords → List ℕ → Option RunWords
+with_next (Some name) said word = with_option said name word
+with_next None said word = if is_option word then with_option_word said word else with_run said word
+
+abbrev pub with_word : Option RunWords → List ℕ → Option RunWords
+with_word None word = None
+with_word (Some said) word = with_next said.waiting said word
+
+-- what all of them have said
+unfoldable pub said_by : List (List ℕ) → Option RunWords
+said_by words = fold with_word (Some nothing_said) words
+
+-- the run file must be named, and no option may wait; there is one worker and one piece where nothing else is said
+abbrev pub order_in : Option (List ℕ) → Option (List ℕ) → RunWords → Option RunOrder
+order_in (Some run) None said =
+    Some (record { run = run; workers = unwrap_or said.workers 1; pieces = unwrap_or said.pieces 1; until = said.until })
+order_in _ _ said = None
+
+-- `run RUN` with `--workers N`, `--pieces P` and `--until E` in any order
+unfoldable pub run_order : List (List ℕ) → Option RunOrder
+run_order words = given (said_by (drop 1 words)) (λ said. order_in said.run said.waiting said)
+
+-- ---- all commands
+
 -- the first word is the command's name; none where the words are no command
-abbrev pub command_of : List (List ℕ) → Option Command
-command_of words = if bytes_eq (word_at words 0) (codes "plain") then option_map Plain (plain_order words) else None
+unfoldable pub command_of : List (List ℕ) → Option Command
+command_of words =
+    if bytes_eq (word_at words 0) (codes "plain") then option_map Plain (plain_order words)
+    else if bytes_eq (word_at words 0) (codes "check") then option_map Check (check_name words)
+    else if bytes_eq (word_at words 0) (codes "run") then option_map Run (run_order words)
+    else None

@@ -3,5 +3,8 @@ pub mod CommandLine
 pub mod Texts
 pub mod Outside
 pub mod Request
+pub mod Lines
 pub mod Statuses
+pub mod Gathers
 pub mod ReadCommand
+pub mod Opened

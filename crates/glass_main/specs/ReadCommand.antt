@@ -1,13 +1,52 @@
--- A command of the program as a command of the definitions.
+-- A command of the program as a command of the definitions, and the limits of its numbers.
+use Rattle.std.specs.Prelude.{◌≤◌, option_map, IfSome}
 use Rattle.glass_main.specs.CommandLine as model
 use Rattle.glass_main.specs.declared.command_line.PlainOrder.{PlainOrder}
 use Rattle.glass_main.specs.declared.command_line.Command.{Command}
-use Rattle.glass_main.specs.declared.command_line.Command.TheVariants.{Plain}
+use Rattle.glass_main.specs.declared.command_line.Command.TheVariants.{Plain, Check, Run}
+use Rattle.glass_main.specs.declared.run_words.RunOrder.{RunOrder}
+use Rattle.glass_main.specs.declared.run_words.RunWords.{RunWords}
 
 -- the order of `plain`
 abbrev pub read_order : PlainOrder → model.PlainOrder
 read_order order = record { size = order.lattice; sweeps = order.sweeps; seed = order.seed; thresholds = order.thresholds }
 
+-- the order of `run`
+abbrev pub read_run_order : RunOrder → model.RunOrder
+read_run_order order = record { run = order.run.now; workers = order.workers; pieces = order.pieces; until = order.until }
+
 -- a command
 abbrev pub read_command : Command → model.Command
 read_command (Plain order) = model.Plain (read_order order)
+read_command (Check name) = model.Check name.now
+read_command (Run order) = model.Run (read_run_order order)
+
+-- what the words of `run` have said
+abbrev pub read_said : RunWords → model.RunWords
+read_said said = record {
+  run = option_map (λ run. run.now) said.run;
+  waiting = option_map (λ name. name.now) said.waiting;
+  workers = said.workers;
+  pieces = said.pieces;
+  until = said.until;
+}
+
+-- 1 to 64 workers, 1 to 16 pieces, an epoch up to 1000000000
+pub record IsLawfulOrder (order : RunOrder) : Type 0 where
+  pub some_workers : 1 ≤ order.workers
+  pub few_workers : order.workers ≤ 64
+  pub some_pieces : 1 ≤ order.pieces
+  pub few_pieces : order.pieces ≤ 16
+  pub until : IfSome order.until (λ e. e ≤ 1000000000)
+
+-- the same of what the words have said
+pub record AreLawfulWords (said : RunWords) : Type 0 where
+  pub workers : IfSome said.workers (λ n. (1 ≤ n) × (n ≤ 64))
+  pub pieces : IfSome said.pieces (λ n. (1 ≤ n) × (n ≤ 16))
+  pub until : IfSome said.until (λ e. e ≤ 1000000000)
+
+-- the same of the order of a command
+abbrev pub IsLawfulCommand : Command → Type 0
+IsLawfulCommand (Plain order) = Unit {0}
+IsLawfulCommand (Check name) = Unit {0}
+IsLawfulCommand (Run order) = IsLawfulOrder order

@@ -1,26 +1,112 @@
 -- What a command asks for, over the files that the store holds: work, or the first refusal on the way to it.
-use Rattle.std.specs.Prelude.{ℕ, List, [], Option, Some, None, Result, Ok, Err}
+use Rattle.std.specs.Prelude.{ℕ, nat_le, if◌then◌else◌, List, [], length, Option, Some, None, option_map, unwrap_or, Result, Ok, Err}
+use Rattle.std.specs.FinMap as map
 use Rattle.glass_edges.specs.Contents.{Files}
-use Rattle.glass_main.specs.CommandLine.{PlainOrder, Command, Plain, command_of}
-use Rattle.glass_main.specs.Texts.{plain_text}
-use Rattle.glass_main.specs.declared.ending.Refusal.{Refusal}
-use Rattle.glass_main.specs.declared.ending.Refusal.TheVariants.{Words}
+use Rattle.glass_edges.specs.Refusals.{unless}
+use Rattle.threshold_table.specs.Tables.{RuleView, rule_table, swap_table}
+use Rattle.coupling_set.specs.CouplingWords.{CouplingsView}
+use Rattle.run_plan.specs.declared.run_file.RunFile.{RunFile}
+use Rattle.run_plan.specs.RunFile.{run_file}
+use Rattle.run_plan.specs.Amounts.{amount_refusal}
+use Rattle.run_plan.specs.PlanOf.{couplings_of, plan_with}
+use Rattle.glass_main.specs.CommandLine.{PlainOrder, RunOrder, Command, Plain, Check, Run, command_of}
+use Rattle.glass_main.specs.Texts.{plain_text, check_text, run_text}
+use Rattle.glass_main.specs.declared.planned.Planned.{Planned}
+use Rattle.glass_main.specs.declared.role.Role.{Role}
+use Rattle.glass_main.specs.declared.role.Role.TheVariants as roles
+use Rattle.glass_main.specs.declared.refusal.Refusal.{Refusal}
+use Rattle.glass_main.specs.declared.refusal.Refusal.TheVariants as refused
+
+-- ---- work
 
 -- what is to be done where nothing refuses it
 pub data Work : Type 0 where
   PlainWork : PlainOrder → Work
+  CheckWork : Planned → Work
+  RunWork : Planned → ℕ → Work
 
 -- the text that the work prints
 abbrev pub text_of : Work → List ℕ
 text_of (PlainWork order) = plain_text order
+text_of (CheckWork planned) = check_text planned
+text_of (RunWork planned until) = run_text planned until
+
+-- ---- steps
+
+-- a step and then the next, unless the step refuses
+abbrev pub and_then : {A B : Type 0} → Result A Refusal → (A → Result B Refusal) → Result B Refusal
+and_then (Ok x) next = next x
+and_then (Err refusal) next = Err refusal
+
+-- what a reader of a file gives, its refusal told as the file's
+abbrev pub told_as : {A E : Type 0} → (E → Refusal) → Result A E → Result A Refusal
+told_as tell (Ok x) = Ok x
+told_as tell (Err e) = Err (tell e)
+
+-- the most bytes of a file that is read as this
+abbrev pub limit_of : Role → ℕ
+limit_of roles.RunFile = 1048576
+limit_of roles.RuleTable = 65536
+limit_of roles.SwapTable = 4194304
+
+-- the bytes of a file, unless the name isn't held or they are too many
+abbrev pub bytes_in : Role → Option (List ℕ) → Result (List ℕ) Refusal
+bytes_in role None = Err (refused.Absent role)
+bytes_in role (Some bytes) = if nat_le (length bytes) (limit_of role) then Ok bytes else Err (refused.TooLong role (length bytes))
+
+abbrev pub bytes_at : Role → List ℕ → Files → Result (List ℕ) Refusal
+bytes_at role name files = bytes_in role (map.get files name)
+
+-- the run file of a name
+unfoldable pub run_file_at : List ℕ → Files → Result RunFile Refusal
+run_file_at name files = and_then (bytes_at roles.RunFile name files) (λ bytes. told_as refused.Plan (run_file bytes))
+
+-- the rule table that a run file names
+unfoldable pub rules_at : RunFile → Files → Result RuleView Refusal
+rules_at file files = and_then (bytes_at roles.RuleTable file.rules files) (λ bytes. told_as refused.Rules (rule_table file.kind bytes))
+
+-- the swap table that it names, for as many slots as the rule table has
+unfoldable pub swaps_at : RunFile → RuleView → Files → Result (List (List ℕ)) Refusal
+swaps_at file rules files =
+    and_then (bytes_at roles.SwapTable file.swaps files) (λ bytes. told_as refused.Swaps (swap_table (length rules.rows) bytes))
+
+-- its couplings
+unfoldable pub couplings_at : RunFile → Files → Result CouplingsView Refusal
+couplings_at file files = told_as refused.Plan (couplings_of file)
+
+-- the plan of a run file whose rule table is read
+unfoldable pub plan_after_rules : RunFile → RuleView → Files → Result Planned Refusal
+plan_after_rules file rules files =
+    and_then (swaps_at file rules files) (λ swaps.
+    and_then (couplings_at file files) (λ couplings.
+    Ok (record { plan = plan_with file rules swaps couplings; orders = file.orders })))
+
+-- the plan and the orders of a run: the run file of a name, then its rule table, its swap table and its couplings
+unfoldable pub plan_after_file : RunFile → Files → Result Planned Refusal
+plan_after_file file files = and_then (rules_at file files) (λ rules. plan_after_rules file rules files)
+
+unfoldable pub plan_at : List ℕ → Files → Result Planned Refusal
+plan_at name files = and_then (run_file_at name files) (λ file. plan_after_file file files)
+
+-- a run until an epoch, unless it would print too much
+unfoldable pub run_work : Planned → ℕ → Result Work Refusal
+run_work planned until = told_as refused.Plan (unless (amount_refusal planned.plan planned.orders 0 until) (RunWork planned until))
+
+-- the epoch at which a run ends: that of the words, or where they have none that of the run file
+abbrev pub until_of : RunOrder → Planned → ℕ
+until_of order planned = unwrap_or order.until planned.orders.epochs
+
+-- ---- requests
 
 -- what a command asks for; none where it depends on files that aren't observable
 abbrev pub request_of : Command → Option Files → Option (Result Work Refusal)
 request_of (Plain order) files = Some (Ok (PlainWork order))
+request_of (Check name) files = option_map (λ held. and_then (plan_at name held) (λ planned. Ok (CheckWork planned))) files
+request_of (Run order) files = option_map (λ held. and_then (plan_at order.run held) (λ planned. run_work planned (until_of order planned))) files
 
 -- the same of words that may be no command
 abbrev pub request_for : Option Command → Option Files → Option (Result Work Refusal)
-request_for None files = Some (Err Words)
+request_for None files = Some (Err refused.Words)
 request_for (Some command) files = request_of command files
 
 -- what the words ask for

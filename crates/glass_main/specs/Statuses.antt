@@ -1,40 +1,54 @@
--- How a call ends: its status, what causes it, what it leaves, and the line on the error output.
-use Rattle.std.specs.Prelude.{◌≡◌, ◌⊎◌, ◌≤◌, ℕ, List, [], codes, Option, Some, None, IfSome, Result, Ok, Err}
+-- How a call ends: its status, what causes it, and what it leaves.
+use Rattle.std.specs.Prelude.{◌≡◌, ◌⊎◌, ℕ, ◌<◌, ◌≤◌, List, Option, Some, None, IfSome, Result, Ok, Err}
 use Rattle.glass_edges.specs.Causes.{Rose}
 use Rattle.glass_edges.specs.Contents.{appended, AppendsPrefix}
 use Rattle.glass_main.specs.CommandLine.{Command}
 use Rattle.glass_main.specs.Outside.{Output, Store}
-use Rattle.glass_main.specs.Request.{Work, text_of, text_asked, request_for}
-use Rattle.glass_main.specs.declared.ending.Refusal.{Refusal}
-use Rattle.glass_main.specs.declared.ending.Refusal.TheVariants.{Words}
+use Rattle.glass_main.specs.Request.{Work, limit_of, text_of, text_asked, request_for}
+use Rattle.glass_main.specs.Lines.{line_of}
+use Rattle.glass_main.specs.declared.role.Role.{Role}
+use Rattle.glass_main.specs.declared.role.Role.TheVariants.{RunFile, RuleTable, SwapTable}
+use Rattle.glass_main.specs.declared.refusal.Refusal.{Refusal}
+use Rattle.glass_main.specs.declared.refusal.Refusal.TheVariants.{Words, Absent, TooLong, Plan, Rules, Swaps}
 use Rattle.glass_main.specs.declared.ending.Ending.{Ending}
-use Rattle.glass_main.specs.declared.ending.Ending.TheVariants.{Done, Refused, Unwritten, NoMemory}
+use Rattle.glass_main.specs.declared.ending.Ending.TheVariants.{Done, Refused, Unread, Unwritten, NoMemory}
 
--- the exit status of a refusal
+-- ---- the exit status
+
+-- of a file that is too long, by what it is read as
+abbrev pub role_status : Role → ℕ
+role_status RunFile = 3
+role_status RuleTable = 4
+role_status SwapTable = 4
+
+-- of a refusal
 abbrev pub refusal_status : Refusal → ℕ
 refusal_status Words = 2
+refusal_status (Absent role) = 7
+refusal_status (TooLong role n) = role_status role
+refusal_status (Plan refused) = 3
+refusal_status (Rules refused) = 4
+refusal_status (Swaps refused) = 4
 
--- the exit status
+-- of an ending
 abbrev pub status_of : Ending → ℕ
 status_of Done = 0
 status_of (Refused refusal) = refusal_status refusal
+status_of (Unread role) = 8
 status_of Unwritten = 9
 status_of NoMemory = 11
 
--- the line of a refusal on the error output
-unfoldable pub refusal_line : Refusal → List ℕ
-refusal_line Words = codes "glass: the command line is not understood\n"
+-- ---- the cause
 
--- the line on the error output
-unfoldable pub line_of : Ending → List ℕ
-line_of Done = []
-line_of (Refused refusal) = refusal_line refusal
-line_of Unwritten = codes "glass: writing the report failed\n"
-line_of NoMemory = codes "glass: no memory\n"
-
--- the refusal that is told is the one that is due
+-- the refusal that is told is the one that is due; of a file that is too long a length is told that the file has and that
+-- is above the limit
 abbrev pub IsTold : Refusal → Refusal → Type 0
 IsTold Words told = told ≡ Words
+IsTold (Absent role) told = told ≡ Absent role
+IsTold (TooLong role m) told = (n : ℕ) × (told ≡ TooLong role n) × (limit_of role < n) × (n ≤ m)
+IsTold (Plan refused) told = told ≡ Plan refused
+IsTold (Rules refused) told = told ≡ Rules refused
+IsTold (Swaps refused) told = told ≡ Swaps refused
 
 -- what is asked for is refused, and this is told
 abbrev pub IsRefusedBy : {A : Type 0} → Result A Refusal → Refusal → Type 0
@@ -50,6 +64,7 @@ IsAccepted (Err due) = ⊥
 abbrev pub Fits : Result Work Refusal → Ending → Type 0
 Fits asked Done = IsAccepted asked
 Fits asked (Refused told) = IsRefusedBy asked told
+Fits asked (Unread role) = Unit {0}
 Fits asked Unwritten = IsAccepted asked
 Fits asked NoMemory = Unit {0}
 
@@ -57,14 +72,33 @@ Fits asked NoMemory = Unit {0}
 abbrev pub Printed : Option (Result Work Refusal) → Ending → Output → Output → Type 0
 Printed asked Done old new = IfSome asked (λ a. new.taken ≡ appended old.taken (text_asked a))
 Printed asked (Refused told) old new = new ≡ old
+Printed asked (Unread role) old new = new ≡ old
 Printed asked Unwritten old new =
     Rose old.faults new.faults × IfSome asked (λ a. AppendsPrefix old.taken new.taken (text_asked a))
 Printed asked NoMemory old new = new ≡ old
 
+-- what became of the store: its files are as before, and where one could not be read a fault was counted
+abbrev pub Kept : Ending → Store → Store → Type 0
+Kept Done old new = new.holds ≡ old.holds
+Kept (Refused told) old new = new.holds ≡ old.holds
+Kept (Unread role) old new = (new.holds ≡ old.holds) × Rose old.faults new.faults
+Kept Unwritten old new = new.holds ≡ old.holds
+Kept NoMemory old new = new.holds ≡ old.holds
+
+-- a refusal of what was read, and not of the words
+abbrev pub IsOfFile : Refusal → Type 0
+IsOfFile Words = ⊥
+IsOfFile (Absent role) = Unit {0}
+IsOfFile (TooLong role n) = Unit {0}
+IsOfFile (Plan refused) = Unit {0}
+IsOfFile (Rules refused) = Unit {0}
+IsOfFile (Swaps refused) = Unit {0}
+
 -- an ending other than that of words which are no command
 abbrev pub IsPastWords : Ending → Type 0
 IsPastWords Done = Unit {0}
-IsPastWords (Refused Words) = ⊥
+IsPastWords (Refused refusal) = IsOfFile refusal
+IsPastWords (Unread role) = Unit {0}
 IsPastWords Unwritten = Unit {0}
 IsPastWords NoMemory = Unit {0}
 
@@ -78,8 +112,10 @@ pub record Ends (command : Option Command) (ending : Ending) (held holds : Store
   pub words : Reads command ending
   pub cause : IfSome (request_for command held.holds) (λ asked. Fits asked ending)
   pub out : Printed (request_for command held.holds) ending before now
-  pub files : holds.holds ≡ held.holds
+  pub files : Kept ending held holds
   pub later : (held.faults ≤ holds.faults) × (before.faults ≤ now.faults)
+
+-- ---- the error output
 
 -- the error output got the line, or a prefix of it and then a fault
 unfoldable pub Says : List ℕ → Output → Output → Type 0
@@ -89,8 +125,11 @@ Says line old new = (new.taken ≡ appended old.taken line) ⊎ (Rose old.faults
 abbrev pub Told : Ending → Output → Output → Type 0
 Told Done old new = new ≡ old
 Told (Refused told) old new = Says (line_of (Refused told)) old new
+Told (Unread role) old new = Says (line_of (Unread role)) old new
 Told Unwritten old new = Says (line_of Unwritten) old new
 Told NoMemory old new = Says (line_of NoMemory) old new
+
+-- ---- the call
 
 -- the status of a call with its cause and what it leaves
 pub record Answers (command : Option Command) (status : ℕ) (held holds : Store) (before now err_before err_now : Output) : Type 0 where

@@ -1,11 +1,19 @@
 -- What the commands print: lines of text, each ended by one line feed.
 use Rattle.std.specs.Prelude.{ℕ, List, Bool, ◌++◌, codes, decimal}
 use Rattle.std.specs.Fmt.{signed_decimal}
+use Rattle.hex.specs.Hex.{encode_lower}
+use Rattle.sha2.specs.Sha256.{sha256}
+use Rattle.run_plan.specs.CanonicalPlan.{canonical}
 use Rattle.spin_model.specs.Couplings.{plus}
 use Rattle.scalar_rule.specs.PlainRun.{plain_configuration}
 use Rattle.scalar_rule.specs.SpinDigits.{spin_digits}
 use Rattle.scalar_rule.specs.Sums.{energy}
+use Rattle.scalar_rule.specs.Plan.{Plan, slots_of}
+use Rattle.scalar_rule.specs.Opening.{opening}
+use Rattle.report_text.specs.Lines.{kind_text}
+use Rattle.glass_engine.specs.Report.{report}
 use Rattle.glass_main.specs.CommandLine.{PlainOrder}
+use Rattle.glass_main.specs.declared.planned.Planned.{Planned}
 
 -- the spins that a plain run ends with
 abbrev pub plain_spins : PlainOrder → List Bool
@@ -27,3 +35,25 @@ spin_line l spins = codes "spin," ++ spin_digits l spins ++ codes "\n"
 -- what `plain` prints
 abbrev pub plain_text : PlainOrder → List ℕ
 plain_text order = plain_header order ++ energy_line order.size (plain_spins order) ++ spin_line order.size (plain_spins order)
+
+-- the sizes of a run
+unfoldable pub plan_sizes : Planned → List ℕ
+plan_sizes planned =
+    codes "plan 1 size=" ++ decimal planned.plan.size ++ codes " slots=" ++ decimal (slots_of planned.plan)
+    ++ codes " samples=" ++ decimal planned.orders.samples
+
+-- its dynamics
+unfoldable pub plan_dynamics : Plan → List ℕ
+plan_dynamics plan = codes " rule=" ++ kind_text plan.rules.kind ++ codes " sweeps=" ++ decimal plan.sweeps
+
+-- the SHA-256 of its canonical bytes, in hexadecimal
+unfoldable pub plan_digest : Plan → List ℕ
+plan_digest plan = codes " digest=" ++ encode_lower (sha256 (canonical plan))
+
+-- what `check` prints
+abbrev pub check_text : Planned → List ℕ
+check_text planned = plan_sizes planned ++ plan_dynamics planned.plan ++ plan_digest planned.plan ++ codes "\n"
+
+-- what `run` prints: the report of the serial dynamics, sample by sample from the state that each begins with
+abbrev pub run_text : Planned → ℕ → List ℕ
+run_text planned until = report planned.plan (opening planned.plan planned.orders.start 0) planned.orders until

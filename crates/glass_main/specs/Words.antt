@@ -1,6 +1,8 @@
 -- Words of the command line as bytes, and the numbers that some of them write.
-use Rattle.std.specs.Prelude.{ℕ, zero, suc, ◌+◌, ◌-◌, ◌*◌, ◌%◌, Bool, ◌&&◌, ◌==◌, nat_le, if◌then◌else◌, List, [], ◌∷◌, ◌++◌, length, map, slice_index_or, Option, Some, None, String, string_bytes}
+use Rattle.std.specs.Prelude.{ℕ, zero, suc, ◌+◌, ◌%◌, Bool, ◌&&◌, ◌==◌, nat_le, if◌then◌else◌, List, [], ◌∷◌, ◌++◌, length, map, slice_index_or, Option, Some, None, String, string_bytes}
+use Rattle.std.specs.List.{list_all}
 use Rattle.std.specs.declared.alloc.Global.{Global}
+use Rattle.threshold_table.specs.TableText.{is_digit, value_of}
 
 -- the bytes of each word
 abbrev pub texts : List (String Global) → List (List ℕ)
@@ -15,23 +17,17 @@ given (Some value) next = next value
 abbrev pub word_at : List (List ℕ) → ℕ → List ℕ
 word_at words k = slice_index_or words k []
 
--- a decimal digit
-abbrev pub is_digit : ℕ → Bool
-is_digit b = nat_le 48 b && nat_le b 57
-
--- the value of decimal digits that follow those which gave n; none where one of them is no digit
-unfoldable pub value_after : ℕ → List ℕ → Option ℕ
-value_after n [] = Some n
-value_after n (b ∷ bs) = if is_digit b then value_after (n * 10 + (b - 48)) bs else None
-
 -- a number within a range
 abbrev pub in_range : ℕ → ℕ → ℕ → Option ℕ
 in_range low high n = if nat_le low n && nat_le n high then Some n else None
 
--- a number word: one to twenty decimal digits, whose value lies in the range
+-- a number is written with one to twenty decimal digits
+abbrev pub is_number : List ℕ → Bool
+is_number text = nat_le 1 (length text) && nat_le (length text) 20 && list_all is_digit text
+
+-- a number word: a number whose value lies in the range
 abbrev pub number_word : ℕ → ℕ → List ℕ → Option ℕ
-number_word low high text =
-    if nat_le 1 (length text) && nat_le (length text) 20 then given (value_after 0 text) (in_range low high) else None
+number_word low high text = if is_number text then in_range low high (value_of text) else None
 
 -- the values of that many number words, from word start on
 unfoldable pub number_words : ℕ → ℕ → List (List ℕ) → ℕ → ℕ → Option (List ℕ)

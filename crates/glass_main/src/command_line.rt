@@ -1,12 +1,13 @@
 //! The command that the words after the program's name ask for.
 
-ghost use Rattle.std.specs.Prelude.{◌≡◌, ℕ, ◌+◌, ◌<◌, ◌≤◌, ◌^◌, length, take, option_map, Some, None, if◌then◌else◌};
-ghost use Rattle.glass_main.specs.CommandLine.{command_of, plain_order};
-ghost use Rattle.glass_main.specs.ReadCommand.{read_command, read_order};
+ghost use Rattle.std.specs.Prelude.{◌≡◌, ℕ, ◌+◌, ◌<◌, ◌≤◌, ◌^◌, length, take, option_map, Some, None, IfSome, if◌then◌else◌};
+ghost use Rattle.glass_main.specs.CommandLine.{command_of, plain_order, check_name};
+ghost use Rattle.glass_main.specs.ReadCommand.{read_command, read_order, IsLawfulCommand};
 ghost use Rattle.glass_main.specs.Words as model;
 ghost use Rattle.glass_main.specs.Words.{texts, size_word};
 
-use crate::words::{number_word, word_at};
+use crate::run_words::{RunOrder, read_run};
+use crate::words::{is_file_name, number_word, word_at};
 use lattice_geometry::Lattice;
 
 /// What `plain` asks for: the lattice, the number of sweeps, the seed, and the seven thresholds,
@@ -21,20 +22,56 @@ pub struct PlainOrder {
 
 /// What the words ask for.
 #[derive(Clone, Copy)]
-pub enum Command {
+pub enum Command<'a> {
+    /// One replica of the ferromagnet.
     Plain(PlainOrder),
+    /// A look at the run file of this name.
+    Check(&'a str),
+    /// A run.
+    Run(RunOrder<'a>),
 }
 
 /// Reads the words. It takes no memory.
-pub(crate) fn read_words(words: &[String]) -> Option<Command>
-    ensures { option_map read_command result ≡ command_of (texts words.now) }
+#[tactic(auto, unfolding(crate::specs::CommandLine::command_of))]
+pub(crate) fn read_words(words: &[String]) -> Option<Command<'_>>
+    ensures value { option_map read_command result ≡ command_of (texts words.now) }
+    ensures lawful { IfSome result IsLawfulCommand }
 {
-    if word_at(words, 0) != "plain" {
+    let name = word_at(words, 0);
+    if name == "plain" {
+        return match read_plain(words) {
+            Some(order) => Some(Command::Plain(order)),
+            None => None,
+        };
+    }
+    if name == "check" {
+        return match read_check(words) {
+            Some(run) => Some(Command::Check(run)),
+            None => None,
+        };
+    }
+    if name == "run" {
+        return match read_run(words) {
+            Some(order) => Some(Command::Run(order)),
+            None => None,
+        };
+    }
+    None
+}
+
+// The word of `check`.
+#[tactic(auto, unfolding(crate::specs::CommandLine::check_name))]
+fn read_check(words: &[String]) -> Option<&str>
+    ensures { option_map (λ run. run.now) result ≡ check_name (texts words.now) }
+{
+    if words.len() != 2 {
         return None;
     }
-    match read_plain(words) {
-        Some(order) => Some(Command::Plain(order)),
-        None => None,
+    let run = word_at(words, 1);
+    if is_file_name(run) && !run.starts_with("--") {
+        Some(run)
+    } else {
+        None
     }
 }
 

@@ -1,13 +1,29 @@
 //! The program's top call: from the words of the command line to the bytes and the exit status.
 #![tactic(auto)]
 
+mod check;
 mod command_line;
 mod ending;
+mod gathering;
+mod lines;
+mod long_line;
 mod plain;
+mod plan_lines;
+mod planned;
+mod refusal;
+mod role;
+mod run;
+mod run_words;
 mod spin_text;
+mod table_lines;
 mod top;
 mod words;
 
 pub use command_line::{Command, PlainOrder};
-pub use ending::{Ending, Refusal, no_memory};
+pub use ending::Ending;
+pub use lines::no_memory;
+pub use planned::Planned;
+pub use refusal::Refusal;
+pub use role::Role;
+pub use run_words::RunOrder;
 pub use top::glass;

@@ -9,34 +9,22 @@ ghost use Rattle.spin_model.specs.Steps.{table};
 ghost use Rattle.spin_model.specs.Words.{one_if};
 ghost use Rattle.glass_main.specs.Texts.{spin_line};
 
+use crate::long_line::end_line;
 use glass_edges::{Fault, Line, Sink};
 use lattice_geometry::Lattice;
+use report_text::spin_digit;
 
-// The digit of a number below 16.
-fn hex_digit(n: u8) -> u8
-    requires { n < 16 }
-    ensures { result ≡ hex_digit n }
-{
-    if n < 10 { b'0' + n } else { b'a' + (n - 10) }
-}
-
-// A bit of a digit.
-fn bit(up: bool, worth: u8) -> u8
-    requires { worth ≤ 8 }
-    ensures value { result ≡ worth * one_if up }
-    ensures within { result ≤ worth }
-{
-    if up { worth } else { 0 }
-}
-
-// The digit of the four sites from a site on, the lowest in the highest bit.
+// The digit of the four sites from a site on.
 fn four_spins(spins: &[bool], site: usize) -> u8
     requires { site + 3 < length spins.now }
     ensures { result ≡ four_spins spins.now site }
 {
-    let high = bit(spins[site], 8) + bit(spins[site + 1], 4);
-    let low = bit(spins[site + 2], 2) + bit(spins[site + 3], 1);
-    hex_digit(high + low)
+    spin_digit(
+        spins[site],
+        spins[site + 1],
+        spins[site + 2],
+        spins[site + 3],
+    )
 }
 
 /// Puts the text of the buffer and behind it the line of the spins, which are those of all sites.
@@ -58,9 +46,7 @@ pub(crate) fn put_spin_line<O: Sink>(
 {
     line.add(b"spin,");
     put_digits(out, line, lattice, spins)?;
-    line.make_room(out, 1)?;
-    line.add(b"\n");
-    line.put(out)
+    end_line(out, line)
 }
 
 // Adds the digits of all spins; what does not fit goes out in full buffers.

@@ -7,9 +7,13 @@ ghost use Rattle.glass_main.specs.Request.{request};
 ghost use Rattle.glass_main.specs.Statuses.{Ends, Answers, Does, Completes};
 ghost use Rattle.glass_main.specs.Words.{texts};
 
+use crate::check::check;
 use crate::command_line::{Command, read_words};
-use crate::ending::{Ending, Refusal, status, tell};
+use crate::ending::{Ending, status};
+use crate::lines::tell;
 use crate::plain::plain;
+use crate::refusal::Refusal;
+use crate::run::run;
 use glass_edges::{Gate, Shelf, Sink};
 use std::alloc::Global;
 
@@ -20,13 +24,13 @@ use std::alloc::Global;
 /// output failed. Status 11: memory ran out, which no clause ties to a growth that failed. With a
 /// status other than 0 `err` got one line, or a prefix of it where it failed itself.
 pub fn glass<R: Sync, H: Shelf, O: Sink, E: Sink, G: Gate + Sync>(
-    _rt: &R,
+    rt: &R,
     alloc: Global,
     words: &[String],
     shelf: &mut H,
     out: &mut O,
     err: &mut E,
-    _gate: &G,
+    gate: &G,
 ) -> u8
     // The status is that of an ending, whose cause and leavings are the named ones.
     ensures answers { Answers (command_of (texts words.now)) result
@@ -49,13 +53,20 @@ pub fn glass<R: Sync, H: Shelf, O: Sink, E: Sink, G: Gate + Sync>(
         (store H.holds H.faults shelf.old) (store H.holds H.faults shelf.new)
         (output O.taken O.faults out.old) (output O.taken O.faults out.new)) }
 {
-    let ending = answer(alloc, words, shelf, out);
-    tell(err, ending);
-    status(ending)
+    let ending = answer(rt, alloc, words, shelf, out, gate);
+    tell(err, &ending);
+    status(&ending)
 }
 
 // Does what the words ask for.
-fn answer<H: Shelf, O: Sink>(alloc: Global, words: &[String], shelf: &mut H, out: &mut O) -> Ending
+fn answer<R: Sync, H: Shelf, O: Sink, G: Gate + Sync>(
+    rt: &R,
+    alloc: Global,
+    words: &[String],
+    shelf: &mut H,
+    out: &mut O,
+    gate: &G,
+) -> Ending
     ensures { Ends (command_of (texts words.now)) result
         (store H.holds H.faults shelf.old) (store H.holds H.faults shelf.new)
         (output O.taken O.faults out.old) (output O.taken O.faults out.new) }
@@ -63,5 +74,7 @@ fn answer<H: Shelf, O: Sink>(alloc: Global, words: &[String], shelf: &mut H, out
     match read_words(words) {
         None => Ending::Refused(Refusal::Words),
         Some(Command::Plain(order)) => plain(alloc, shelf, out, &order),
+        Some(Command::Check(name)) => check(alloc, shelf, out, name),
+        Some(Command::Run(order)) => run(rt, alloc, shelf, out, gate, &order),
     }
 }

@@ -36,9 +36,19 @@ fn words_of(rt: &HostRuntime, line: &str) -> Result<Vec<String>, Fail> {
     Ok(words)
 }
 
-/// Calls the program with these words, over these outputs and an empty store.
-pub fn call_words(rt: &HostRuntime, words: &[String], out: MemorySink, err: MemorySink) -> Called {
-    let mut shelf = MemoryShelf::new(rt.alloc(), Vec::new(rt.alloc()));
+/// A store that holds nothing.
+fn empty(rt: &HostRuntime) -> MemoryShelf {
+    MemoryShelf::new(rt.alloc(), Vec::new(rt.alloc()))
+}
+
+/// Calls the program with these words, over this store and these outputs.
+pub fn call_words(
+    rt: &HostRuntime,
+    words: &[String],
+    mut shelf: MemoryShelf,
+    out: MemorySink,
+    err: MemorySink,
+) -> Called {
     let mut called = Called {
         status: 0,
         out,
@@ -56,6 +66,24 @@ pub fn call_words(rt: &HostRuntime, words: &[String], out: MemorySink, err: Memo
     called
 }
 
+/// Calls the program with the words of a line, over this store and these outputs.
+pub fn call_words_of(
+    rt: &HostRuntime,
+    line: &str,
+    shelf: MemoryShelf,
+    out: MemorySink,
+    err: MemorySink,
+) -> Result<Called, Fail> {
+    let words = words_of(rt, line)?;
+    Ok(call_words(rt, &words, shelf, out, err))
+}
+
+/// Calls the program with no words, over an empty store.
+pub fn call_without_words(rt: &HostRuntime) -> Result<Called, Fail> {
+    let words = Vec::new(rt.alloc());
+    Ok(call_words(rt, &words, empty(rt), ample(rt)?, ample(rt)?))
+}
+
 /// Calls the program with the words of a line, over these outputs and an empty store.
 pub fn call_over(
     rt: &HostRuntime,
@@ -63,11 +91,15 @@ pub fn call_over(
     out: MemorySink,
     err: MemorySink,
 ) -> Result<Called, Fail> {
-    let words = words_of(rt, line)?;
-    Ok(call_words(rt, &words, out, err))
+    call_words_of(rt, line, empty(rt), out, err)
+}
+
+/// Calls the program with the words of a line, over this store.
+pub fn call_with(rt: &HostRuntime, line: &str, shelf: MemoryShelf) -> Result<Called, Fail> {
+    call_words_of(rt, line, shelf, ample(rt)?, ample(rt)?)
 }
 
 /// Calls the program with the words of a line, over outputs with ample room and an empty store.
 pub fn call(rt: &HostRuntime, line: &str) -> Result<Called, Fail> {
-    call_over(rt, line, ample(rt)?, ample(rt)?)
+    call_with(rt, line, empty(rt))
 }

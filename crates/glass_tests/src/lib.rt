@@ -4,6 +4,14 @@
 #[cfg(test)]
 mod called;
 #[cfg(test)]
+mod check;
+#[cfg(test)]
+mod files;
+#[cfg(test)]
 mod plain;
+#[cfg(test)]
+mod report;
+#[cfg(test)]
+mod sixteen_temperatures;
 #[cfg(test)]
 mod words;

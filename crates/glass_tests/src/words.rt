@@ -1,6 +1,6 @@
 //! Words that are no command.
 
-use crate::called::{Called, ample, call, call_words};
+use crate::called::{Called, call, call_without_words};
 use std::test::Fail;
 
 // Status 2 with its line, and nothing on the output.
@@ -15,8 +15,10 @@ fn bad_command_lines_print_one_line(rt: HostRuntime) -> Result<(), Fail> {
     for (case, line) in [
         ("an empty word alone", ""),
         ("an unknown command", "simulate"),
-        ("a command not built", "check run.toml"),
-        ("a command not built", "run run.toml"),
+        ("a run file missing", "check"),
+        ("two run files", "check run.toml run.toml"),
+        ("an empty name", "check "),
+        ("an option for a run file", "check --run"),
         ("a command not built", "demo 1"),
         ("no help text", "--help"),
         ("a word too few", "plain 4 1 7 0 0 0 0 0 0"),
@@ -50,9 +52,7 @@ fn bad_command_lines_print_one_line(rt: HostRuntime) -> Result<(), Fail> {
 
 #[test]
 fn no_word_is_no_command(rt: HostRuntime) -> Result<(), Fail> {
-    let words = Vec::new(rt.alloc());
-    let called = call_words(&rt, &words, ample(&rt)?, ample(&rt)?);
-    assert!(rt; is_not_understood(&called));
+    assert!(rt; is_not_understood(&call_without_words(&rt)?));
     Ok(())
 }
 

@@ -1,0 +1,82 @@
+-- How a run ends once its files are read.
+use Rattle.std.proofs.Common.{◌≡◌, ℕ, ◌≤◌, Option, Some, None, option_map, IfSome, Result, Ok, refl, sym, ap, subst, arith}
+use Rattle.glass_edges.specs.Causes.{Rose}
+use Rattle.glass_edges.specs.Contents.{Files, appended, AppendsPrefix}
+use Rattle.glass_edges.specs.Refusals.{unless}
+use Rattle.run_plan.specs.Amounts.{amount_refusal}
+use Rattle.glass_main.specs.declared.refusal.Refusal.TheVariants as refused
+use Rattle.glass_main.specs.Texts.{run_text}
+use Rattle.glass_main.specs.declared.planned.Planned.{Planned}
+use Rattle.glass_main.specs.declared.refusal.Refusal.{Refusal}
+use Rattle.glass_main.specs.declared.ending.Ending.{Ending}
+use Rattle.glass_main.specs.declared.ending.Ending.TheVariants.{Done, Refused, Unread, Unwritten, NoMemory}
+use Rattle.glass_main.specs.CommandLine.{RunOrder, Run}
+use Rattle.glass_main.specs.Gathers.{Gathers, Stops}
+use Rattle.glass_main.specs.Outside.{Output, Store}
+use Rattle.glass_main.specs.Request.{Work, RunWork, and_then, told_as, plan_at, run_work, until_of, text_asked}
+use Rattle.glass_main.specs.Statuses.{Ends, IsRefusedBy, Fits}
+
+-- what a run asks for once its plan is read
+asked-after : (order : RunOrder) (planned : Planned) (held : Option Files) (P : Result Work Refusal → Type 0) → IfSome (option_map (plan_at order.run) held) (λ a. a ≡ Ok planned)
+    → P (run_work planned (until_of order planned)) → IfSome (option_map (λ files. and_then (plan_at order.run files) (λ found. run_work found (until_of order found))) held) P
+asked-after order planned None P found p = tt
+asked-after order planned (Some files) P found p = subst (λ a. P (and_then a (λ read. run_work read (until_of order read)))) (sym found) p
+
+pub ends-stopped : (order : RunOrder) (planned : Planned) (ending : Ending) (held holds : Store) (before : Output)
+    → Gathers (option_map (plan_at order.run) held.holds) (Ok planned) held holds
+    → ((s : Store) → Stops (Some (run_work planned (until_of order planned))) ending s s) → Ends (Some (Run order)) ending held holds before before
+ends-stopped order planned Done held holds before g stops = absurd (stops held)
+ends-stopped order planned (Refused told) held holds before g stops = record {
+  words = (stops held).0;
+  cause = asked-after order planned held.holds (λ a. IsRefusedBy a told) g.found (stops held).1;
+  out = refl;
+  files = g.same;
+  later = (g.later, omega arith);
+}
+ends-stopped order planned (Unread role) held holds before g stops =
+    let impossible : 1 ≤ 0 = stops (record { holds = None; faults = 0 }) in
+    absurd (omega (arith, impossible))
+ends-stopped order planned Unwritten held holds before g stops = absurd (stops held)
+ends-stopped order planned NoMemory held holds before g stops = record {
+  words = tt;
+  cause = asked-after order planned held.holds (λ a. Fits a NoMemory) g.found tt;
+  out = refl;
+  files = g.same;
+  later = (g.later, omega arith);
+}
+
+-- a run whose amount is not refused is accepted
+work-accepted : (planned : Planned) (e : ℕ) → amount_refusal planned.plan planned.orders 0 e ≡ None → run_work planned e ≡ Ok (RunWork planned e)
+unfolding run_work
+work-accepted planned e none = ap (λ found. told_as refused.Plan (unless found (RunWork planned e))) none
+
+-- what holds of the work that is accepted holds of what was asked for
+asked-run : (order : RunOrder) (planned : Planned) (e : ℕ) (held : Option Files) (P : Result Work Refusal → Type 0) → IfSome (option_map (plan_at order.run) held) (λ a. a ≡ Ok planned)
+    → e ≡ until_of order planned → amount_refusal planned.plan planned.orders 0 e ≡ None → P (Ok (RunWork planned e))
+    → IfSome (option_map (λ files. and_then (plan_at order.run files) (λ found. run_work found (until_of order found))) held) P
+asked-run order planned e held P found is none p =
+    asked-after order planned held P found (subst (λ n. P (run_work planned n)) is (subst P (sym (work-accepted planned e none)) p))
+
+pub ends-done : (order : RunOrder) (planned : Planned) (e : ℕ) (held holds : Store) (before now : Output)
+    → Gathers (option_map (plan_at order.run) held.holds) (Ok planned) held holds → e ≡ until_of order planned
+    → amount_refusal planned.plan planned.orders 0 e ≡ None → now.taken ≡ appended before.taken (run_text planned e) → before.faults ≤ now.faults
+    → Ends (Some (Run order)) Done held holds before now
+ends-done order planned e held holds before now g is none whole later = record {
+  words = tt;
+  cause = asked-run order planned e held.holds (λ a. Fits a Done) g.found is none tt;
+  out = asked-run order planned e held.holds (λ a. now.taken ≡ appended before.taken (text_asked a)) g.found is none whole;
+  files = g.same;
+  later = (g.later, later);
+}
+
+pub ends-unwritten : (order : RunOrder) (planned : Planned) (e : ℕ) (held holds : Store) (before now : Output)
+    → Gathers (option_map (plan_at order.run) held.holds) (Ok planned) held holds → e ≡ until_of order planned
+    → amount_refusal planned.plan planned.orders 0 e ≡ None → AppendsPrefix before.taken now.taken (run_text planned e) → Rose before.faults now.faults → before.faults ≤ now.faults
+    → Ends (Some (Run order)) Unwritten held holds before now
+ends-unwritten order planned e held holds before now g is none prefix rose later = record {
+  words = tt;
+  cause = asked-run order planned e held.holds (λ a. Fits a Unwritten) g.found is none tt;
+  out = (rose, asked-run order planned e held.holds (λ a. AppendsPrefix before.taken now.taken (text_asked a)) g.found is none prefix);
+  files = g.same;
+  later = (g.later, later);
+}

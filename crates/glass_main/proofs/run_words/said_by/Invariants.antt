@@ -1,0 +1,12 @@
+use Rattle.std.proofs.Common.{◌≡◌, Some, take}
+use Rattle.std.specs.List.{fold}
+use Rattle.glass_main.specs.CommandLine.{with_word, nothing_said}
+use Rattle.glass_main.specs.ReadCommand.{read_said, AreLawfulWords}
+use Rattle.glass_main.specs.Words.{texts}
+use Rattle.glass_main.proofs.run_words.said_by.Given as goal
+
+abbrev pub invariant-words : goal.invariant-words
+invariant-words l = record {
+  told : fold with_word (Some nothing_said) (take l.k (texts l.words)) ≡ Some (read_said l.said);
+  lawful : AreLawfulWords l.said;
+}

@@ -1,0 +1,77 @@
+-- The lines on the error output, one for each way in which a call ends but the good one.
+use Rattle.std.specs.Prelude.{ℕ, ◌&&◌, nat_le, if◌then◌else◌, List, [], ◌++◌, map, codes, decimal}
+use Rattle.std.specs.Fmt.{signed_decimal}
+use Rattle.run_plan.specs.RunFile.{name_of}
+use Rattle.run_plan.specs.declared.refused.PlanRefused.{PlanRefused}
+use Rattle.run_plan.specs.declared.refused.PlanRefused.TheVariants as plan
+use Rattle.threshold_table.specs.declared.refused.TableRefused.{TableRefused}
+use Rattle.threshold_table.specs.declared.refused.TableRefused.TheVariants as table
+use Rattle.glass_main.specs.declared.role.Role.{Role}
+use Rattle.glass_main.specs.declared.role.Role.TheVariants as roles
+use Rattle.glass_main.specs.declared.refusal.Refusal.{Refusal}
+use Rattle.glass_main.specs.declared.refusal.Refusal.TheVariants.{Words, Absent, TooLong, Plan, Rules, Swaps}
+use Rattle.glass_main.specs.declared.ending.Ending.{Ending}
+use Rattle.glass_main.specs.declared.ending.Ending.TheVariants.{Done, Refused, Unread, Unwritten, NoMemory}
+
+-- a file by what it is read as
+unfoldable pub role_name : Role → List ℕ
+role_name roles.RunFile = codes "run file"
+role_name roles.RuleTable = codes "rule table"
+role_name roles.SwapTable = codes "swap table"
+
+unfoldable pub memory_line : List ℕ
+memory_line = codes "glass: no memory\n"
+
+-- a byte as it is printed: itself where it is a printable one of ASCII, else a question mark (63)
+abbrev pub printable : ℕ → ℕ
+printable b = if nat_le 32 b && nat_le b 126 then b else 63
+
+-- why a run file was refused, or the amount of what it orders
+unfoldable pub plan_line : PlanRefused → List ℕ
+plan_line plan.Toml = codes "glass: the run file is not TOML\n"
+plan_line (plan.Missing key) = codes "glass: key " ++ name_of key ++ codes " is missing\n"
+plan_line (plan.Kind key) = codes "glass: key " ++ name_of key ++ codes " has the wrong kind\n"
+plan_line (plan.Range key value) = codes "glass: key " ++ name_of key ++ codes " is out of range: " ++ signed_decimal value ++ codes "\n"
+plan_line (plan.Word key) = codes "glass: key " ++ name_of key ++ codes " has an unknown word\n"
+plan_line (plan.Unknown key) = codes "glass: unknown key " ++ map printable key ++ codes "\n"
+plan_line (plan.Rows count) = codes "glass: too many rows: " ++ decimal count ++ codes "\n"
+plan_line (plan.Spins bits) = codes "glass: too many spin bits: " ++ decimal bits ++ codes "\n"
+plan_line plan.NoMemory = memory_line
+
+-- how a line begins that speaks of a file, of a record of a table, and of a field of a record
+unfoldable pub file_front : Role → List ℕ
+file_front role = codes "glass: the " ++ role_name role
+
+unfoldable pub record_front : Role → ℕ → List ℕ
+record_front role at = file_front role ++ codes ", record " ++ decimal at
+
+unfoldable pub field_front : Role → ℕ → ℕ → List ℕ
+field_front role at field = record_front role at ++ codes ", field " ++ decimal field
+
+-- why a table was refused
+unfoldable pub table_line : Role → TableRefused → List ℕ
+table_line role table.Csv = file_front role ++ codes " is not CSV\n"
+table_line role (table.Fields at found wanted) =
+    record_front role at ++ codes " has " ++ decimal found ++ codes " fields, not " ++ decimal wanted ++ codes "\n"
+table_line role (table.Number at field) = field_front role at field ++ codes " is not a number\n"
+table_line role (table.TooGreat at field value) = field_front role at field ++ codes " is too great: " ++ decimal value ++ codes "\n"
+table_line role (table.Records found wanted) =
+    file_front role ++ codes " has " ++ decimal found ++ codes " records, not " ++ decimal wanted ++ codes "\n"
+table_line role table.NoMemory = memory_line
+
+-- the line of a refusal
+unfoldable pub refusal_line : Refusal → List ℕ
+refusal_line Words = codes "glass: the command line is not understood\n"
+refusal_line (TooLong role n) = file_front role ++ codes " is too long: " ++ decimal n ++ codes " bytes\n"
+refusal_line (Plan refused) = plan_line refused
+refusal_line (Rules refused) = table_line roles.RuleTable refused
+refusal_line (Swaps refused) = table_line roles.SwapTable refused
+refusal_line (Absent role) = file_front role ++ codes " is not held\n"
+
+-- the line of an ending
+unfoldable pub line_of : Ending → List ℕ
+line_of Done = []
+line_of (Refused refusal) = refusal_line refusal
+line_of (Unread role) = codes "glass: reading the " ++ role_name role ++ codes " failed\n"
+line_of Unwritten = codes "glass: writing the report failed\n"
+line_of NoMemory = memory_line

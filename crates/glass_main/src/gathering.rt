@@ -1,0 +1,165 @@
+//! Reading what a run file names, step by step.
+
+ghost use Rattle.std.specs.Prelude.{◌≡◌, ◌≤◌, ◌+◌, length, option_map, IfOk};
+ghost use Rattle.run_plan.specs.RunFile.{IsLawfulRunFile, AreLawfulOrders};
+ghost use Rattle.run_plan.specs.PlanOf.{plan_with};
+ghost use Rattle.glass_main.specs.Gathers.{Gathers};
+ghost use Rattle.glass_main.specs.Outside.{store};
+ghost use Rattle.glass_main.specs.Request as model;
+
+use crate::ending::Ending;
+use crate::planned::Planned;
+use crate::refusal::Refusal;
+use crate::role::Role;
+use coupling_set::Couplings;
+use glass_edges::{Fetched, Shelf};
+use plain_list::Items;
+use run_plan::{PlanRefused, RunFile, read_plan};
+use scalar_rule::Plan;
+use std::alloc::Global;
+use threshold_table::{RuleTable, SwapTable, TableRefused, read_rule, read_swap};
+
+/// Reads the run file of a name, then the tables that it names, and makes its couplings.
+#[tactic(auto, unfolding(crate::specs::Request::plan_at))]
+pub(crate) fn gather_plan<H: Shelf>(
+    alloc: Global,
+    shelf: &mut H,
+    name: &str,
+) -> Result<Planned, Ending>
+    ensures asked { Gathers (option_map (model.plan_at name.now) (H.holds shelf.old)) result
+        (store H.holds H.faults shelf.old) (store H.holds H.faults shelf.new) }
+    ensures orders { IfOk result (λ planned. AreLawfulOrders planned.orders) }
+{
+    let file = gather_run_file(alloc, shelf, name)?;
+    gather_after_file(alloc, shelf, &file)
+}
+
+// Reads the tables of a run file, and makes its couplings.
+#[tactic(auto, unfolding(crate::specs::Request::plan_after_file))]
+fn gather_after_file<H: Shelf>(
+    alloc: Global,
+    shelf: &mut H,
+    file: &RunFile,
+) -> Result<Planned, Ending>
+    requires { IsLawfulRunFile file.now }
+    ensures asked { Gathers (option_map (model.plan_after_file file.now) (H.holds shelf.old)) result
+        (store H.holds H.faults shelf.old) (store H.holds H.faults shelf.new) }
+    ensures orders { IfOk result (λ planned. AreLawfulOrders planned.orders) }
+{
+    let rules = gather_rules(alloc, shelf, file)?;
+    gather_after_rules(alloc, shelf, file, rules)
+}
+
+// Reads the swap table of a run file whose rule table is read, and makes its couplings.
+#[tactic(auto, unfolding(crate::specs::Request::plan_after_rules))]
+fn gather_after_rules<H: Shelf>(
+    alloc: Global,
+    shelf: &mut H,
+    file: &RunFile,
+    rules: RuleTable,
+) -> Result<Planned, Ending>
+    requires { IsLawfulRunFile file.now }
+    ensures asked { Gathers (option_map (model.plan_after_rules file.now rules) (H.holds shelf.old)) result
+        (store H.holds H.faults shelf.old) (store H.holds H.faults shelf.new) }
+    ensures orders { IfOk result (λ planned. AreLawfulOrders planned.orders) }
+{
+    let swaps = gather_swaps(alloc, shelf, file, &rules)?;
+    let couplings = gather_couplings(alloc, shelf, file)?;
+    Ok(Planned {
+        plan: Plan::new(
+            file.lattice,
+            rules,
+            swaps,
+            couplings,
+            file.sweeps,
+            file.seed,
+        ),
+        orders: file.orders,
+    })
+}
+
+// Reads the run file of a name.
+#[tactic(auto, unfolding(crate::specs::Request::run_file_at))]
+fn gather_run_file<H: Shelf>(alloc: Global, shelf: &mut H, name: &str) -> Result<RunFile, Ending>
+    ensures asked { Gathers (option_map (model.run_file_at name.now) (H.holds shelf.old)) result
+        (store H.holds H.faults shelf.old) (store H.holds H.faults shelf.new) }
+    ensures lawful { IfOk result IsLawfulRunFile }
+{
+    let bytes = gather_bytes(alloc, shelf, Role::RunFile, name)?;
+    match read_plan(alloc, bytes.as_slice()) {
+        Ok(file) => Ok(file),
+        Err(PlanRefused::NoMemory) => Err(Ending::NoMemory),
+        Err(refused) => Err(Ending::Refused(Refusal::Plan(refused))),
+    }
+}
+
+// Reads the rule table that a run file names.
+#[tactic(auto, unfolding(crate::specs::Request::rules_at))]
+fn gather_rules<H: Shelf>(alloc: Global, shelf: &mut H, file: &RunFile) -> Result<RuleTable, Ending>
+    ensures { Gathers (option_map (model.rules_at file.now) (H.holds shelf.old)) result
+        (store H.holds H.faults shelf.old) (store H.holds H.faults shelf.new) }
+{
+    let bytes = gather_bytes(alloc, shelf, Role::RuleTable, file.rules.as_str())?;
+    match read_rule(alloc, bytes.as_slice(), file.kind) {
+        Ok(rules) => Ok(rules),
+        Err(TableRefused::NoMemory) => Err(Ending::NoMemory),
+        Err(refused) => Err(Ending::Refused(Refusal::Rules(refused))),
+    }
+}
+
+// Reads the swap table that a run file names, for so many slots.
+#[tactic(auto, unfolding(crate::specs::Request::swaps_at))]
+fn gather_swaps<H: Shelf>(
+    alloc: Global,
+    shelf: &mut H,
+    file: &RunFile,
+    rules: &RuleTable,
+) -> Result<SwapTable, Ending>
+    ensures asked { Gathers (option_map (model.swaps_at file.now rules.now) (H.holds shelf.old)) result
+        (store H.holds H.faults shelf.old) (store H.holds H.faults shelf.new) }
+    ensures pairs { IfOk result (λ swaps. length swaps + 1 ≡ length rules.now.rows) }
+{
+    let bytes = gather_bytes(alloc, shelf, Role::SwapTable, file.swaps.as_str())?;
+    match read_swap(alloc, bytes.as_slice(), rules.slots()) {
+        Ok(swaps) => Ok(swaps),
+        Err(TableRefused::NoMemory) => Err(Ending::NoMemory),
+        Err(refused) => Err(Ending::Refused(Refusal::Swaps(refused))),
+    }
+}
+
+// Makes the couplings of a run file.
+#[tactic(auto, unfolding(crate::specs::Request::couplings_at))]
+fn gather_couplings<H: Shelf>(
+    alloc: Global,
+    _shelf: &mut H,
+    file: &RunFile,
+) -> Result<Couplings, Ending>
+    ensures asked { Gathers (option_map (model.couplings_at file.now) (H.holds _shelf.old)) result
+        (store H.holds H.faults _shelf.old) (store H.holds H.faults _shelf.new) }
+    ensures size { IfOk result (λ couplings. couplings.size ≡ file.now.lattice) }
+{
+    match file.make_couplings(alloc) {
+        Ok(couplings) => Ok(couplings),
+        Err(PlanRefused::NoMemory) => Err(Ending::NoMemory),
+        Err(refused) => Err(Ending::Refused(Refusal::Plan(refused))),
+    }
+}
+
+// Fetches the bytes of a file.
+fn gather_bytes<H: Shelf>(
+    alloc: Global,
+    shelf: &mut H,
+    role: Role,
+    name: &str,
+) -> Result<Items<u8>, Ending>
+    ensures { Gathers (option_map (model.bytes_at role name.now) (H.holds shelf.old)) result
+        (store H.holds H.faults shelf.old) (store H.holds H.faults shelf.new) }
+{
+    match shelf.fetch(alloc, name, role.limit()) {
+        Fetched::Held(bytes) => Ok(Items::of(bytes)),
+        Fetched::Absent => Err(Ending::Refused(Refusal::Absent(role))),
+        Fetched::TooLong(n) => Err(Ending::Refused(Refusal::TooLong(role, n))),
+        Fetched::Failed => Err(Ending::Unread(role)),
+        Fetched::NoMemory => Err(Ending::NoMemory),
+    }
+}

@@ -1,0 +1,127 @@
+//! The lines on the error output.
+
+ghost use Rattle.std.specs.Prelude.{◌≡◌, ◌+◌, ◌≤◌, ◌++◌, [], ℕ, codes, decimal, length};
+ghost use Rattle.glass_main.specs.Lines.{role_name, file_front, line_of, refusal_line};
+ghost use Rattle.glass_main.specs.Outside.{output};
+ghost use Rattle.glass_main.specs.Statuses.{status_of, Says, Told};
+
+use crate::ending::{Ending, status};
+use crate::plan_lines::say_plan;
+use crate::refusal::Refusal;
+use crate::role::Role;
+use crate::table_lines::say_table;
+use glass_edges::{Line, Sink, put_all};
+
+/// Writes the line of an ending on the error output. A fault of that output changes nothing else.
+#[tactic(auto, unfolding(crate::specs::Lines::line_of, crate::specs::Lines::memory_line))]
+pub(crate) fn tell<E: Sink>(err: &mut E, ending: &Ending)
+    ensures { Told ending.now (output E.taken E.faults err.old) (output E.taken E.faults err.new) }
+{
+    match ending {
+        Ending::Done => {}
+        Ending::Refused(refusal) => say_refusal(err, refusal),
+        Ending::Unread(role) => say_role(err, b"glass: reading the ", *role, b" failed\n"),
+        Ending::Unwritten => say(err, b"glass: writing the report failed\n"),
+        Ending::NoMemory => say(err, b"glass: no memory\n"),
+    }
+}
+
+/// Writes the line of the want of memory, where the words themselves could not be had, and answers
+/// the status.
+pub fn no_memory<E: Sink>(err: &mut E) -> u8
+    ensures status { result ≡ status_of Ending.NoMemory }
+    ensures err { Told Ending.NoMemory (output E.taken E.faults err.old) (output E.taken E.faults err.new) }
+{
+    tell(err, &Ending::NoMemory);
+    status(&Ending::NoMemory)
+}
+
+#[tactic(auto, unfolding(crate::specs::Lines::refusal_line))]
+fn say_refusal<E: Sink>(err: &mut E, refusal: &Refusal)
+    ensures { Says (refusal_line refusal.now) (output E.taken E.faults err.old)
+        (output E.taken E.faults err.new) }
+{
+    match refusal {
+        Refusal::Words => say(err, b"glass: the command line is not understood\n"),
+        Refusal::Absent(role) => say_end(err, *role, b" is not held\n"),
+        Refusal::TooLong(role, n) => say_length(err, *role, *n),
+        Refusal::Plan(refused) => say_plan(err, refused),
+        Refusal::Rules(refused) => say_table(err, Role::RuleTable, refused),
+        Refusal::Swaps(refused) => say_table(err, Role::SwapTable, refused),
+    }
+}
+
+// A line with the name of a file in it.
+fn say_role<E: Sink>(err: &mut E, before: &[u8], role: Role, after: &[u8])
+    requires { length before.now + length after.now ≤ 100 }
+    ensures { Says (before.now ++ role_name role ++ after.now)
+        (output E.taken E.faults err.old) (output E.taken E.faults err.new) }
+{
+    let mut line = Line::new();
+    line.add(before);
+    line.add(role.name());
+    line.add(after);
+    say(err, line.as_slice());
+}
+
+/// Adds the front of a line on a file.
+#[tactic(auto, unfolding(crate::specs::Lines::file_front))]
+pub(crate) fn add_file(line: &mut Line, role: Role)
+    requires { line.old ≡ [] }
+    ensures text { line.new ≡ file_front role }
+    ensures short { length line.new ≤ 21 }
+{
+    line.add(b"glass: the ");
+    line.add(role.name());
+}
+
+/// Writes a line on a file.
+pub(crate) fn say_end<E: Sink>(err: &mut E, role: Role, end: &[u8])
+    requires { length end.now ≤ 100 }
+    ensures { Says (file_front role ++ end.now)
+        (output E.taken E.faults err.old) (output E.taken E.faults err.new) }
+{
+    let mut line = Line::new();
+    add_file(&mut line, role);
+    line.add(end);
+    say(err, line.as_slice());
+}
+
+// The line of a file that is too long.
+fn say_length<E: Sink>(err: &mut E, role: Role, length: u64)
+    ensures { Says (file_front role ++ codes " is too long: " ++ decimal length ++ codes " bytes\n")
+        (output E.taken E.faults err.old) (output E.taken E.faults err.new) }
+{
+    let mut line = Line::new();
+    add_file(&mut line, role);
+    say_number(err, &mut line, b" is too long: ", length, b" bytes\n");
+}
+
+/// Writes what the buffer has, and behind it a number between two texts.
+pub(crate) fn say_number<E: Sink>(
+    err: &mut E,
+    line: &mut Line,
+    before: &[u8],
+    number: u64,
+    after: &[u8],
+)
+    requires { length line.old + length before.now + length after.now ≤ 200 }
+    ensures { Says (line.old ++ before.now ++ decimal number ++ after.now)
+        (output E.taken E.faults err.old) (output E.taken E.faults err.new) }
+{
+    line.add(before);
+    line.number(number);
+    line.add(after);
+    say(err, line.as_slice());
+}
+
+/// Writes a line, the end of which is lost where the error output fails.
+#[tactic(auto, unfolding(crate::specs::Statuses::Says))]
+pub(crate) fn say<E: Sink>(err: &mut E, line: &[u8])
+    ensures { Says line.now (output E.taken E.faults err.old) (output E.taken E.faults err.new) }
+{
+    match put_all(err, line) {
+        Ok(()) => {}
+        Err(_) => {}
+    }
+}

@@ -1,0 +1,49 @@
+//! Why a request is refused.
+
+ghost use Rattle.std.specs.Prelude.{◌≡◌};
+ghost use Rattle.glass_main.specs.Statuses.{role_status, refusal_status};
+
+use crate::role::Role;
+use run_plan::PlanRefused;
+use threshold_table::TableRefused;
+
+/// Why a request is refused.
+#[derive(Debug, Drop)]
+pub enum Refusal {
+    /// The words are no command.
+    Words,
+    /// The store holds no file of the name that is read as this.
+    Absent(Role),
+    /// The file that is read as this has at least so many bytes, more than it may have.
+    TooLong(Role, u64),
+    /// The run file is refused.
+    Plan(PlanRefused),
+    /// The rule table is refused.
+    Rules(TableRefused),
+    /// The swap table is refused.
+    Swaps(TableRefused),
+}
+
+/// The exit status of a refusal.
+pub(crate) fn refusal_status(refusal: &Refusal) -> u8
+    ensures { result ≡ refusal_status refusal.now }
+{
+    match refusal {
+        Refusal::Words => 2,
+        Refusal::Absent(_) => 7,
+        Refusal::TooLong(role, _) => role_status(*role),
+        Refusal::Plan(_) => 3,
+        Refusal::Rules(_) => 4,
+        Refusal::Swaps(_) => 4,
+    }
+}
+
+fn role_status(role: Role) -> u8
+    ensures { result ≡ role_status role }
+{
+    match role {
+        Role::RunFile => 3,
+        Role::RuleTable => 4,
+        Role::SwapTable => 4,
+    }
+}

@@ -1,0 +1,73 @@
+//! A spin glass at sixteen temperatures, whose report an independent program made too.
+
+use crate::called::call_with;
+use crate::files::store;
+use sha2::{Digest, Sha256};
+use std::test::Fail;
+
+const RUN: &str = "# 8^3 glass, sixteen temperatures
+size = 8
+rule = \"metropolis\"
+rules = \"rules.csv\"
+swaps = \"swaps.csv\"
+couplings = \"random\"
+sweeps = 2
+seed = 20240611
+samples = 64
+epochs = 20
+every = 10
+start = \"random\"
+spins = false
+";
+
+/// The probability 1.
+const ALWAYS: u64 = 4294967296;
+
+// x·y div divisor; no product here reaches 2^64.
+fn scaled(x: u64, y: u64, divisor: u64) -> u64 {
+    x.saturating_mul(y).checked_div(divisor).unwrap_or(0)
+}
+
+// The Metropolis thresholds of sixteen slots: powers of (t + 2) / (t + 10).
+fn rules(rt: &HostRuntime) -> Result<String, Fail> {
+    let mut text = String::new(rt.alloc());
+    for t in 0..16u64 {
+        let x = scaled(ALWAYS, t + 2, t + 10);
+        let y = scaled(x, x, ALWAYS);
+        let z = scaled(y, x, ALWAYS);
+        text.push_str(format!(in rt.alloc(); "{x}, {y}, {z}\n")?.as_str())?;
+    }
+    Ok(text)
+}
+
+// The exchange thresholds of fifteen pairs, 64 each: powers of the ratio of neighbouring slots.
+fn swaps(rt: &HostRuntime) -> Result<String, Fail> {
+    let mut text = String::new(rt.alloc());
+    for k in 0..15u64 {
+        let ratio = scaled(ALWAYS, (k + 2) * (k + 11), (k + 10) * (k + 3));
+        let mut entry = ratio;
+        text.push_str(format!(in rt.alloc(); "{entry}")?.as_str())?;
+        for _ in 1..64 {
+            entry = scaled(entry, ratio, ALWAYS);
+            text.push_str(format!(in rt.alloc(); ", {entry}")?.as_str())?;
+        }
+        text.push_str("\n")?;
+    }
+    Ok(text)
+}
+
+// The SHA-256 of the report, by an independent program.
+const DIGEST: [u8; 32] = [
+    0x61, 0x3a, 0x84, 0xd7, 0x28, 0x1a, 0x0a, 0x80, 0x63, 0xfb, 0x47, 0xde, 0xd1, 0x2b, 0x5e, 0xee,
+    0x62, 0x1b, 0x1f, 0x56, 0x20, 0xfa, 0xe2, 0x66, 0x38, 0x61, 0xf6, 0x4a, 0x49, 0xdb, 0x03, 0x99,
+];
+
+#[test]
+fn sixteen_temperatures_64_samples(rt: HostRuntime) -> Result<(), Fail> {
+    let shelf = store(&rt, RUN, rules(&rt)?.as_str(), swaps(&rt)?.as_str())?;
+    let called = call_with(&rt, "run run.toml --workers 4 --pieces 2", shelf)?;
+    assert_eq!(rt; called.status, 0);
+    assert_eq!(rt; called.out.taken().len(), 60821);
+    assert_eq!(rt; Sha256::digest(called.out.taken()), DIGEST);
+    Ok(())
+}
