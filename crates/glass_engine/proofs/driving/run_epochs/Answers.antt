@@ -1,4 +1,4 @@
-use Rattle.std.proofs.Common.{rules, arith, ◌*◌, ◌≤◌, ◌++◌, cond, [], append_assoc, append-nil, ◌∙◌, ap, sym}
+use Rattle.std.proofs.Common.{rules, arith, ◌*◌, ◌<◌, ◌≤◌, ◌++◌, cond, [], append_assoc, append-nil, ◌∙◌, ap, sym}
 use Rattle.scalar_rule.specs.Epoch.{epoch, epoch_records}
 use Rattle.scalar_rule.specs.Plan.{slots_of}
 use Rattle.scalar_rule.specs.Records.{is_recorded, in_order, measured_from, records_at}
@@ -29,7 +29,8 @@ run_epoch-requires-clause-epochs c = λ k within.
 
 pub run_epoch-requires-clause-room : goal.run_epoch-requires-clause-room
 run_epoch-requires-clause-room c =
-    let room = room-epoch (c.args.orders.now.samples * slots_of c.args.plan.now) c.args.orders.now.every c.epochs.epoch c.args.until c.requires.orders.some_every c.epochs-test.true in
+    let below : c.epochs.epoch < c.args.until = omega (arith, c.epochs-test.true) in
+    let room = room-epoch (c.args.orders.now.samples * slots_of c.args.plan.now) c.args.orders.now.every c.epochs.epoch c.args.until c.requires.orders.some_every below in
     omega (arith, c.epochs.invariant.spare)
 
 pub epochs-preserved : goal.epochs-preserved
@@ -43,7 +44,8 @@ epochs-preserved c =
     let few : samples ≤ 64 = c.requires.orders.few_samples in
     let measured = joined-same (λ b. epoch_records plan (sample_at c.epochs.samples b)) (λ b. epoch_records plan (serial plan (start b) e)) (λ b. b) samples
     (λ b below. ap (epoch_records plan) (c.epochs.invariant.states b (omega arith))) in
-    let room = room-epoch (samples * slots_of plan) every e c.args.until c.requires.orders.some_every c.epochs-test.true in
+    let below : e < c.args.until = omega (arith, c.epochs-test.true) in
+    let room = room-epoch (samples * slots_of plan) every e c.args.until c.requires.orders.some_every below in
     record {
       count = c.run_epoch.ensures.count;
       states = λ k within.

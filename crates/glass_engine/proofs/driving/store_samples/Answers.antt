@@ -14,7 +14,7 @@ use Rattle.glass_engine.proofs.driving.store_samples.Goals as goal
 
 pub store-requires-clause-labels : goal.store-requires-clause-labels
 store-requires-clause-labels c =
-    let within : c.samples.b < 64 = c.samples-test.true in
+    let within : c.samples.b < 64 = omega (arith, c.samples-test.true) in
     let below : c.samples.b < length c.args.samples.now = omega (arith, c.requires.count) in
     let read = sample-read c.args.samples.now c.samples.b c.at.result.now below c.at.ensures in
     subst (PermutesLabels c.args.plan.now) (sym read) (c.requires.labels c.samples.b within)
@@ -41,7 +41,7 @@ stored-more plan at b s old new within is fit bit words stored own others k belo
 
 pub samples-preserved : goal.samples-preserved
 samples-preserved c =
-    let within : c.samples.b < 64 = c.samples-test.true in
+    let within : c.samples.b < 64 = omega (arith, c.samples-test.true) in
     let below : c.samples.b < length c.args.samples.now = omega (arith, c.requires.count) in
     let read = sample-read c.args.samples.now c.samples.b c.at.result.now below c.at.ensures in
     record {
