@@ -237,6 +237,31 @@ fn until_and_amounts(rt: HostRuntime) -> Result<(), Fail> {
     Ok(())
 }
 
+// Of a run whose rule table and whose amount are both refused the table is told, and of one whose
+// swap table is.
+#[test]
+fn refused_table_is_told_before_a_too_large_amount(rt: HostRuntime) -> Result<(), Fail> {
+    for (rules, swaps, line) in [
+        (
+            "0,0,4294967297,0,0,0,0\n",
+            "",
+            "glass: the rule table, record 0, field 2 is too great: 4294967297\n",
+        ),
+        (
+            "0,0,0,0,0,0,0\n0,0,0,0,0,0,0\n",
+            "",
+            "glass: the swap table has 0 records, not 1\n",
+        ),
+    ] {
+        let store = store(&rt, RUN, rules, swaps)?;
+        let called = call_with(&rt, "run run.toml --until 4194305", store)?;
+        assert_eq!(rt; called.status, 4, "{line}");
+        assert!(rt; called.out.taken().is_empty(), "{line}");
+        assert_eq!(rt; called.err.taken(), line.as_bytes());
+    }
+    Ok(())
+}
+
 #[test]
 fn write_fault_leaves_a_prefix(rt: HostRuntime) -> Result<(), Fail> {
     let shelf = store(&rt, RUN, DOWN, "")?;
