@@ -12,6 +12,8 @@ mod plain;
 #[cfg(test)]
 mod report;
 #[cfg(test)]
+mod samples_alone;
+#[cfg(test)]
 mod sixteen_temperatures;
 #[cfg(test)]
 mod words;
