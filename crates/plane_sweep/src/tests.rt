@@ -135,8 +135,10 @@ fn a_stored_sample_comes_back_and_the_others_stay(rt: HostRuntime) -> Result<(),
     stand.store(&plan, &up);
     let part = stand.sample(alloc, &plan, 37)?;
     assert!(rt; same_sample(&part, &up));
-    for bit in [0, 5, 31, 32, 36, 38, 63] {
-        assert!(rt; bit < 64);
+    for bit in 0..64 {
+        if bit == 37 {
+            continue;
+        }
         let part = stand.sample(alloc, &plan, bit)?;
         let before = Sample::opening(alloc, &plan, bit, Start::Random)?;
         assert!(rt; same_spins_everywhere(&part, &before), "sample {bit}");
