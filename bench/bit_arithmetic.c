@@ -1,10 +1,7 @@
 /* count6 and add_count in C, to compare with the crate bit_compare: the same functions on the same
    words, timed as crates/bench_bits times them. Prints for each the least nanoseconds of a pass and
    the exclusive or of all words that it left. */
-#include <inttypes.h>
-#include <stdio.h>
-#include <stdlib.h>
-#include <time.h>
+#include "common.h"
 
 enum { PLANES = 20, GROUPS = 1048576 / (6 * 8), TOTALS = 1048576 / (PLANES * 8) };
 
@@ -53,21 +50,6 @@ static __attribute__((noinline)) void add_all(uint64_t (*restrict totals)[PLANES
     for (size_t i = 0; i < length; i++)
         add_count(totals[i], counts[i]);
 }
-
-static uint64_t next_word(uint64_t *state) {
-    *state ^= *state << 13;
-    *state ^= *state >> 7;
-    *state ^= *state << 17;
-    return *state;
-}
-
-static uint64_t now(void) {
-    struct timespec t;
-    clock_gettime(CLOCK_MONOTONIC, &t);
-    return (uint64_t)t.tv_sec * 1000000000 + (uint64_t)t.tv_nsec;
-}
-
-static uint64_t least(uint64_t a, uint64_t b) { return a < b ? a : b; }
 
 static uint64_t check(const uint64_t *words, size_t length) {
     uint64_t all = 0;

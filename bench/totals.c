@@ -1,26 +1,15 @@
 /* The unsatisfied bonds and the agreeing sites of 64 samples in C, to compare with the crate bit_totals:
    the same form on the same words, timed as crates/bench_totals times them. Prints for each the least
-   nanoseconds of a pass and the exclusive or of the planes that it left. */
-#include <inttypes.h>
-#include <stdio.h>
-#include <stdlib.h>
-#include <string.h>
-#include <time.h>
+   nanoseconds of a pass and the planes that it left in one number. */
+#include "common.h"
+#include "lanes.h"
 
 enum { PLANES = 20, MOST = 64 * 64 * 64, PLANE = 64 * 32 };
 
-typedef uint64_t lanes __attribute__((vector_size(64)));
-
 static uint64_t first[MOST], second[MOST], couplings[3 * MOST], ones[PLANE], buffer[PLANE];
 
-static inline void full_adder(lanes a, lanes b, lanes c, lanes *low, lanes *high) {
-    lanes either = a ^ b;
-    *low = either ^ c;
-    *high = (a & b) | (either & c);
-}
-
 /* Adds a count of four rows to twenty, in each lane. */
-static inline void add_rows(lanes total[PLANES], const lanes count[4]) {
+INLINE void add_rows(lanes total[PLANES], const lanes count[4]) {
     lanes carry = {0};
 #pragma GCC unroll 20
     for (int w = 0; w < 4; w++)
@@ -33,7 +22,7 @@ static inline void add_rows(lanes total[PLANES], const lanes count[4]) {
     }
 }
 
-static inline lanes row_at(const uint64_t *a, const uint64_t *b, const uint64_t *c) {
+INLINE lanes row_at(const uint64_t *a, const uint64_t *b, const uint64_t *c) {
     lanes x, y, z;
     memcpy(&x, a, sizeof x);
     memcpy(&y, b, sizeof y);
@@ -42,7 +31,7 @@ static inline lanes row_at(const uint64_t *a, const uint64_t *b, const uint64_t 
 }
 
 /* How many of eight rows have each sample's bit, in four rows. */
-static inline void count_rows(const lanes eight[8], lanes count[4]) {
+INLINE void count_rows(const lanes eight[8], lanes count[4]) {
     lanes none = {0}, front, back, most, pairs, c, d, e, f, g, h;
     full_adder(eight[0], eight[1], eight[2], &front, &c);
     full_adder(eight[3], eight[4], eight[5], &back, &d);
@@ -54,18 +43,18 @@ static inline void count_rows(const lanes eight[8], lanes count[4]) {
 }
 
 /* Adds in how many places an odd number of three words has each sample's bit. */
-static void tally(lanes total[PLANES], const uint64_t *a, const uint64_t *b, const uint64_t *c, size_t n) {
+INLINE void tally(lanes total[PLANES], const uint64_t *a, const uint64_t *b, const uint64_t *c, size_t n) {
     size_t at = 0;
-    for (; n - at >= 64; at += 64) {
+    for (; n - at >= 8 * WIDTH; at += 8 * WIDTH) {
         lanes eight[8], count[4];
         for (int r = 0; r < 8; r++)
-            eight[r] = row_at(a + at + 8 * r, b + at + 8 * r, c + at + 8 * r);
+            eight[r] = row_at(a + at + WIDTH * r, b + at + WIDTH * r, c + at + WIDTH * r);
         count_rows(eight, count);
         add_rows(total, count);
     }
-    for (; at < n; at += 8) {
+    for (; at < n; at += WIDTH) {
         lanes count[4] = {{0}};
-        for (size_t i = 0; i < 8 && at + i < n; i++)
+        for (size_t i = 0; i < WIDTH && at + i < n; i++)
             count[0][i] = a[at + i] ^ b[at + i] ^ c[at + i];
         add_rows(total, count);
     }
@@ -73,7 +62,7 @@ static void tally(lanes total[PLANES], const uint64_t *a, const uint64_t *b, con
 
 static void total_of(const lanes rows[PLANES], uint64_t total[PLANES]) {
     memset(total, 0, PLANES * sizeof *total);
-    for (int lane = 0; lane < 8; lane++) {
+    for (int lane = 0; lane < WIDTH; lane++) {
         uint64_t carry = 0;
         for (int w = 0; w < PLANES; w++) {
             uint64_t a = total[w], b = rows[w][lane], either = a ^ b;
@@ -84,7 +73,7 @@ static void total_of(const lanes rows[PLANES], uint64_t total[PLANES]) {
 }
 
 /* The words so many places on, the last ones followed by the first. */
-static inline void turn(uint64_t *out, const uint64_t *words, size_t n, size_t step) {
+INLINE void turn(uint64_t *out, const uint64_t *words, size_t n, size_t step) {
     memcpy(out, words + step, (n - step) * sizeof *out);
     memcpy(out + n - step, words, step * sizeof *out);
 }
@@ -115,24 +104,11 @@ static __attribute__((noinline)) void agreeing(const uint64_t *a, const uint64_t
     total_of(rows, total);
 }
 
-static uint64_t next_word(uint64_t *state) {
-    *state ^= *state << 13;
-    *state ^= *state >> 7;
-    *state ^= *state << 17;
-    return *state;
-}
-
-static uint64_t now(void) {
-    struct timespec t;
-    clock_gettime(CLOCK_MONOTONIC, &t);
-    return (uint64_t)t.tv_sec * 1000000000 + (uint64_t)t.tv_nsec;
-}
-
-static void say(const char *name, uint64_t least, const uint64_t total[PLANES]) {
+static void say(const char *name, uint64_t time, const uint64_t total[PLANES]) {
     uint64_t all = 0;
     for (int w = 0; w < PLANES; w++)
         all = all * 3 ^ total[w];
-    printf("%s %" PRIu64 " %" PRIu64 "\n", name, least, all);
+    printf("%s %" PRIu64 " %" PRIu64 "\n", name, time, all);
 }
 
 int main(int argc, char **argv) {
@@ -142,28 +118,26 @@ int main(int argc, char **argv) {
     }
     size_t size = strtoul(argv[1], NULL, 10), volume = size * size * size;
     long passes = strtol(argv[2], NULL, 10);
-    uint64_t state = 88172645463325252, total[PLANES] = {0}, least;
+    uint64_t state = 88172645463325252, total[PLANES] = {0}, time;
     for (size_t i = 0; i < volume; i++)
         first[i] = next_word(&state);
     for (size_t i = 0; i < volume; i++)
         second[i] = next_word(&state);
     for (size_t i = 0; i < PLANE; i++)
         ones[i] = UINT64_MAX;
-    least = UINT64_MAX;
+    time = UINT64_MAX;
     for (long i = 0; i < passes; i++) {
         uint64_t start = now();
         unsatisfied(first, size, total);
-        uint64_t took = now() - start;
-        least = took < least ? took : least;
+        time = least(time, now() - start);
     }
-    say("unsatisfied", least, total);
-    least = UINT64_MAX;
+    say("unsatisfied", time, total);
+    time = UINT64_MAX;
     for (long i = 0; i < passes; i++) {
         uint64_t start = now();
         agreeing(first, second, size, total);
-        uint64_t took = now() - start;
-        least = took < least ? took : least;
+        time = least(time, now() - start);
     }
-    say("agreeing", least, total);
+    say("agreeing", time, total);
     return 0;
 }

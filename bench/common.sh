@@ -1,0 +1,85 @@
+# What the benchmark scripts share. A script sources it after it has set passes and limit, sizes too where
+# it takes them, and a function usage.
+set -euo pipefail
+
+script=${0##*/}
+cpu=x86-64-v2
+turns=5
+
+fail() {
+    echo "$script: $1" >&2
+    exit 2
+}
+
+number() {
+    case "$2" in
+        '' | 0* | *[!0-9]*) fail "$1 takes a number above 0, not '$2'" ;;
+        *) echo "$2" ;;
+    esac
+}
+
+check_words() {
+    case "$cpu" in
+        x86-64-v2 | x86-64-v3) ;;
+        *) fail "--cpu takes x86-64-v2 or x86-64-v3, not '$cpu'" ;;
+    esac
+    case "$limit" in
+        '' | . | *[!0-9.]* | *.*.*) fail "--limit takes a ratio such as 1.5, not '$limit'" ;;
+    esac
+}
+
+# Takes the words of the command line.
+read_words() {
+    while [ $# -gt 0 ]; do
+        case "$1" in
+            --help) usage; exit 0 ;;
+            --cpu) cpu=${2-} ;;
+            --limit) limit=${2-} ;;
+            --passes) passes=$(number --passes "${2-}") ;;
+            --turns) turns=$(number --turns "${2-}") ;;
+            --sizes) [ -n "${sizes-}" ] || fail "unknown word '$1' (see --help)"; sizes=${2-} ;;
+            *) fail "unknown word '$1' (see --help)" ;;
+        esac
+        shift 2 || fail "a value is missing (see --help)"
+    done
+    check_words
+}
+
+# Builds bench/$1.c and the crate $2 into $build, for the same processor.
+build_sides() {
+    cd "$(dirname "$0")/.."
+    build=bench/build
+    mkdir -p "$build"
+    gcc -O3 "-march=$cpu" "bench/$1.c" -o "$build/$1_c" || fail "gcc failed"
+    (cd "crates/$2" && rt run "--cpu=$cpu") > "$build/$2.log" 2>&1 \
+        || fail "rt run failed: see $build/$2.log"
+    cp "crates/$2/out/$2" "$build/$2"
+}
+
+# Reads lines of a side (C or Rattle), a name of one or more words, a time, and what was left. Prints for
+# each name the least time of both sides in the unit $1 and their ratio; status 1 where a ratio is above
+# the limit, or the sides left something different. That is compared as text, since awk's numbers have 53
+# bits.
+compare() {
+    awk -v cpu="$cpu" -v limit="$limit" -v unit="$1" '
+        function shown(time) { return sprintf(time < 1000 ? "%.1f" : "%.0f", time) }
+        {
+            name = $2
+            for (i = 3; i < NF - 1; i++) name = name " " $i
+            if (!(name in left)) { names[++count] = name; left[name] = $NF "" }
+            if (left[name] != $NF "") { print name ": the two sides left something different"; bad = 1 }
+            at = $1 " " name
+            if (!(at in least) || $(NF - 1) < least[at]) least[at] = $(NF - 1)
+        }
+        END {
+            for (i = 1; i <= count; i++) {
+                rattle = least["Rattle " names[i]]
+                c = least["C " names[i]]
+                if (!rattle || !c) { print names[i] ": not timed"; bad = 1; continue }
+                printf "%s %-14s Rattle %s %s, C %s %s, ratio %.2f\n", cpu, names[i],
+                    shown(rattle), unit, shown(c), unit, rattle / c
+                if (rattle > limit * c) bad = 1
+            }
+            exit bad || !count
+        }'
+}
