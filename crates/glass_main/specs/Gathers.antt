@@ -2,7 +2,8 @@
 use Rattle.std.specs.Prelude.{◌≡◌, ◌≤◌, Option, IfSome, Result, Ok, IfOk, IfErr}
 use Rattle.glass_edges.specs.Causes.{Rose}
 use Rattle.glass_main.specs.Outside.{Store}
-use Rattle.glass_main.specs.Statuses.{IsRefusedBy, IsOfFile}
+use Rattle.glass_main.specs.Endings.{IsOfFile}
+use Rattle.glass_main.specs.Statuses.{IsRefusedBy}
 use Rattle.glass_main.specs.declared.refusal.Refusal.{Refusal}
 use Rattle.glass_main.specs.declared.ending.Ending.{Ending}
 use Rattle.glass_main.specs.declared.ending.Ending.TheVariants.{Done, Refused, Unread, Unwritten, NoMemory}

@@ -4,6 +4,7 @@ pub mod Texts
 pub mod Outside
 pub mod Request
 pub mod Lines
+pub mod Endings
 pub mod Statuses
 pub mod Gathers
 pub mod ReadCommand

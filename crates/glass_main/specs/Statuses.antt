@@ -1,8 +1,9 @@
 -- How a call ends: its status, what causes it, and what it leaves.
-use Rattle.std.specs.Prelude.{◌≡◌, ◌⊎◌, ℕ, ◌<◌, ◌≤◌, List, Option, Some, None, IfSome, Result, Ok, Err}
+use Rattle.std.specs.Prelude.{◌≡◌, ◌⊎◌, ℕ, ◌<◌, ◌≤◌, List, Option, IfSome, Result, Ok, Err}
 use Rattle.glass_edges.specs.Causes.{Rose}
 use Rattle.glass_edges.specs.Contents.{appended, AppendsPrefix}
 use Rattle.glass_main.specs.CommandLine.{Command}
+use Rattle.glass_main.specs.Endings.{Reads}
 use Rattle.glass_main.specs.Outside.{Output, Store}
 use Rattle.glass_main.specs.Request.{Work, limit_of, text_of, text_asked, request_for}
 use Rattle.glass_main.specs.Lines.{line_of}
@@ -84,28 +85,6 @@ Kept (Refused told) old new = new.holds ≡ old.holds
 Kept (Unread role) old new = (new.holds ≡ old.holds) × Rose old.faults new.faults
 Kept Unwritten old new = new.holds ≡ old.holds
 Kept NoMemory old new = new.holds ≡ old.holds
-
--- a refusal of what was read, and not of the words
-abbrev pub IsOfFile : Refusal → Type 0
-IsOfFile Words = ⊥
-IsOfFile (Absent role) = Unit {0}
-IsOfFile (TooLong role n) = Unit {0}
-IsOfFile (Plan refused) = Unit {0}
-IsOfFile (Rules refused) = Unit {0}
-IsOfFile (Swaps refused) = Unit {0}
-
--- an ending other than that of words which are no command
-abbrev pub IsPastWords : Ending → Type 0
-IsPastWords Done = Unit {0}
-IsPastWords (Refused refusal) = IsOfFile refusal
-IsPastWords (Unread role) = Unit {0}
-IsPastWords Unwritten = Unit {0}
-IsPastWords NoMemory = Unit {0}
-
--- words that are no command are refused as such, and no others
-abbrev pub Reads : Option Command → Ending → Type 0
-Reads None ending = ending ≡ Refused Words
-Reads (Some command) ending = IsPastWords ending
 
 -- an ending, its cause and what it leaves
 pub record Ends (command : Option Command) (ending : Ending) (held holds : Store) (before now : Output) : Type 0 where

@@ -20,9 +20,13 @@ use std::alloc::Global;
 /// The program: from the words after its name to the text on `out`, the line on `err` and the exit
 /// status.
 ///
-/// Status 0: all is done, and `err` got nothing. Status 2: the words are no command. Status 9: the
-/// output failed. Status 11: memory ran out, which no clause ties to a growth that failed. With a
+/// Status 0: all is done, and `err` got nothing. Status 2: the words are no command. Status 3: the
+/// run file is refused, or the amount that a run would print. Status 4: a table is refused. Status
+/// 7: the store holds no file of the name that is read next. Status 8: the store failed. Status 9:
+/// the output failed. Status 11: memory ran out, which no clause ties to a growth that failed. With a
 /// status other than 0 `err` got one line, or a prefix of it where it failed itself.
+///
+/// `plain` reads no file, and ends with 0, 9 or 11; words that are no command end with 2 alone.
 pub fn glass<R: Sync, H: Shelf, O: Sink, E: Sink, G: Gate + Sync>(
     rt: &R,
     alloc: Global,
