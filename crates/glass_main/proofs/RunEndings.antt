@@ -1,5 +1,5 @@
 -- How a run ends once its files are read.
-use Rattle.std.proofs.Common.{◌≡◌, ℕ, ◌≤◌, Option, Some, None, option_map, IfSome, Result, Ok, refl, sym, ap, subst, arith}
+use Rattle.std.proofs.Common.{◌≡◌, ℕ, ◌≤◌, Option, Some, None, option_map, IfSome, Result, Ok, refl, sym, ap, subst, inr, arith}
 use Rattle.glass_edges.specs.Causes.{Rose}
 use Rattle.glass_edges.specs.Contents.{Files, appended, AppendsPrefix}
 use Rattle.glass_edges.specs.Refusals.{unless}
@@ -11,7 +11,8 @@ use Rattle.glass_main.specs.declared.refusal.Refusal.{Refusal}
 use Rattle.glass_main.specs.declared.ending.Ending.{Ending}
 use Rattle.glass_main.specs.declared.ending.Ending.TheVariants.{Done, Refused, Unread, Unwritten, NoMemory}
 use Rattle.glass_main.specs.CommandLine.{RunOrder, Run}
-use Rattle.glass_main.specs.Gathers.{Gathers, Stops}
+use Rattle.glass_main.specs.Gathers.{Gathers}
+use Rattle.glass_main.specs.Opened.{IsUnopened}
 use Rattle.glass_main.specs.Outside.{Output, Store}
 use Rattle.glass_main.specs.Request.{Work, RunWork, and_then, told_as, plan_at, run_work, until_of, text_asked}
 use Rattle.glass_main.specs.Statuses.{Ends, IsRefusedBy, Fits}
@@ -22,22 +23,20 @@ asked-after : (order : RunOrder) (planned : Planned) (held : Option Files) (P : 
 asked-after order planned None P found p = tt
 asked-after order planned (Some files) P found p = subst (λ a. P (and_then a (λ read. run_work read (until_of order read)))) (sym found) p
 
-pub ends-stopped : (order : RunOrder) (planned : Planned) (ending : Ending) (held holds : Store) (before : Output)
+pub ends-unopened : (order : RunOrder) (planned : Planned) (ending : Ending) (held holds : Store) (before : Output)
     → Gathers (option_map (plan_at order.run) held.holds) (Ok planned) held holds
-    → ((s : Store) → Stops (Some (run_work planned (until_of order planned))) ending s s) → Ends (Some (Run order)) ending held holds before before
-ends-stopped order planned Done held holds before g stops = absurd (stops held)
-ends-stopped order planned (Refused told) held holds before g stops = record {
-  words = (stops held).0;
-  cause = asked-after order planned held.holds (λ a. IsRefusedBy a told) g.found (stops held).1;
+    → IsUnopened planned (until_of order planned) ending → Ends (Some (Run order)) ending held holds before before
+ends-unopened order planned Done held holds before g stops = absurd stops
+ends-unopened order planned (Refused told) held holds before g stops = record {
+  words = inr stops.0;
+  cause = asked-after order planned held.holds (λ a. IsRefusedBy a told) g.found stops.1;
   out = refl;
   files = g.same;
   later = (g.later, omega arith);
 }
-ends-stopped order planned (Unread role) held holds before g stops =
-    let impossible : 1 ≤ 0 = stops (record { holds = None; faults = 0 }) in
-    absurd (omega (arith, impossible))
-ends-stopped order planned Unwritten held holds before g stops = absurd (stops held)
-ends-stopped order planned NoMemory held holds before g stops = record {
+ends-unopened order planned (Unread role) held holds before g stops = absurd stops
+ends-unopened order planned Unwritten held holds before g stops = absurd stops
+ends-unopened order planned NoMemory held holds before g stops = record {
   words = tt;
   cause = asked-after order planned held.holds (λ a. Fits a NoMemory) g.found tt;
   out = refl;

@@ -1,8 +1,13 @@
--- A run as it is opened.
+-- A run as it is opened, and why it isn't.
 use Rattle.std.specs.Prelude.{◌≡◌, ℕ}
 use Rattle.std.specs.Arc.{arc_value}
 use Rattle.scalar_rule.specs.Opening.{opening}
 use Rattle.plane_sweep.specs.Packed.{StandsFor}
+use Rattle.glass_main.specs.Endings.{IsOfAmount}
+use Rattle.glass_main.specs.Request.{run_work}
+use Rattle.glass_main.specs.Statuses.{IsRefusedBy}
+use Rattle.glass_main.specs.declared.ending.Ending.{Ending}
+use Rattle.glass_main.specs.declared.ending.Ending.TheVariants.{Refused, NoMemory}
 use Rattle.glass_main.specs.declared.planned.Planned.{Planned}
 use Rattle.glass_main.specs.declared.run.Opened.{Opened}
 
@@ -13,3 +18,9 @@ pub record IsOpened (planned : Planned) (e : ℕ) (opened : Opened) : Type 0 whe
   pub orders : opened.run.orders ≡ planned.orders
   pub until : opened.run.until ≡ e
   pub base : StandsFor planned.plan (opening planned.plan planned.orders.start 0) opened.run.base
+
+-- the ending of a run that isn't opened: it is refused for its amount, or there was not enough memory
+abbrev pub IsUnopened : Planned → ℕ → Ending → Type 0
+IsUnopened planned e (Refused told) = IsOfAmount told × IsRefusedBy (run_work planned e) told
+IsUnopened planned e NoMemory = Unit {0}
+IsUnopened planned e ending = ⊥

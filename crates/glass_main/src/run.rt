@@ -7,11 +7,9 @@ ghost use Rattle.glass_edges.specs.Contents.{appended, AppendsPrefix};
 ghost use Rattle.run_plan.specs.Amounts.{amount_refusal};
 ghost use Rattle.run_plan.specs.RunFile.{AreLawfulOrders};
 ghost use Rattle.glass_main.specs.CommandLine as commands;
-ghost use Rattle.glass_main.specs.Gathers.{Stops};
-ghost use Rattle.glass_main.specs.Opened.{IsOpened};
-ghost use Rattle.glass_main.specs.Outside.{Store, output, store};
+ghost use Rattle.glass_main.specs.Opened.{IsOpened, IsUnopened};
+ghost use Rattle.glass_main.specs.Outside.{output, store};
 ghost use Rattle.glass_main.specs.ReadCommand.{read_run_order, IsLawfulOrder};
-ghost use Rattle.glass_main.specs.Request.{run_work};
 ghost use Rattle.glass_main.specs.Statuses.{Ends};
 ghost use Rattle.glass_main.specs.Texts.{run_text};
 ghost use Rattle.glass_main.specs.declared.planned.Planned as model;
@@ -83,7 +81,7 @@ fn open_run(alloc: Global, planned: Planned, until: u64, workers: u32) -> Result
     requires few_workers { workers ≤ 64 }
     ensures accepted { IfOk result (λ opened. amount_refusal planned.plan planned.orders 0 until ≡ None) }
     ensures opened { IfOk result (IsOpened planned until) }
-    ensures stopped { IfErr result (λ ending. (s : Store) → Stops (Some (run_work planned until)) ending s s) }
+    ensures stopped { IfErr result (IsUnopened planned until) }
 {
     if let Err(refused) = check_amount(&planned.plan, &planned.orders, 0, until) {
         return Err(Ending::Refused(Refusal::Plan(refused)));

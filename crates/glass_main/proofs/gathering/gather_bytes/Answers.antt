@@ -19,7 +19,7 @@ returns-in-TooLong g c =
     let above = subst (λ n. n < c.in-TooLong.n) c.limit.ensures (c.in-TooLong.ensures.above _ refl) in
     record {
       found = tt;
-      stopped = (tt, bytes-too_many c.args.role _ c.args.name.now c.in-TooLong.n above (c.in-TooLong.ensures.long _ refl));
+      stopped = (above, bytes-too_many c.args.role _ c.args.name.now c.in-TooLong.n above (c.in-TooLong.ensures.long _ refl));
       same = c.fetch.ensures.same;
       later = c.fetch.ensures.later;
     }

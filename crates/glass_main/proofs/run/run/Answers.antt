@@ -1,15 +1,13 @@
-use Rattle.std.proofs.Common.{Some, subst}
-use Rattle.glass_main.proofs.RunEndings.{ends-stopped, ends-done, ends-unwritten}
-use Rattle.glass_main.specs.Gathers.{Stops}
-use Rattle.glass_main.specs.Outside.{Store}
+use Rattle.std.proofs.Common.{subst}
+use Rattle.glass_main.proofs.RunEndings.{ends-unopened, ends-done, ends-unwritten}
+use Rattle.glass_main.specs.Opened.{IsUnopened}
 use Rattle.glass_main.specs.ReadCommand.{read_run_order}
-use Rattle.glass_main.specs.Request.{run_work}
 use Rattle.glass_main.proofs.run.run.Goals as goal
 
 pub returns-in-Err-open_run : goal.returns-in-Err-open_run
 returns-in-Err-open_run g c =
-    ends-stopped (read_run_order c.args.order.now) c.in-Ok.planned c.in-Err-open_run.ending _ _ _ c.in-Ok.ensures.asked
-    (subst (λ e. (s : Store) → Stops (Some (run_work c.in-Ok.planned e)) c.in-Err-open_run.ending s s) c.until_of-until.ensures.value c.in-Err-open_run.ensures.stopped)
+    ends-unopened (read_run_order c.args.order.now) c.in-Ok.planned c.in-Err-open_run.ending _ _ _ c.in-Ok.ensures.asked
+    (subst (λ e. IsUnopened c.in-Ok.planned e c.in-Err-open_run.ending) c.until_of-until.ensures.value c.in-Err-open_run.ensures.stopped)
 
 pub returns-in-Ok-put_run : goal.returns-in-Ok-put_run
 returns-in-Ok-put_run g c =
