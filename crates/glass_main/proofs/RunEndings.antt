@@ -11,6 +11,7 @@ use Rattle.glass_main.specs.declared.refusal.Refusal.{Refusal}
 use Rattle.glass_main.specs.declared.ending.Ending.{Ending}
 use Rattle.glass_main.specs.declared.ending.Ending.TheVariants.{Done, Refused, Unread, Unwritten, NoMemory}
 use Rattle.glass_main.specs.CommandLine.{RunOrder, Run}
+use Rattle.glass_main.specs.Endings.{IsReached}
 use Rattle.glass_main.specs.Gathers.{Gathers}
 use Rattle.glass_main.specs.Opened.{IsUnopened}
 use Rattle.glass_main.specs.Outside.{Output, Store}
@@ -24,7 +25,7 @@ asked-after order planned None P found p = tt
 asked-after order planned (Some files) P found p = subst (λ a. P (and_then a (λ read. run_work read (until_of order read)))) (sym found) p
 
 pub ends-unopened : (order : RunOrder) (planned : Planned) (ending : Ending) (held holds : Store) (before : Output)
-    → Gathers (option_map (plan_at order.run) held.holds) (Ok planned) held holds
+    → Gathers (option_map (plan_at order.run) held.holds) (IsReached order.run held.holds) (Ok planned) held holds
     → IsUnopened planned (until_of order planned) ending → Ends (Some (Run order)) ending held holds before before
 ends-unopened order planned Done held holds before g stops = absurd stops
 ends-unopened order planned (Refused told) held holds before g stops = record {
@@ -57,7 +58,7 @@ asked-run order planned e held P found is none p =
     asked-after order planned held P found (subst (λ n. P (run_work planned n)) is (subst P (sym (work-accepted planned e none)) p))
 
 pub ends-done : (order : RunOrder) (planned : Planned) (e : ℕ) (held holds : Store) (before now : Output)
-    → Gathers (option_map (plan_at order.run) held.holds) (Ok planned) held holds → e ≡ until_of order planned
+    → Gathers (option_map (plan_at order.run) held.holds) (IsReached order.run held.holds) (Ok planned) held holds → e ≡ until_of order planned
     → amount_refusal planned.plan planned.orders 0 e ≡ None → now.taken ≡ appended before.taken (run_text planned e) → before.faults ≤ now.faults
     → Ends (Some (Run order)) Done held holds before now
 ends-done order planned e held holds before now g is none whole later = record {
@@ -69,7 +70,7 @@ ends-done order planned e held holds before now g is none whole later = record {
 }
 
 pub ends-unwritten : (order : RunOrder) (planned : Planned) (e : ℕ) (held holds : Store) (before now : Output)
-    → Gathers (option_map (plan_at order.run) held.holds) (Ok planned) held holds → e ≡ until_of order planned
+    → Gathers (option_map (plan_at order.run) held.holds) (IsReached order.run held.holds) (Ok planned) held holds → e ≡ until_of order planned
     → amount_refusal planned.plan planned.orders 0 e ≡ None → AppendsPrefix before.taken now.taken (run_text planned e) → Rose before.faults now.faults → before.faults ≤ now.faults
     → Ends (Some (Run order)) Unwritten held holds before now
 ends-unwritten order planned e held holds before now g is none prefix rose later = record {

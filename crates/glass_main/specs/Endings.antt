@@ -1,5 +1,6 @@
 -- Which endings words may have, over any store: what holds also where no file is observable.
-use Rattle.std.specs.Prelude.{◌≡◌, ◌⊎◌, ℕ, ◌<◌, List, Option, Some, None, Err}
+use Rattle.std.specs.Prelude.{◌≡◌, ◌⊎◌, ℕ, ◌<◌, List, Option, Some, None, option_map, IfSome, Err}
+use Rattle.glass_edges.specs.Contents.{Files}
 use Rattle.threshold_table.specs.Tables.{rule_table, swap_table}
 use Rattle.threshold_table.specs.declared.refused.TableRefused.{TableRefused}
 use Rattle.threshold_table.specs.declared.refused.TableRefused.TheVariants as table
@@ -10,8 +11,9 @@ use Rattle.run_plan.specs.declared.refused.PlanRefused.{PlanRefused}
 use Rattle.run_plan.specs.declared.refused.PlanRefused.TheVariants as plan
 use Rattle.run_plan.specs.declared.run_file.RunFile.{RunFile}
 use Rattle.glass_main.specs.CommandLine.{Command, Plain, Check, Run}
-use Rattle.glass_main.specs.Request.{limit_of}
+use Rattle.glass_main.specs.Request.{limit_of, and_then, IsAccepted, run_file_at, rules_at}
 use Rattle.glass_main.specs.declared.role.Role.{Role}
+use Rattle.glass_main.specs.declared.role.Role.TheVariants as roles
 use Rattle.glass_main.specs.declared.refusal.Refusal.{Refusal}
 use Rattle.glass_main.specs.declared.refusal.Refusal.TheVariants as refused
 use Rattle.glass_main.specs.declared.ending.Ending.{Ending}
@@ -49,6 +51,21 @@ IsOfAmount (refused.Plan (plan.Rows count)) = 4194304 < count
 IsOfAmount (refused.Plan (plan.Spins bits)) = 268435456 < bits
 IsOfAmount told = ⊥
 
+-- ---- files that are fetched
+
+-- which tables of a run file: no step before the one that fetches the table refuses, as far as the files are observable
+abbrev pub IsReachedAfter : RunFile → Option Files → Role → Type 0
+IsReachedAfter file held roles.RunFile = ⊥
+IsReachedAfter file held roles.RuleTable = Unit {0}
+IsReachedAfter file held roles.SwapTable = IfSome (option_map (rules_at file) held) IsAccepted
+
+-- which files from a run file's name on
+abbrev pub IsReached : List ℕ → Option Files → Role → Type 0
+IsReached name held roles.RunFile = Unit {0}
+IsReached name held roles.RuleTable = IfSome (option_map (run_file_at name) held) IsAccepted
+IsReached name held roles.SwapTable =
+    IfSome (option_map (λ files. and_then (run_file_at name files) (λ file. rules_at file files)) held) IsAccepted
+
 -- ---- commands
 
 -- what a command may be refused for: `plain` reads no file, and is never refused; `check` prints one line, whatever a run
@@ -58,21 +75,21 @@ MayRefuse (Plain order) told = ⊥
 MayRefuse (Check name) told = IsOfFile told
 MayRefuse (Run order) told = IsOfFile told ⊎ IsOfAmount told
 
--- the files at which the store may fail in a command
-abbrev pub MayFetch : Command → Role → Type 0
-MayFetch (Plain order) role = ⊥
-MayFetch (Check name) role = Unit {0}
-MayFetch (Run order) role = Unit {0}
+-- the files at which the store may fail in a command: `plain` fetches none
+abbrev pub MayFetch : Command → Option Files → Role → Type 0
+MayFetch (Plain order) held role = ⊥
+MayFetch (Check name) held role = IsReached name held role
+MayFetch (Run order) held role = IsReached order.run held role
 
--- how a command may end
-abbrev pub MayEnd : Command → Ending → Type 0
-MayEnd command Done = Unit {0}
-MayEnd command (Refused told) = MayRefuse command told
-MayEnd command (Unread role) = MayFetch command role
-MayEnd command Unwritten = Unit {0}
-MayEnd command NoMemory = Unit {0}
+-- how a command may end, where the store holds these files
+abbrev pub MayEnd : Command → Option Files → Ending → Type 0
+MayEnd command held Done = Unit {0}
+MayEnd command held (Refused told) = MayRefuse command told
+MayEnd command held (Unread role) = MayFetch command held role
+MayEnd command held Unwritten = Unit {0}
+MayEnd command held NoMemory = Unit {0}
 
 -- words that are no command are refused as such, and no others
-abbrev pub Reads : Option Command → Ending → Type 0
-Reads None ending = ending ≡ Refused refused.Words
-Reads (Some command) ending = MayEnd command ending
+abbrev pub Reads : Option Command → Option Files → Ending → Type 0
+Reads None held ending = ending ≡ Refused refused.Words
+Reads (Some command) held ending = MayEnd command held ending

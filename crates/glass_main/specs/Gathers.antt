@@ -4,21 +4,30 @@ use Rattle.glass_edges.specs.Causes.{Rose}
 use Rattle.glass_main.specs.Outside.{Store}
 use Rattle.glass_main.specs.Endings.{IsOfFile}
 use Rattle.glass_main.specs.Statuses.{IsRefusedBy}
+use Rattle.glass_main.specs.declared.role.Role.{Role}
 use Rattle.glass_main.specs.declared.refusal.Refusal.{Refusal}
 use Rattle.glass_main.specs.declared.ending.Ending.{Ending}
 use Rattle.glass_main.specs.declared.ending.Ending.TheVariants.{Done, Refused, Unread, Unwritten, NoMemory}
 
--- the ending of a step: what is asked for refuses it, or the store failed, or there was not enough memory
-abbrev pub Stops : {A : Type 0} → Option (Result A Refusal) → Ending → Store → Store → Type 0
-Stops asked Done old new = ⊥
-Stops asked (Refused told) old new = IsOfFile told × IfSome asked (λ a. IsRefusedBy a told)
-Stops asked (Unread role) old new = Rose old.faults new.faults
-Stops asked Unwritten old new = ⊥
-Stops asked NoMemory old new = Unit {0}
+-- a step that fetches one file, or none
+abbrev pub Fetches : Role → Role → Type 0
+Fetches fetched role = role ≡ fetched
+
+abbrev pub FetchesNone : Role → Type 0
+FetchesNone role = ⊥
+
+-- the ending of a step: what is asked for refuses it, or the store failed at a file that the step fetches, or there was not
+-- enough memory
+abbrev pub Stops : {A : Type 0} → Option (Result A Refusal) → (Role → Type 0) → Ending → Store → Store → Type 0
+Stops asked fetches Done old new = ⊥
+Stops asked fetches (Refused told) old new = IsOfFile told × IfSome asked (λ a. IsRefusedBy a told)
+Stops asked fetches (Unread role) old new = fetches role × Rose old.faults new.faults
+Stops asked fetches Unwritten old new = ⊥
+Stops asked fetches NoMemory old new = Unit {0}
 
 -- the step gives what is asked for, or stops; no file changes
-pub record Gathers {A : Type 0} (asked : Option (Result A Refusal)) (result : Result A Ending) (old new : Store) : Type 0 where
+pub record Gathers {A : Type 0} (asked : Option (Result A Refusal)) (fetches : Role → Type 0) (result : Result A Ending) (old new : Store) : Type 0 where
   pub found : IfOk result (λ x. IfSome asked (λ a. a ≡ Ok x))
-  pub stopped : IfErr result (λ e. Stops asked e old new)
+  pub stopped : IfErr result (λ e. Stops asked fetches e old new)
   pub same : new.holds ≡ old.holds
   pub later : old.faults ≤ new.faults

@@ -43,6 +43,11 @@ abbrev pub told_as : {A E : Type 0} → (E → Refusal) → Result A E → Resul
 told_as tell (Ok x) = Ok x
 told_as tell (Err e) = Err (tell e)
 
+-- a step that doesn't refuse
+abbrev pub IsAccepted : {A : Type 0} → Result A Refusal → Type 0
+IsAccepted (Ok x) = Unit {0}
+IsAccepted (Err refusal) = ⊥
+
 -- the most bytes of a file that is read as this
 abbrev pub limit_of : Role → ℕ
 limit_of roles.RunFile = 1048576

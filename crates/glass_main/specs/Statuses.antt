@@ -5,7 +5,7 @@ use Rattle.glass_edges.specs.Contents.{appended, AppendsPrefix}
 use Rattle.glass_main.specs.CommandLine.{Command}
 use Rattle.glass_main.specs.Endings.{Reads}
 use Rattle.glass_main.specs.Outside.{Output, Store}
-use Rattle.glass_main.specs.Request.{Work, limit_of, text_of, text_asked, request_for}
+use Rattle.glass_main.specs.Request.{Work, limit_of, IsAccepted, text_of, text_asked, request_for}
 use Rattle.glass_main.specs.Lines.{line_of}
 use Rattle.glass_main.specs.declared.role.Role.{Role}
 use Rattle.glass_main.specs.declared.role.Role.TheVariants.{RunFile, RuleTable, SwapTable}
@@ -56,11 +56,6 @@ abbrev pub IsRefusedBy : {A : Type 0} → Result A Refusal → Refusal → Type 
 IsRefusedBy (Ok work) told = ⊥
 IsRefusedBy (Err due) told = IsTold due told
 
--- what is asked for is accepted
-abbrev pub IsAccepted : {A : Type 0} → Result A Refusal → Type 0
-IsAccepted (Ok work) = Unit {0}
-IsAccepted (Err due) = ⊥
-
 -- the ending fits what is asked for
 abbrev pub Fits : Result Work Refusal → Ending → Type 0
 Fits asked Done = IsAccepted asked
@@ -88,7 +83,7 @@ Kept NoMemory old new = new.holds ≡ old.holds
 
 -- an ending, its cause and what it leaves
 pub record Ends (command : Option Command) (ending : Ending) (held holds : Store) (before now : Output) : Type 0 where
-  pub words : Reads command ending
+  pub words : Reads command held.holds ending
   pub cause : IfSome (request_for command held.holds) (λ asked. Fits asked ending)
   pub out : Printed (request_for command held.holds) ending before now
   pub files : Kept ending held holds

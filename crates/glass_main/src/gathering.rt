@@ -3,7 +3,8 @@
 ghost use Rattle.std.specs.Prelude.{◌≡◌, ◌≤◌, ◌+◌, length, option_map, IfOk};
 ghost use Rattle.run_plan.specs.RunFile.{IsLawfulRunFile, AreLawfulOrders};
 ghost use Rattle.run_plan.specs.PlanOf.{plan_with};
-ghost use Rattle.glass_main.specs.Gathers.{Gathers};
+ghost use Rattle.glass_main.specs.Endings.{IsReached, IsReachedAfter};
+ghost use Rattle.glass_main.specs.Gathers.{Gathers, Fetches, FetchesNone};
 ghost use Rattle.glass_main.specs.Outside.{store};
 ghost use Rattle.glass_main.specs.Request as model;
 
@@ -26,7 +27,8 @@ pub(crate) fn gather_plan<H: Shelf>(
     shelf: &mut H,
     name: &str,
 ) -> Result<Planned, Ending>
-    ensures asked { Gathers (option_map (model.plan_at name.now) (H.holds shelf.old)) result
+    ensures asked { Gathers (option_map (model.plan_at name.now) (H.holds shelf.old))
+        (IsReached name.now (H.holds shelf.old)) result
         (store H.holds H.faults shelf.old) (store H.holds H.faults shelf.new) }
     ensures orders { IfOk result (λ planned. AreLawfulOrders planned.orders) }
 {
@@ -42,7 +44,8 @@ fn gather_after_file<H: Shelf>(
     file: &RunFile,
 ) -> Result<Planned, Ending>
     requires { IsLawfulRunFile file.now }
-    ensures asked { Gathers (option_map (model.plan_after_file file.now) (H.holds shelf.old)) result
+    ensures asked { Gathers (option_map (model.plan_after_file file.now) (H.holds shelf.old))
+        (IsReachedAfter file.now (H.holds shelf.old)) result
         (store H.holds H.faults shelf.old) (store H.holds H.faults shelf.new) }
     ensures orders { IfOk result (λ planned. AreLawfulOrders planned.orders) }
 {
@@ -59,7 +62,8 @@ fn gather_after_rules<H: Shelf>(
     rules: RuleTable,
 ) -> Result<Planned, Ending>
     requires { IsLawfulRunFile file.now }
-    ensures asked { Gathers (option_map (model.plan_after_rules file.now rules) (H.holds shelf.old)) result
+    ensures asked { Gathers (option_map (model.plan_after_rules file.now rules) (H.holds shelf.old))
+        (Fetches Role.SwapTable) result
         (store H.holds H.faults shelf.old) (store H.holds H.faults shelf.new) }
     ensures orders { IfOk result (λ planned. AreLawfulOrders planned.orders) }
 {
@@ -81,7 +85,8 @@ fn gather_after_rules<H: Shelf>(
 // Reads the run file of a name.
 #[tactic(auto, unfolding(crate::specs::Request::run_file_at))]
 fn gather_run_file<H: Shelf>(alloc: Global, shelf: &mut H, name: &str) -> Result<RunFile, Ending>
-    ensures asked { Gathers (option_map (model.run_file_at name.now) (H.holds shelf.old)) result
+    ensures asked { Gathers (option_map (model.run_file_at name.now) (H.holds shelf.old))
+        (Fetches Role.RunFile) result
         (store H.holds H.faults shelf.old) (store H.holds H.faults shelf.new) }
     ensures lawful { IfOk result IsLawfulRunFile }
 {
@@ -96,7 +101,8 @@ fn gather_run_file<H: Shelf>(alloc: Global, shelf: &mut H, name: &str) -> Result
 // Reads the rule table that a run file names.
 #[tactic(auto, unfolding(crate::specs::Request::rules_at))]
 fn gather_rules<H: Shelf>(alloc: Global, shelf: &mut H, file: &RunFile) -> Result<RuleTable, Ending>
-    ensures { Gathers (option_map (model.rules_at file.now) (H.holds shelf.old)) result
+    ensures { Gathers (option_map (model.rules_at file.now) (H.holds shelf.old))
+        (Fetches Role.RuleTable) result
         (store H.holds H.faults shelf.old) (store H.holds H.faults shelf.new) }
 {
     let bytes = gather_bytes(alloc, shelf, Role::RuleTable, file.rules.as_str())?;
@@ -115,7 +121,8 @@ fn gather_swaps<H: Shelf>(
     file: &RunFile,
     rules: &RuleTable,
 ) -> Result<SwapTable, Ending>
-    ensures asked { Gathers (option_map (model.swaps_at file.now rules.now) (H.holds shelf.old)) result
+    ensures asked { Gathers (option_map (model.swaps_at file.now rules.now) (H.holds shelf.old))
+        (Fetches Role.SwapTable) result
         (store H.holds H.faults shelf.old) (store H.holds H.faults shelf.new) }
     ensures pairs { IfOk result (λ swaps. length swaps + 1 ≡ length rules.now.rows) }
 {
@@ -134,7 +141,8 @@ fn gather_couplings<H: Shelf>(
     _shelf: &mut H,
     file: &RunFile,
 ) -> Result<Couplings, Ending>
-    ensures asked { Gathers (option_map (model.couplings_at file.now) (H.holds _shelf.old)) result
+    ensures asked { Gathers (option_map (model.couplings_at file.now) (H.holds _shelf.old))
+        FetchesNone result
         (store H.holds H.faults _shelf.old) (store H.holds H.faults _shelf.new) }
     ensures size { IfOk result (λ couplings. couplings.size ≡ file.now.lattice) }
 {
@@ -152,7 +160,8 @@ fn gather_bytes<H: Shelf>(
     role: Role,
     name: &str,
 ) -> Result<Items<u8>, Ending>
-    ensures { Gathers (option_map (model.bytes_at role name.now) (H.holds shelf.old)) result
+    ensures { Gathers (option_map (model.bytes_at role name.now) (H.holds shelf.old))
+        (Fetches role) result
         (store H.holds H.faults shelf.old) (store H.holds H.faults shelf.new) }
 {
     match shelf.fetch(alloc, name, role.limit()) {
