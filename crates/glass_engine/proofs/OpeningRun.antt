@@ -4,14 +4,14 @@ use Rattle.std.specs.Arc.{arc_value}
 use Rattle.plane_sweep.specs.Packed.{part, StandFits}
 use Rattle.plane_sweep.specs.declared.stand.Stand.{Stand}
 use Rattle.run_plan.specs.Amounts.{row_count}
-use Rattle.run_plan.specs.RunFile.{AreLawfulOrders}
 use Rattle.scalar_rule.specs.Plan.{Plan, slots_of}
 use Rattle.scalar_rule.specs.Shape.{Fits}
 use Rattle.glass_engine.specs.KeptRun.{sample_at, KeepsRun}
 use Rattle.glass_engine.specs.RecordRoom.{RoomView}
+use Rattle.glass_engine.specs.Runs.{AreRunOrders}
 use Rattle.glass_engine.specs.declared.run.Run.TheInside.{Inside}
 
-pub opened-keeps : (r : Inside) (plan : Plan) → arc_value r.plan ≡ plan → AreLawfulOrders r.orders → StandFits plan r.stand → r.base ≡ r.stand → r.stand.epoch ≤ r.until → r.until ≤ 1000000000
+pub opened-keeps : (r : Inside) (plan : Plan) → arc_value r.plan ≡ plan → AreRunOrders r.orders → StandFits plan r.stand → r.base ≡ r.stand → r.stand.epoch ≤ r.until → r.until ≤ 1000000000
     → length r.samples ≡ 64 → ((b : ℕ) → b < 64 → sample_at r.samples b ≡ part plan.size b r.stand) → ((b : ℕ) → b < 64 → Fits plan (sample_at r.samples b))
     → length r.row ≡ slots_of plan → r.records ≡ record { records = []; spare = row_count plan r.orders r.stand.epoch r.until } → KeepsRun r
 opened-keeps r plan same orders fits copied window until count samples fit row records =

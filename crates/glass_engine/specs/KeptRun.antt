@@ -5,9 +5,8 @@ use Rattle.scalar_rule.specs.Plan.{slots_of}
 use Rattle.scalar_rule.specs.Shape.{Fits}
 use Rattle.scalar_rule.specs.declared.sample.Sample.{Sample}
 use Rattle.run_plan.specs.Amounts.{row_count}
-use Rattle.run_plan.specs.RunFile.{AreLawfulOrders}
 use Rattle.plane_sweep.specs.Packed.{StandFits}
-use Rattle.glass_engine.specs.Runs.{RunView, DoneView, starts, IsEnd}
+use Rattle.glass_engine.specs.Runs.{RunView, AreRunOrders, DoneView, starts, IsEnd}
 use Rattle.glass_engine.specs.declared.run.Run.TheInside as run
 use Rattle.glass_engine.specs.declared.done.Done.TheInside as done
 
@@ -17,7 +16,7 @@ sample_at samples b = slice_index_or samples b (record { bit = 0; epoch = 0; slo
 
 -- the window of a run is lawful, and its starting state fits the plan
 pub record IsLawfulRun (run : RunView) : Type 0 where
-  pub orders : AreLawfulOrders run.orders
+  pub orders : AreRunOrders run.orders
   pub base : StandFits run.plan run.base
   pub window : run.base.epoch ≤ run.until
   pub until : run.until ≤ 1000000000

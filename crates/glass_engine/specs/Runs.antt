@@ -1,5 +1,5 @@
 -- A run before and after it is driven.
-use Rattle.std.specs.Prelude.{◌≡◌, ℕ, Bool, List}
+use Rattle.std.specs.Prelude.{◌≡◌, ℕ, ◌≤◌, Bool, List}
 use Rattle.scalar_rule.specs.Plan.{Plan}
 use Rattle.scalar_rule.specs.Records.{records_until}
 use Rattle.scalar_rule.specs.Serial.{serial}
@@ -17,6 +17,14 @@ pub record RunView : Type 0 where
   pub orders : Orders
   pub until : ℕ
   pub saves : Bool
+
+-- the orders that a run can have: 1 to 64 printed samples, and of each 1 to 1000000000 epochs the last is recorded; the
+-- epoch at which a run ends is given beside its orders
+pub record AreRunOrders (orders : Orders) : Type 0 where
+  pub some_samples : 1 ≤ orders.samples
+  pub few_samples : orders.samples ≤ 64
+  pub some_every : 1 ≤ orders.every
+  pub every : orders.every ≤ 1000000000
 
 -- a run at its end: what it was opened with, the state there, and the records
 pub record DoneView : Type 0 where

@@ -3,7 +3,6 @@
 ghost use Rattle.std.specs.Prelude.{◌≡◌, ℕ, ◌+◌, ◌-◌, ◌*◌, ◌/◌, ◌<◌, ◌≤◌, ◌++◌, Bool, if◌then◌else◌, [], length, flat_map};
 ghost use Rattle.plane_sweep.specs.Packed.{part, PermutesLabels, StandFits};
 ghost use Rattle.run_plan.specs.Amounts.{recorded_epochs};
-ghost use Rattle.run_plan.specs.RunFile.{AreLawfulOrders};
 ghost use Rattle.scalar_rule.specs.Epoch as model;
 ghost use Rattle.scalar_rule.specs.Laws.{HaveSameWords};
 ghost use Rattle.scalar_rule.specs.Plan.{slots_of};
@@ -12,7 +11,7 @@ ghost use Rattle.scalar_rule.specs.Serial.{serial};
 ghost use Rattle.scalar_rule.specs.Shape.{Fits};
 ghost use Rattle.spin_model.specs.Steps.{table};
 ghost use Rattle.glass_engine.specs.KeptRun.{sample_at};
-ghost use Rattle.glass_engine.specs.Runs.{IsEnd};
+ghost use Rattle.glass_engine.specs.Runs.{AreRunOrders, IsEnd};
 
 use crate::done::Done;
 use crate::record_room::RecordRoom;
@@ -78,7 +77,7 @@ fn run_epochs(
     row: &mut [Record],
     records: &mut RecordRoom,
 )
-    requires orders { AreLawfulOrders orders.now }
+    requires orders { AreRunOrders orders.now }
     requires window { from ≤ until }
     requires until { until ≤ 1000000000 }
     requires count { length samples.old ≡ 64 }
@@ -109,7 +108,7 @@ fn run_epoch(
     row: &mut [Record],
     records: &mut RecordRoom,
 )
-    requires orders { AreLawfulOrders orders.now }
+    requires orders { AreRunOrders orders.now }
     requires epoch { epoch < 1000000000 }
     requires count { length samples.old ≡ 64 }
     requires fit { (b : ℕ) → b < 64 → Fits plan.now (sample_at samples.old b) }

@@ -1,13 +1,13 @@
 //! Opening a run: all its memory is taken here.
 
-ghost use Rattle.std.specs.Prelude.{◌≡◌, ℕ, ◌<◌, ◌≤◌, false, length, None, IfOk};
+ghost use Rattle.std.specs.Prelude.{◌≡◌, ℕ, ◌<◌, ◌≤◌, false, length, IfOk};
 ghost use Rattle.std.specs.Arc.{arc_value};
 ghost use Rattle.plane_sweep.specs.Packed.{part, StandFits};
-ghost use Rattle.run_plan.specs.Amounts.{amount_refusal};
-ghost use Rattle.run_plan.specs.RunFile.{AreLawfulOrders};
+ghost use Rattle.run_plan.specs.Amounts as amounts;
 ghost use Rattle.scalar_rule.specs.Plan.{slots_of};
 ghost use Rattle.scalar_rule.specs.Shape.{Fits};
 ghost use Rattle.glass_engine.specs.KeptRun.{sample_at};
+ghost use Rattle.glass_engine.specs.Runs.{AreRunOrders};
 
 use crate::record_room::RecordRoom;
 use crate::run::Run;
@@ -22,8 +22,9 @@ use std::sync::Arc;
 /// Opens a run from a state to epoch `until`: makes the 64 samples, a copy of the state as it is, a
 /// state to store the samples in, and the room for all records.
 ///
-/// The orders are within their limits, and the amount of what they print isn't refused. There are 1
-/// to 64 workers; one thread does all the work. Nothing is saved.
+/// The orders are those of a run, and there are at most 4194304 rows, as where `check_amount` refuses
+/// nothing; how many spins are printed is the caller's matter. There are 1 to 64 workers; one thread
+/// does all the work. Nothing is saved.
 ///
 /// # Errors
 ///
@@ -37,11 +38,11 @@ pub fn open(
     workers: u32,
     save: bool,
 ) -> Result<Run, NoMemory>
-    requires orders { AreLawfulOrders orders.now }
+    requires orders { AreRunOrders orders.now }
     requires stand { StandFits (arc_value plan.now) stand }
     requires window { stand.epoch ≤ until }
     requires until { until ≤ 1000000000 }
-    requires amount { amount_refusal (arc_value plan.now) orders.now stand.epoch until ≡ None }
+    requires rows { amounts.row_count (arc_value plan.now) orders.now stand.epoch until ≤ 4194304 }
     requires some_workers { 1 ≤ workers }
     requires few_workers { workers ≤ 64 }
     requires save { save ≡ false }

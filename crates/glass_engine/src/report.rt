@@ -7,10 +7,9 @@ ghost use Rattle.plane_sweep.specs.Packed.{part, part_slot, FitsDuo, StandFits};
 ghost use Rattle.scalar_rule.specs.Records.{in_order, is_recorded, measured_from};
 ghost use Rattle.scalar_rule.specs.Plan.{slots_of};
 ghost use Rattle.scalar_rule.specs.Serial.{serial};
-ghost use Rattle.run_plan.specs.RunFile.{AreLawfulOrders};
 ghost use Rattle.glass_engine.specs.RecordPieces.{piece_rows};
 ghost use Rattle.glass_engine.specs.Report as text;
-ghost use Rattle.glass_engine.specs.Runs.{starts};
+ghost use Rattle.glass_engine.specs.Runs.{AreRunOrders, starts};
 
 use crate::done::Done;
 use glass_edges::{Fault, Sink};
@@ -57,7 +56,7 @@ fn put_report<O: Sink>(
 ) -> Result<(), Fault>
     requires window { base.now.epoch ≤ until }
     requires until { until ≤ 1000000000 }
-    requires orders { AreLawfulOrders orders.now }
+    requires orders { AreRunOrders orders.now }
     requires records { records.now ≡ in_order (measured_from plan.now (λ b. part plan.now.size b base.now))
         orders.now.samples orders.now.every base.now.epoch until }
     requires fits { StandFits plan.now stand.now }
@@ -89,7 +88,7 @@ fn write_rows<O: Sink>(
 ) -> Result<(), Fault>
     requires window { base.now.epoch ≤ until }
     requires until { until ≤ 1000000000 }
-    requires orders { AreLawfulOrders orders.now }
+    requires orders { AreRunOrders orders.now }
     requires records { records.now ≡ in_order (measured_from plan.now (λ b. part plan.now.size b base.now))
         orders.now.samples orders.now.every base.now.epoch until }
     ensures whole { OnOk result (O.taken out.new ≡ appended (O.taken out.old)
@@ -117,7 +116,7 @@ fn write_recorded<O: Sink>(
     epoch: u64,
     records: &[Record],
 ) -> Result<usize, Fault>
-    requires orders { AreLawfulOrders orders.now }
+    requires orders { AreRunOrders orders.now }
     requires records { (if is_recorded orders.now.every epoch then orders.now.samples * slots_of plan.now else 0)
         ≤ length records.now }
     ensures count { IfOk result (λ count. count ≡

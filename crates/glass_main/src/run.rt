@@ -4,7 +4,7 @@ ghost use Rattle.std.specs.Prelude.{◌≡◌, ℕ, ◌≤◌, None, Some, IfOk,
 ghost use Rattle.std.specs.Arc.{arc_value};
 ghost use Rattle.glass_edges.specs.Causes.{HasCause};
 ghost use Rattle.glass_edges.specs.Contents.{appended, AppendsPrefix};
-ghost use Rattle.run_plan.specs.Amounts.{amount_refusal};
+ghost use Rattle.run_plan.specs.Amounts.{amount_refusal, row_count};
 ghost use Rattle.run_plan.specs.RunFile.{AreLawfulOrders};
 ghost use Rattle.glass_main.specs.CommandLine as commands;
 ghost use Rattle.glass_main.specs.Opened.{IsOpened, IsUnopened};
@@ -101,7 +101,7 @@ fn open_planned(
 ) -> Result<Opened, NoMemory>
     requires orders { AreLawfulOrders planned.orders }
     requires until { until ≤ 1000000000 }
-    requires amount { amount_refusal planned.plan planned.orders 0 until ≡ None }
+    requires rows { row_count planned.plan planned.orders 0 until ≤ 4194304 }
     requires some_workers { 1 ≤ workers }
     requires few_workers { workers ≤ 64 }
     ensures { IfOk result (IsOpened planned until) }

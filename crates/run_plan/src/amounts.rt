@@ -1,6 +1,6 @@
 //! How much a run prints, and its limits.
 
-ghost use Rattle.std.specs.Prelude.{◌≡◌, ◌*◌, ◌≤◌};
+ghost use Rattle.std.specs.Prelude.{◌≡◌, ◌*◌, ◌≤◌, IfOk};
 ghost use Rattle.glass_edges.specs.Refusals.{unless};
 ghost use Rattle.run_plan.specs.Amounts.{amount_refusal, row_count as rows_of_run, spin_bits as bits_of_run};
 ghost use Rattle.run_plan.specs.RunFile.{AreLawfulOrders};
@@ -26,7 +26,8 @@ pub fn check_amount(plan: &Plan, orders: &Orders, from: u64, until: u64) -> Resu
     requires orders { AreLawfulOrders orders.now }
     requires window { from ≤ until }
     requires until { until ≤ 1000000000 }
-    ensures { result ≡ unless (amount_refusal plan.now orders.now from until) tt }
+    ensures exact { result ≡ unless (amount_refusal plan.now orders.now from until) tt }
+    ensures rows { IfOk result (λ _. rows_of_run plan.now orders.now from until ≤ 4194304) }
 {
     let bits = spin_bits(plan, orders);
     if orders.spins && bits > MOST_SPIN_BITS {
@@ -49,7 +50,8 @@ fn spin_bits(plan: &Plan, orders: &Orders) -> u64
 
 /// The rows that a run from epoch `from` to epoch `until` prints. Takes no memory.
 pub fn row_count(plan: &Plan, orders: &Orders, from: u64, until: u64) -> u64
-    requires orders { AreLawfulOrders orders.now }
+    requires few_samples { orders.now.samples ≤ 64 }
+    requires some_every { 1 ≤ orders.now.every }
     requires window { from ≤ until }
     requires until { until ≤ 1000000000 }
     ensures { result ≡ rows_of_run plan.now orders.now from until }
@@ -59,7 +61,7 @@ pub fn row_count(plan: &Plan, orders: &Orders, from: u64, until: u64) -> u64
 
 // The slots of all printed samples.
 fn printed_slots(plan: &Plan, orders: &Orders) -> u64
-    requires { AreLawfulOrders orders.now }
+    requires { orders.now.samples ≤ 64 }
     ensures value { result ≡ orders.now.samples * slots_of plan.now }
     ensures few { result ≤ 2048 }
 {

@@ -8,10 +8,10 @@ open-requires-clause-window c =
     let first = opening-epoch c.args.planned.plan c.args.planned.orders.start c.in_ok-stand.stand c.in_ok-stand.ensures.opening in
     omega (arith, first)
 
-pub open-requires-clause-amount : goal.open-requires-clause-amount
-open-requires-clause-amount c =
+pub open-requires-clause-rows : goal.open-requires-clause-rows
+open-requires-clause-rows c =
     let first = opening-epoch c.args.planned.plan c.args.planned.orders.start c.in_ok-stand.stand c.in_ok-stand.ensures.opening in
-    rw (c.in_ok-plan.ensures.ok, first) c.requires.amount
+    rw (c.in_ok-plan.ensures.ok, first) c.requires.rows
 
 pub returns : goal.returns
 returns c = record {

@@ -8,6 +8,6 @@ unfolding run_work
 returns-in-Err-clause-stopped c =
     let planned = c.args.planned in
     let found = amount_refusal planned.plan planned.orders 0 c.args.until in (
-      amount-told planned.plan planned.orders 0 c.args.until c.check_amount.result c.in-Err.refused c.in-Err.is c.check_amount.ensures,
-      refused-amount found (RunWork planned c.args.until) c.check_amount.result c.in-Err.refused c.in-Err.is c.check_amount.ensures,
+      amount-told planned.plan planned.orders 0 c.args.until c.check_amount.result c.in-Err.refused c.in-Err.is c.check_amount.ensures.exact,
+      refused-amount found (RunWork planned c.args.until) c.check_amount.result c.in-Err.refused c.in-Err.is c.check_amount.ensures.exact,
     )
