@@ -27,20 +27,29 @@ typedef int64_t thresholds[7];
 static const thresholds METROPOLIS = {117354494, 3206562, 87615};
 static const thresholds HEAT = {87613, 3204169, 114233218, 2147483648, 4180734078, 4291763127, 4294879683};
 
+/* With DENSE no place is free between planes, and words begin off a cache line, as a heap gives them. */
+#ifdef DENSE
+enum { FREE = 0, OFF = 2 };
+#else
+enum { FREE = 1, OFF = 0 };
+#endif
+
 /* All words in one object, so that one register reaches them. */
 static struct {
-    uint64_t spins[ROOM], couplings[3 * ROOM];
+    uint64_t off[OFF], spins[ROOM], couplings[3 * ROOM];
     draw_row wheels[128][RING];
     uint32_t draws[PLANE];
 } state __attribute__((aligned(64)));
 
 /* Planes, colours and directions stand a few cache lines apart: at distances of whole pages the dozen
    places that are read at once would share one set of the first cache. */
-INLINE size_t plane_step(size_t size) { return size * size / 2 + 8; }
-INLINE size_t colour_step(size_t size) { return size * plane_step(size) + 24; }
-INLINE size_t direction_step(size_t size) { return 2 * colour_step(size) + 40; }
+INLINE size_t plane_step(size_t size) { return size * size / 2 + FREE * 8; }
+INLINE size_t colour_step(size_t size) { return size * plane_step(size) + FREE * 24; }
+INLINE size_t direction_step(size_t size) { return 2 * colour_step(size) + FREE * 40; }
 
-INLINE lanes load(const uint64_t *words) { return *(const lanes *)words; }
+typedef lanes lanes_anywhere __attribute__((aligned(8)));
+
+INLINE lanes load(const uint64_t *words) { return *(const lanes_anywhere *)words; }
 
 INLINE lanes choose(lanes mask, lanes inside, lanes outside) { return outside ^ (mask & (inside ^ outside)); }
 
@@ -127,7 +136,7 @@ INLINE void visit(int heat, size_t size, places at, lanes ahead, lanes behind, c
         load(spins + at.above) ^ load(z + at.own),
         load(spins + at.below) ^ load(z + at.below),
     };
-    *(lanes *)(spins + at.own) = new_spins(heat, state.draws + at.draw, t, six, load(spins + at.own));
+    *(lanes_anywhere *)(spins + at.own) = new_spins(heat, state.draws + at.draw, t, six, load(spins + at.own));
 }
 
 /* A row that begins at x = 0: of the neighbours in x the one behind stands one word back. */

@@ -1,15 +1,14 @@
 -- A sweep: the planes of colour 0, and then those of colour 1.
-use Rattle.std.proofs.Common.{inl, inr, ◌≡◌, ℕ, ◌+◌, ◌-◌, ◌*◌, ◌<◌, ◌≤◌, List, [], ◌++◌, All, length, get_or, take, drop, refl, sym, ap, subst, ◌∙◌, arith, get_or-drop, length-drop, length-append}
+use Rattle.std.proofs.Common.{◌≡◌, ℕ, ◌+◌, ◌-◌, ◌*◌, ◌<◌, ◌≤◌, List, [], ◌++◌, All, length, get_or, take, drop, refl, sym, ap, subst, ◌∙◌, arith, get_or-drop, length-drop, length-append}
 use Rattle.std.proofs.lemmas.List.{take_at, drop_at, get_or-take, get_or_append_left, get_or-append_right, length-take-le, take-append-drop}
 use Rattle.std.proofs.lemmas.List.Elements.{All-append}
-use Rattle.coupling_set.specs.CouplingWords.{CouplingsView, bonds_of}
+use Rattle.coupling_set.specs.CouplingWords.{CouplingsView}
 use Rattle.spin_model.specs.Lattice.{IsLawfulSize}
-use Rattle.scalar_rule.specs.Plan.{Plan, slots_of, dynamics_of}
+use Rattle.scalar_rule.specs.Plan.{Plan, dynamics_of}
 use Rattle.scalar_rule.specs.Replica.{configuration_of, with_configuration}
-use Rattle.scalar_rule.specs.SlotRules.{HasThresholds}
-use Rattle.scalar_rule.specs.Sweep.{Configuration, half_sweep, sweep}
+use Rattle.scalar_rule.specs.Sweep.{half_sweep, sweep}
 use Rattle.scalar_rule.proofs.PlanDynamics.{sweep-read, with_configuration-is}
-use Rattle.plane_sweep.specs.Packed.{plane_at, part_copy, generators_of, FitsPlane, FitsReplica}
+use Rattle.plane_sweep.specs.Packed.{plane_at, part_copy, FitsPlane, FitsReplica}
 use Rattle.plane_sweep.specs.PlaneSweep.{SweepsPlane, SweepsColours}
 use Rattle.plane_sweep.specs.Storing.{Changed}
 use Rattle.plane_sweep.specs.declared.replica.Plane.{Plane}

@@ -1,9 +1,9 @@
 -- The neighbours of a site by its place in a plane: they are sites of the other colour, at places beside it.
-use Rattle.std.proofs.Common.{inl, inr, ◌≡◌, ℕ, ◌+◌, ◌-◌, ◌*◌, ◌/◌, ◌%◌, ◌<◌, ◌≤◌, ◌==◌, cond, Bool, true, false, refl, sym, ap, ◌∙◌, arith}
+use Rattle.std.proofs.Common.{inl, inr, ◌≡◌, ℕ, ◌+◌, ◌-◌, ◌*◌, ◌/◌, ◌%◌, ◌<◌, ◌==◌, cond, true, false, refl, sym, ap, ◌∙◌, arith}
 use Rattle.std.proofs.lemmas.Bool.{cases_lt, cases_eq}
 use Rattle.std.proofs.lemmas.Nat.{mod-mul-add, mod_below, div_below, div-add-mod'}
 use Rattle.std.proofs.Math.Nat.{mod-eq_of_lt, mod_self}
-use Rattle.spin_model.specs.Lattice.{IsLawfulSize, volume, site_at, next, previous, x_of, y_of, z_of, colour, forward, backward, half_plane, place_in_plane}
+use Rattle.spin_model.specs.Lattice.{IsLawfulSize, site_at, next, previous, x_of, z_of, colour, forward, backward, half_plane, place_in_plane}
 use Rattle.spin_model.proofs.CompactOrder.{from_compact-place_at, chosen-below}
 use Rattle.spin_model.proofs.Colours.{colour-site_at}
 use Rattle.spin_model.proofs.Sites.{x_of-site_at, y_of-site_at, z_of-site_at}

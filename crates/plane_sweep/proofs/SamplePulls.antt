@@ -1,17 +1,17 @@
 -- The six words of a site are, in each sample, the pulls of its six neighbours.
-use Rattle.std.proofs.Common.{◌≡◌, ℕ, ◌+◌, ◌-◌, ◌*◌, ◌/◌, ◌%◌, ◌<◌, Bool, true, false, not, bit_xor, List, [], ◌∷◌, length, get_or, refl, sym, ap, ◌∙◌, arith}
+use Rattle.std.proofs.Common.{◌≡◌, ℕ, ◌+◌, ◌-◌, ◌*◌, ◌/◌, ◌%◌, ◌<◌, Bool, true, false, bit_xor, List, get_or, refl, sym, ap, ◌∙◌, arith}
 use Rattle.std.proofs.lemmas.Nat.{mod_below}
 use Rattle.coupling_set.specs.CouplingWords.{CouplingsView, bond_word, bonds_of}
 use Rattle.local_rule.specs.SiteBits.{set_count}
 use Rattle.multispin_word.specs.Planes.{differs}
 use Rattle.multispin_word.proofs.Bits.{is_set-xor}
-use Rattle.scalar_rule.specs.Neighbours.{spin, coupled, agree, aligned, satisfied}
+use Rattle.scalar_rule.specs.Neighbours.{spin, coupled, aligned, satisfied}
 use Rattle.spin_model.specs.Lattice.{IsLawfulSize, volume, bond, forward, backward, half_plane, next, previous}
 use Rattle.spin_model.specs.Words.{is_set}
 use Rattle.spin_model.proofs.Tables.{get_or-table}
 use Rattle.plane_sweep.specs.Packed.{plane_at, word_at, spins_of}
 use Rattle.plane_sweep.specs.Beginnings.{site_of}
-use Rattle.plane_sweep.specs.Neighbourhood.{pulls, right_place, left_place}
+use Rattle.plane_sweep.specs.Neighbourhood.{pulls}
 use Rattle.plane_sweep.specs.PlaneSweep.{agreeing_count}
 use Rattle.plane_sweep.specs.declared.replica.Plane.{Plane}
 use Rattle.plane_sweep.proofs.PlaneSites.{site_of-below}

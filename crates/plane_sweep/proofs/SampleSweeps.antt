@@ -1,15 +1,15 @@
 -- The half sweep of all planes of a colour is, in each sample, the half sweep of the definitions.
-use Rattle.std.proofs.Common.{inl, inr, ◌≡◌, ◌⊎◌, ◌≢◌, ℕ, zero, suc, ◌+◌, ◌-◌, ◌*◌, ◌/◌, ◌%◌, ◌<◌, ◌≤◌, Bool, false, List, [], length, get_or, map, set, refl, sym, ap, subst, ◌∙◌, arith}
-use Rattle.std.proofs.lemmas.Bool.{cases_eq, cases_lt}
+use Rattle.std.proofs.Common.{inl, inr, ◌≡◌, ◌≢◌, ℕ, zero, suc, ◌+◌, ◌-◌, ◌*◌, ◌/◌, ◌%◌, ◌<◌, ◌≤◌, Bool, List, [], length, get_or, refl, sym, ap, ◌∙◌, arith}
+use Rattle.std.proofs.lemmas.Bool.{cases_eq}
 use Rattle.std.proofs.lemmas.List.{length-map, length-set, get_or-map, get_or-set_same, get_or-set_other, same_lists, get_or_default}
 use Rattle.std.proofs.lemmas.Nat.{div_below, mod_below, div-add-mod'}
 use Rattle.coupling_set.specs.CouplingWords.{CouplingsView, bonds_of}
-use Rattle.spin_model.specs.Lattice.{IsLawfulSize, volume, colour, z_of, place_in_plane, half_plane}
-use Rattle.spin_model.specs.SiteRule.{Rule, new_spin}
+use Rattle.spin_model.specs.Lattice.{IsLawfulSize, volume, half_plane}
+use Rattle.spin_model.specs.SiteRule.{new_spin}
 use Rattle.spin_model.specs.Steps.{steps}
 use Rattle.spin_model.specs.Stream.{advanced, draw, draws}
 use Rattle.spin_model.specs.Words.{is_set}
-use Rattle.spin_model.proofs.Tables.{get_or-table, length-table}
+use Rattle.spin_model.proofs.Tables.{get_or-table}
 use Rattle.scalar_rule.specs.Neighbours.{spin, aligned, satisfied}
 use Rattle.scalar_rule.specs.Sweep.{Dynamics, Configuration, site_draw, visit, plane_drawn, half_sweep}
 use Rattle.scalar_rule.proofs.HalfSweeps.{updated, length-visited, spin-visited_kept, spin-visited_updated}

@@ -10,7 +10,6 @@ use Rattle.multispin_word.proofs.Bits.{is_set-xor, is_set-not}
 use Rattle.scalar_rule.specs.Neighbours.{agree}
 use Rattle.spin_model.specs.Lattice.{IsLawfulSize, half_plane, next, previous}
 use Rattle.spin_model.specs.Words.{is_set}
-use Rattle.plane_sweep.specs.Packed.{plane_at}
 use Rattle.plane_sweep.specs.Beginnings.{site_of}
 use Rattle.plane_sweep.specs.Neighbourhood.{pulls, Surrounds, IsLent, right_place, left_place}
 use Rattle.plane_sweep.specs.PlaneSweep.{agreeing_count, IsRow, HasRows, pulls_lent}
@@ -53,7 +52,7 @@ row-within l y k row column =
     let turned = mul_comm (l / 2) l in
     omega arith
 
-row-whole : (l y : ℕ) → y < l → y * (l / 2) + l / 2 ≤ half_plane l
+pub row-whole : (l y : ℕ) → y < l → y * (l / 2) + l / 2 ≤ half_plane l
 row-whole l y row = row_fits y (l / 2) l (l / 2) row (omega arith)
 
 half_plane-few : (l : ℕ) → l ≤ 64 → half_plane l ≤ 2048

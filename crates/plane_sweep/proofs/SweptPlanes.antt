@@ -1,5 +1,5 @@
 -- A plane after its half sweep.
-use Rattle.std.proofs.Common.{◌≡◌, ℕ, zero, suc, ◌+◌, ◌%◌, ◌^◌, ◌<◌, List, [], ◌∷◌, ◌++◌, All, drop, length, get_or, refl, sym, ap, subst, ◌∙◌, arith, get_or-drop, length-drop}
+use Rattle.std.proofs.Common.{◌≡◌, ℕ, zero, suc, ◌+◌, ◌%◌, ◌^◌, ◌<◌, List, All, drop, get_or, sym, subst, ◌∙◌, arith, get_or-drop, length-drop}
 use Rattle.std.proofs.lemmas.Nat.{mod_below, pow_pos}
 use Rattle.coupling_set.specs.CouplingWords.{CouplingsView}
 use Rattle.spin_model.specs.Lattice.{half_plane}

@@ -3,7 +3,9 @@
 
 mod copying;
 mod generators;
+mod lanes;
 mod opening;
+mod pairs;
 mod parts;
 mod random_words;
 mod replica;

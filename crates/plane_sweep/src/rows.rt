@@ -2,13 +2,15 @@
 
 ghost use Rattle.std.specs.Prelude.{◌≡◌, ℕ, ◌+◌, ◌-◌, ◌*◌, ◌/◌, ◌%◌, ◌<◌, ◌≤◌, ◌==◌, if◌then◌else◌, length, All};
 ghost use Rattle.local_rule.specs.SiteBits.{set_count};
-ghost use Rattle.plane_sweep.specs.PlaneSweep.{agreeing_count, pulls_lent, SweepsWord, SweepsWords, IsRow, HasRows};
+ghost use Rattle.plane_sweep.specs.PlaneSweep.{agreeing_count, left_column, pulls_lent, right_column, SweepsRow, SweepsWord, SweepsWords, IsRow, HasRows};
 ghost use Rattle.plane_sweep.specs.Packed.{FitsPlane};
 ghost use Rattle.scalar_rule.specs.Neighbours.{agree};
 ghost use Rattle.spin_model.specs.Lattice.{half_plane, next, previous, IsLawfulSize};
 ghost use Rattle.spin_model.specs.Words.{is_set};
 ghost use Rattle.threshold_table.specs.Tables.{rule_of};
 
+use crate::lanes::sweep_eight;
+use crate::pairs::sweep_pairs;
 use crate::replica::Plane;
 use crate::surroundings::{Surroundings, lend, next, previous};
 use coupling_set::Couplings;
@@ -54,37 +56,127 @@ pub(crate) fn sweep_words(
     requires plane { z < couplings.now.size }
     ensures { SweepsWords couplings.now other.now rule.now draws.now colour z (half_plane couplings.now.size) own.old own.new }
 {
-    let size = couplings.size();
-    let around = lend(other, couplings, colour, z);
-    'rows: for y in 0..size {
-        let at = row_at(size, colour, z, y);
-        'columns: for k in 0..size / 2 {
-            let place = (at.here + k) as usize;
-            own[place] = new_word(rule, draws[place], &pulls_of(&around, &at, k), own[place]);
-        }
+    // Code of its own for the sizes most used: the width of a row is then known in it.
+    match couplings.size() {
+        8 => sweep_pairs(own, other, couplings, rule, draws, colour, z),
+        16 => sweep_rows(own, other, couplings, rule, draws, colour, z, 16),
+        32 => sweep_rows(own, other, couplings, rule, draws, colour, z, 32),
+        64 => sweep_rows(own, other, couplings, rule, draws, colour, z, 64),
+        size => sweep_rows(own, other, couplings, rule, draws, colour, z, size),
     }
 }
 
-// Row y of plane z of a colour.
-fn row_at(size: u32, colour: u32, z: u32, y: u32) -> Row
+// The same, row by row, on a lattice of this size.
+#[inline(always)]
+fn sweep_rows(
+    own: &mut [u64],
+    other: &[Plane],
+    couplings: &Couplings,
+    rule: &SlotRule,
+    draws: &[u32],
+    colour: u32,
+    z: u32,
+    size: u32,
+)
+    requires size { size ≡ couplings.now.size }
+    requires lawful { IsLawfulSize couplings.now.size }
+    requires own { length own.old ≡ half_plane couplings.now.size }
+    requires draws { length draws.now ≡ half_plane couplings.now.size }
+    requires count { length other.now ≡ couplings.now.size }
+    requires planes { All (FitsPlane couplings.now.size) other.now }
+    requires colour { colour < 2 }
+    requires plane { z < couplings.now.size }
+    ensures { SweepsWords couplings.now other.now rule.now draws.now colour z (half_plane couplings.now.size) own.old own.new }
+{
+    let around = lend(other, couplings, colour, z);
+    // A copy beside the words that are written, so that the thresholds stay in registers.
+    let rule = *rule;
+    let words = size * (size / 2);
+    let mut row = first_row(size, colour, z);
+    'rows: for y in 0..size {
+        sweep_row(own, &around, &rule, draws, &row);
+        row = row_behind(&row, words);
+    }
+}
+
+// The new words of a row: by eight, and the rest by one.
+#[inline(always)]
+fn sweep_row(own: &mut [u64], around: &Surroundings, rule: &SlotRule, draws: &[u32], row: &Row)
+    requires rows { HasRows (length around.now.here.now) around.now row.now }
+    requires own { length own.old ≡ length around.now.here.now }
+    requires draws { length draws.now ≡ length around.now.here.now }
+    ensures { SweepsRow around.now rule.now draws.now row.now 0 row.now.half own.old own.new }
+{
+    'eights: for j in 0..row.half / 8 {
+        sweep_eight(own, around, rule, draws, row, 8 * j);
+    }
+    'rest: for k in row.half / 8 * 8..row.half {
+        sweep_one(own, around, rule, draws, row, k);
+    }
+}
+
+// The new word at column k.
+#[inline(always)]
+fn sweep_one(
+    own: &mut [u64],
+    around: &Surroundings,
+    rule: &SlotRule,
+    draws: &[u32],
+    row: &Row,
+    k: u32,
+)
+    requires rows { HasRows (length around.now.here.now) around.now row.now }
+    requires own { length own.old ≡ length around.now.here.now }
+    requires draws { length draws.now ≡ length around.now.here.now }
+    requires within { k < row.now.half }
+    ensures { SweepsRow around.now rule.now draws.now row.now k (k + 1) own.old own.new }
+{
+    let place = (row.here + k) as usize;
+    own[place] = new_word(rule, draws[place], &pulls_of(around, row, k), own[place]);
+}
+
+// The first row of plane z of a colour.
+#[inline(always)]
+pub(crate) fn first_row(size: u32, colour: u32, z: u32) -> Row
     requires size { IsLawfulSize size }
     requires colour { colour < 2 }
     requires plane { z < size }
-    requires row { y < size }
-    ensures { IsRow size colour z y result }
+    ensures { IsRow size colour z 0 result }
 {
     let half = size / 2;
     Row {
         half,
-        here: y * half,
-        up: next(size, y) * half,
-        down: previous(size, y) * half,
-        even: (colour + y + z) % 2 == 0,
+        here: 0,
+        up: half,
+        down: (size - 1) * half,
+        even: (colour + z) % 2 == 0,
+    }
+}
+
+// The row behind a row, in a plane of so many words.
+#[inline(always)]
+pub(crate) fn row_behind(row: &Row, words: u32) -> Row
+    requires few { words ≤ 2048 }
+    requires here { row.now.here + row.now.half ≤ words }
+    requires up { row.now.up + row.now.half ≤ words }
+    ensures { (l c z y : ℕ) → IsLawfulSize l → y < l → words ≡ half_plane l → IsRow l c z y row.now
+        → IsRow l c z (y + 1) result }
+{
+    Row {
+        half: row.half,
+        here: row.here + row.half,
+        up: if row.up + row.half < words {
+            row.up + row.half
+        } else {
+            0
+        },
+        down: row.here,
+        even: !row.even,
     }
 }
 
 // J times the neighbours' spins at column k: ahead in x, y and z, and behind.
-#[inline]
+#[inline(always)]
 #[tactic(auto, unfolding(crate::specs::PlaneSweep::pulls_lent))]
 fn pulls_of(around: &Surroundings, row: &Row, k: u32) -> [u64; 6]
     requires rows { HasRows (length around.now.here.now) around.now row.now }
@@ -106,26 +198,26 @@ fn pulls_of(around: &Surroundings, row: &Row, k: u32) -> [u64; 6]
 }
 
 // The column of the neighbour ahead in x, and of the one behind.
-#[inline]
+#[inline(always)]
 fn ahead_column(row: &Row, k: u32) -> u32
     requires { k < row.now.half }
-    ensures value { result ≡ (if row.now.even then k else next row.now.half k) }
+    ensures value { result ≡ right_column row.now k }
     ensures within { result < row.now.half }
 {
     if row.even { k } else { next(row.half, k) }
 }
 
-#[inline]
+#[inline(always)]
 fn behind_column(row: &Row, k: u32) -> u32
     requires { k < row.now.half }
-    ensures value { result ≡ (if row.now.even then previous row.now.half k else k) }
+    ensures value { result ≡ left_column row.now k }
     ensures within { result < row.now.half }
 {
     if row.even { previous(row.half, k) } else { k }
 }
 
 // The new spins of a site, by its draw.
-#[inline]
+#[inline(always)]
 fn new_word(rule: &SlotRule, draw: u32, six: &[u64; 6], word: u64) -> u64
     ensures { SweepsWord (rule_of rule.now.kind) rule.now.row.values six.now draw word result }
 {
@@ -136,7 +228,7 @@ fn new_word(rule: &SlotRule, draw: u32, six: &[u64; 6], word: u64) -> u64
 }
 
 // The samples in which each of the six agrees with the spin.
-#[inline]
+#[inline(always)]
 fn agreeing(six: &[u64; 6], word: u64) -> [u64; 6]
     ensures { (b : ℕ) → b < 64 → set_count result b ≡ agreeing_count six.now word b }
 {
@@ -150,7 +242,7 @@ fn agreeing(six: &[u64; 6], word: u64) -> [u64; 6]
     ]
 }
 
-#[inline]
+#[inline(always)]
 fn agree(a: u64, b: u64) -> u64
     ensures { (k : ℕ) → k < 64 → is_set result k ≡ agree (is_set a k) (is_set b k) }
 {

@@ -224,7 +224,7 @@ fn sweeps_agree(rt: &HostRuntime, alloc: Global, size: u32, kind: RuleKind) -> R
 
 #[test]
 fn packed_sweep_equals_64_scalar_sweeps(rt: HostRuntime) -> Result<(), Fail> {
-    for size in [4, 6] {
+    for size in [4, 6, 8] {
         for kind in [RuleKind::Heat, RuleKind::Metropolis] {
             assert!(rt; sweeps_agree(&rt, rt.alloc(), size, kind)?, "size {size}");
         }
@@ -233,10 +233,10 @@ fn packed_sweep_equals_64_scalar_sweeps(rt: HostRuntime) -> Result<(), Fail> {
 }
 
 #[test]
-fn packed_sweep_equals_64_scalar_sweeps_where_a_row_has_8_or_9_words(
+fn packed_sweep_equals_64_scalar_sweeps_where_a_row_has_8_words_and_more(
     rt: HostRuntime,
 ) -> Result<(), Fail> {
-    for size in [16, 18] {
+    for size in [16, 18, 32] {
         for kind in [RuleKind::Heat, RuleKind::Metropolis] {
             assert!(rt; sweeps_agree(&rt, rt.alloc(), size, kind)?, "size {size}");
         }

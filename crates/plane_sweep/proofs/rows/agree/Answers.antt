@@ -1,4 +1,3 @@
-use Rattle.std.proofs.Common.{ℕ, ◌<◌, ◌^◌, arith}
 use Rattle.plane_sweep.proofs.SixWords.{is_set-agree}
 use Rattle.plane_sweep.proofs.rows.agree.Goals as goal
 

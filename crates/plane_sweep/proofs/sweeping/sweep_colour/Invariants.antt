@@ -1,4 +1,3 @@
-use Rattle.std.proofs.Common.{◌≡◌, length}
 use Rattle.plane_sweep.specs.PlaneSweep.{SweepsPlane}
 use Rattle.plane_sweep.specs.Storing.{Changed}
 use Rattle.plane_sweep.proofs.sweeping.sweep_colour.Given as goal

@@ -1,4 +1,4 @@
-use Rattle.std.proofs.Common.{◌≡◌, ℕ, take, drop, ap, ◌∙◌}
+use Rattle.std.proofs.Common.{take, drop, ap, ◌∙◌}
 use Rattle.plane_sweep.proofs.ColourSweeps.{sweeps-colours}
 use Rattle.plane_sweep.proofs.sweeping.sweep_colours.Goals as goal
 

@@ -1,9 +1,9 @@
-use Rattle.std.proofs.Common.{rules, ◌≡◌, ℕ, List, length, take, drop, ◌++◌, ap, sym, subst, ◌∙◌, arith}
+use Rattle.std.proofs.Common.{rules, ◌≡◌, ℕ, List, length, ap, sym, subst, ◌∙◌}
 use Rattle.spin_model.specs.Lattice.{half_plane}
 use Rattle.spin_model.specs.Stream.{draws, advanced}
 use Rattle.spin_model.proofs.Tables.{length-table}
 use Rattle.scalar_rule.proofs.PlaneSweeps.{written_over}
-use Rattle.plane_sweep.specs.PlaneSweep.{SweepsWords, SweepsPlane}
+use Rattle.plane_sweep.specs.PlaneSweep.{SweepsWords}
 use Rattle.plane_sweep.proofs.SweptPlanes.{sweeps-plane}
 use Rattle.plane_sweep.proofs.sweeping.sweep_plane.Goals as goal
 

@@ -1,4 +1,4 @@
-use Rattle.std.proofs.Common.{rules, ◌≡◌, ℕ, ◌*◌, ◌<◌, List, All, length, get_or, ap, sym, subst, refl, ◌∙◌, arith}
+use Rattle.std.proofs.Common.{ℕ, ◌*◌, List, All, length, ap, sym, subst, refl, ◌∙◌}
 use Rattle.coupling_set.specs.CouplingWords.{CouplingsView}
 use Rattle.threshold_table.specs.Tables.{RuleView, threshold_of}
 use Rattle.scalar_rule.proofs.PlaneSweeps.{written_over}
