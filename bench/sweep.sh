@@ -10,8 +10,8 @@ in C (bench/sweep.c, gcc -O3). The two programs run by turns from the same state
 it prints the least picoseconds of a spin update on both sides and their ratio. A spin update is that of one
 spin in one of the 64 samples, the random numbers included.
 
-  --dense        first word: the C side keeps its words as ours does, with no free cache lines between planes
-                 and off a cache line
+  --dense        first word: the C side keeps its words with no free cache lines between planes, and off
+                 a cache line
   --cpu CPU      x86-64-v2 (as if left out) or x86-64-v3, for both compilers
   --sizes ..     of 8, 16, 32 and 64, all four if left out
   --passes N     passes of a turn, 100 if left out, each of 262144 / SIZE^3 sweeps

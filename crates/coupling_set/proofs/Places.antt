@@ -29,7 +29,7 @@ pub places-apart : (l m n : ℕ) → IsLawfulSize l → m < bond_count l → n <
 places-apart l m n lawful m_within n_within other = λ same. other (same-bond l m n lawful m_within n_within same)
 
 -- the places of a plane of one colour
-half_plane-positive : (l : ℕ) → IsLawfulSize l → 0 < half_plane l
+pub half_plane-positive : (l : ℕ) → IsLawfulSize l → 0 < half_plane l
 half_plane-positive l lawful = mul-lt 0 0 l (l / 2) (omega arith) (omega arith)
 
 in_plane-below : (l c z k : ℕ) → IsLawfulSize l → c < 2 → z < l → k < half_plane l → c * half_volume l + z * half_plane l + k < volume l

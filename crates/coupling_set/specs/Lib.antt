@@ -1,2 +1,3 @@
 pub mod CouplingWords
+pub mod KeptWords
 pub mod Kept

@@ -1,11 +1,12 @@
 //! The couplings of 64 disorder samples.
 
 ghost use Rattle.std.specs.Prelude.{◌≡◌, ℕ, ◌+◌, ◌*◌, ◌^◌, ◌<◌, ◌≤◌, IfOk, length, slice_index};
-ghost use Rattle.coupling_set.specs.CouplingWords.{bond_word, words_on, HasBonds, AreCouplings};
+ghost use Rattle.coupling_set.specs.CouplingWords.{bond_word, HasBonds, AreCouplings};
+ghost use Rattle.coupling_set.specs.KeptWords.{kept_count, kept_on};
 ghost use Rattle.spin_model.specs.Couplings.{plus, random};
-ghost use Rattle.spin_model.specs.Lattice.{volume, bond_count, half_plane, half_volume, from_compact};
+ghost use Rattle.spin_model.specs.Lattice.{volume, half_plane, half_volume, from_compact};
 
-use crate::bond_words::place;
+use crate::bond_words::{FREE_WORDS, place, word_count};
 use crate::drawing::draw_samples;
 use glass_edges::NoMemory;
 use lattice_geometry::Lattice;
@@ -43,7 +44,7 @@ impl Couplings {
         ensures size { IfOk result (λ couplings. couplings.size ≡ lattice) }
         ensures bonds { IfOk result (λ couplings. HasBonds couplings plus) }
     {
-        let words = vec![in alloc; 0u64; 3 * lattice.sites() as usize]?;
+        let words = vec![in alloc; 0u64; word_count(&lattice)]?;
         Ok(Couplings::of(lattice, words))
     }
 
@@ -72,15 +73,15 @@ impl Couplings {
         ensures size { IfOk result (λ couplings. couplings.size ≡ lattice) }
         ensures bonds { IfOk result (λ couplings. HasBonds couplings (λ b. random seed (first + b))) }
     {
-        let mut words = vec![in alloc; 0u64; 3 * lattice.sites() as usize]?;
+        let mut words = vec![in alloc; 0u64; word_count(&lattice)]?;
         draw_samples(words.as_mut_slice(), &lattice, seed, first);
         Ok(Couplings::of(lattice, words))
     }
 
     // The couplings in these words.
     fn of(lattice: Lattice, words: Vec<u64>) -> Couplings
-        requires { length words.items ≡ bond_count lattice }
-        ensures { result ≡ words_on lattice words.items }
+        requires { length words.items ≡ kept_count lattice }
+        ensures { result ≡ kept_on lattice words.items }
     {
         Couplings {
             lattice,
@@ -120,8 +121,7 @@ impl Couplings {
     {
         let size = self.lattice.size();
         let half_plane = size * (size / 2);
-        let half_volume = size * half_plane;
-        let first = d * self.lattice.sites() + colour * half_volume + z * half_plane;
+        let first = ((2 * d + colour) * size + z) * (half_plane + FREE_WORDS);
         &self.words.as_slice()[first as usize..(first + half_plane) as usize]
     }
 }

@@ -60,6 +60,27 @@ fn a_plane_has_the_words_of_its_colour_in_compact_order(rt: HostRuntime) {
 }
 
 #[test]
+fn each_bond_is_the_same_word_alone_and_in_its_plane(rt: HostRuntime) {
+    for size in [4, 6] {
+        let lattice = Lattice::of(size).expect(&rt, "an even size");
+        let couplings = Couplings::random(rt.alloc(), lattice, 7).expect(&rt, "ample memory");
+        for site in 0..lattice.sites() {
+            let (x, y, z) = lattice.coordinates(site);
+            let k = (y * (lattice.size() / 2) + x / 2) as usize;
+            for d in 0..3 {
+                let plane = couplings.plane(lattice.colour(site), z, d);
+                assert!(rt; k < plane.len());
+                assert_eq!(rt;
+                    plane[k],
+                    couplings.negative(site, d),
+                    "size {size}, site {site}, direction {d}"
+                );
+            }
+        }
+    }
+}
+
+#[test]
 fn the_ferromagnet_has_no_negative_bond(rt: HostRuntime) {
     let lattice = Lattice::of(4).expect(&rt, "an even size");
     let couplings = Couplings::plus(rt.alloc(), lattice).expect(&rt, "ample memory");

@@ -7,7 +7,8 @@ use Rattle.spin_model.specs.Stream.{advanced, draw, draws}
 use Rattle.spin_model.specs.Words.{is_set}
 use Rattle.spin_model.proofs.Streams.{advanced-zero, advanced-advanced, draw-advanced}
 use Rattle.spin_model.proofs.Tables.{get_or-table}
-use Rattle.coupling_set.specs.CouplingWords.{bonds_of, words_on}
+use Rattle.coupling_set.specs.CouplingWords.{bonds_of}
+use Rattle.coupling_set.specs.KeptWords.{kept_on}
 use Rattle.coupling_set.proofs.drawing.draw_sample.Goals as goal
 
 -- the bonds of a row lie within the lattice
@@ -52,7 +53,7 @@ rows-preserved c =
             let k = n - start in
             let place : n ≡ start + k = omega arith in
             let listed = row-draw w c.rows.wheel c.fill.new.out start (length c.rows.row) k known.wheel c.fill.ensures.drawn (omega arith) in
-            ap (λ m. bonds_of (words_on l c.write_bonds.new.words) c.args.sample m) place
+            ap (λ m. bonds_of (kept_on l c.write_bonds.new.words) c.args.sample m) place
             ∙ drawn k (omega arith) ∙ ap (λ u. is_set u 31) listed ∙ ap (λ m. is_set (draw w m) 31) (sym place)
       ];
       others = λ b n h within other. c.write_bonds.ensures.others b n h within other ∙ known.others b n h within other;
