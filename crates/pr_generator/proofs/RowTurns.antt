@@ -1,13 +1,15 @@
 -- Eight new sums and eight random numbers from the rows are the stream's, and the rows then stand eight words on.
 use Rattle.std.proofs.Common.{◌≡◌, ℕ, zero, suc, ◌+◌, ◌*◌, ◌<◌, ◌≤◌, List, [], ◌∷◌, ◌++◌, length, get_or, take, drop, bit_xor, All, ap, refl, sym, ◌∙◌, arith, add_comm, length-append, length-drop, length-take-le, take-add, get_or-drop, lit<, lit≤}
 use Rattle.std.proofs.lemmas.List.{take_at, take-append-drop, take_more, drop-take, append_assoc, drop_at, drop_all, drop_more, drop-drop, drop-append-le, get_or_append_left, flat_map_more}
+use Rattle.std.proofs.lemmas.Slice.{take-put_mid}
 use Rattle.std.proofs.lemmas.List.Elements.{All-nil, All-cons, All-append, All-drop, All-head, All-tail, All-get_or}
 use Rattle.spin_model.specs.Words.{word_sum}
 use Rattle.spin_model.specs.Steps.{table}
 use Rattle.spin_model.specs.Stream.{advanced, stream_word, draw, draws}
 use Rattle.spin_model.proofs.Tables.{take-table, table-of_items, get_or-table, length-table}
-use Rattle.spin_model.proofs.Streams.{advanced-words, stream_word-first, stream_word-recurs}
+use Rattle.spin_model.proofs.Streams.{advanced-words, draws-advanced, stream_word-first, stream_word-recurs}
 use Rattle.pr_generator.specs.Rows.{joined, state_of, AreRows}
+use borrow.Rule.Slice.PartMut.{put_mid}
 
 abbrev Eight : List ℕ → Type 0
 Eight row = length row ≡ 8
@@ -169,3 +171,10 @@ state-at rows count are within =
     ∙ take_at (drop count w ++ take count new) (drop count new) 61 whole
     ∙ ap (λ v. drop count w ++ v) (take-table (λ k. stream_word w (61 + k)) count 8 within)
     ∙ sym (advanced-words w count sized (omega arith))
+
+-- the next m numbers, written behind the first n
+pub draws-written : (w : List ℕ) (n m all k : ℕ) (xs ys : List ℕ) → take n xs ≡ draws w n → ys ≡ draws (advanced w n) m → n ≤ length xs → n + m ≡ all
+    → take all (put_mid n k xs ys) ≡ draws w all
+draws-written w n m all k xs ys before next within sum =
+    let long : length ys ≡ m = ap length next ∙ length-table (draw (advanced w n)) m in
+    take-put_mid n k xs ys all (omega arith) within ∙ rw (before, next) (sym (draws-advanced w n m) ∙ ap (draws w) sum)

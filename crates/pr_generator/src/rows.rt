@@ -1,15 +1,15 @@
 //! Eight words of the stream at a time, in vector lanes.
 
-ghost use Rattle.std.specs.Prelude.{◌≡◌, ℕ, ◌+◌, ◌%◌, ◌<◌, ◌≤◌, [], ◌++◌, List, length, take, drop, bit_xor, slice_index, slice_index_or};
-ghost use Rattle.pr_generator.specs.Rows.{joined, state_of, AreRows};
+ghost use Rattle.std.specs.Prelude.{◌≡◌, ℕ, ◌+◌, ◌*◌, ◌%◌, ◌<◌, ◌≤◌, [], ◌++◌, List, length, take, drop, bit_xor, slice_index, slice_index_or};
+ghost use Rattle.pr_generator.specs.Rows.{joined, state_of, from_row, AreRows};
 ghost use Rattle.spin_model.specs.Words.{word_sum};
 ghost use Rattle.spin_model.specs.Steps.{table};
 ghost use Rattle.spin_model.specs.Stream.{advanced, draws, stream_word};
 
 use std::simd::prelude::*;
 
-/// Three words that are past, and then the 61 of a state, oldest first. Eight new sums need no new
-/// word, and then each row takes the place of the one before it.
+/// Three words that are past, and then the 61 of a state, oldest first. A turn makes eight new sums,
+/// which need no new word: they are the last row of the next eight, and the first row is past.
 pub type Rows = [[u32; 8]; 8];
 
 // The rows of 64 words of a longer list, from a place on.
@@ -76,17 +76,103 @@ pub fn fill_rows(rows: &mut Rows, out: &mut [u32])
     ensures moved { state_of rows.new ≡ advanced (state_of rows.old) (length out.old) }
     ensures drawn { out.new ≡ draws (state_of rows.old) (length out.old) }
 {
-    // the rows in registers
-    let [a, b, c, d, e, f, g, h] = *rows;
-    let mut a = u32x8::from_array(a);
-    let mut b = u32x8::from_array(b);
-    let mut c = u32x8::from_array(c);
-    let mut d = u32x8::from_array(d);
-    let mut e = u32x8::from_array(e);
-    let mut f = u32x8::from_array(f);
-    let mut g = u32x8::from_array(g);
-    let mut h = u32x8::from_array(h);
-    'turns: for i in 0..out.len() / 8 {
+    let rounds = out.len() / 64;
+    'rounds: for i in 0..rounds {
+        fill_round(rows, &mut out[64 * i..64 * i + 64]);
+    }
+    fill_last(rows, &mut out[64 * rounds..]);
+}
+
+// Eight turns, each of which puts its sums in the place of the oldest row, so that no row is moved and
+// only the rows that a turn reads are in registers. After eight the rows stand in order again.
+#[inline(always)]
+fn fill_round(rows: &mut Rows, out: &mut [u32])
+    requires rows { AreRows rows.old }
+    requires sized { length out.old ≡ 64 }
+    ensures rows { AreRows rows.new }
+    ensures moved { state_of rows.new ≡ advanced (state_of rows.old) 64 }
+    ensures drawn { out.new ≡ draws (state_of rows.old) 64 }
+{
+    let mut old = row_of(rows, 0);
+    let mut far = row_of(rows, 1);
+    'turns: for k in 0..8 {
+        let behind = turn_at(rows, k, old, far, &mut out[8 * k..8 * k + 8]);
+        old = far;
+        far = behind;
+    }
+}
+
+// One turn where the oldest row is at that place. The two oldest rows come from the turn before, and
+// the second of the next turn is the result: as vectors they are read once, while LLVM, which doesn't
+// know that out lies apart from rows, would read them again after each write to out.
+#[inline(always)]
+fn turn_at(rows: &mut Rows, place: usize, old: u32x8, far: u32x8, out: &mut [u32]) -> u32x8
+    requires rows { AreRows rows.old }
+    requires place { place < 8 }
+    requires old { old ≡ slice_index_or (from_row place rows.old) 0 [] }
+    requires far { far ≡ slice_index_or (from_row place rows.old) 1 [] }
+    requires sized { length out.old ≡ 8 }
+    ensures rows { AreRows rows.new }
+    ensures moved { state_of (from_row (place + 1) rows.new)
+        ≡ advanced (state_of (from_row place rows.old)) 8 }
+    ensures drawn { out.new ≡ draws (state_of (from_row place rows.old)) 8 }
+    ensures old { far ≡ slice_index_or (from_row (place + 1) rows.new) 0 [] }
+    ensures far { result ≡ slice_index_or (from_row (place + 1) rows.new) 1 [] }
+{
+    let behind = row_of(rows, (place + 2) % 8);
+    let sums = sum_row(row_of(rows, (place + 5) % 8), far, behind);
+    draw_row(sums, old, far).copy_to_slice(out);
+    rows[place] = sums.to_array();
+    behind
+}
+
+#[inline(always)]
+fn row_of(rows: &Rows, place: usize) -> u32x8
+    requires rows { AreRows rows.now }
+    requires place { place < 8 }
+    ensures { result ≡ slice_index_or rows.now place [] }
+{
+    u32x8::from_slice(&rows[place])
+}
+
+// The numbers behind the last round.
+#[inline]
+fn fill_last(rows: &mut Rows, out: &mut [u32])
+    requires rows { AreRows rows.old }
+    requires whole { length out.old % 8 ≡ 0 }
+    ensures rows { AreRows rows.new }
+    ensures moved { state_of rows.new ≡ advanced (state_of rows.old) (length out.old) }
+    ensures drawn { out.new ≡ draws (state_of rows.old) (length out.old) }
+{
+    if out.is_empty() {
+        return;
+    }
+    if out.len() == 32 {
+        // a whole plane of side 8: with the number of turns known, LLVM shifts no row
+        fill_by_shifts(rows, 4, out);
+    } else {
+        fill_by_shifts(rows, out.len() / 8, out);
+    }
+}
+
+// That many turns, after each of which every row takes the place of the one before it, in registers.
+#[inline(always)]
+fn fill_by_shifts(rows: &mut Rows, turns: usize, out: &mut [u32])
+    requires rows { AreRows rows.old }
+    requires sized { length out.old ≡ 8 * turns }
+    ensures rows { AreRows rows.new }
+    ensures moved { state_of rows.new ≡ advanced (state_of rows.old) (length out.old) }
+    ensures drawn { out.new ≡ draws (state_of rows.old) (length out.old) }
+{
+    let mut a = row_of(rows, 0);
+    let mut b = row_of(rows, 1);
+    let mut c = row_of(rows, 2);
+    let mut d = row_of(rows, 3);
+    let mut e = row_of(rows, 4);
+    let mut f = row_of(rows, 5);
+    let mut g = row_of(rows, 6);
+    let mut h = row_of(rows, 7);
+    'turns: for i in 0..turns {
         let sums = sum_row(f, b, c);
         let drawn = draw_row(sums, a, b).to_array();
         out[8 * i..8 * i + 8].copy_from_slice(&drawn);

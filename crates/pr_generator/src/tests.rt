@@ -54,7 +54,7 @@ fn last_seed_block_of_a_label(rt: HostRuntime) {
 
 #[test]
 fn filling_is_drawing(rt: HostRuntime) {
-    for n in [0, 1, 7, 8, 9, 61, 200] {
+    for n in [0, 1, 7, 8, 9, 32, 56, 61, 64, 72, 128, 200] {
         assert!(rt; n <= 200);
         let mut filled = Wheel::seeded(7, 2, 0, 1, 0);
         let mut drawn = filled.copy();

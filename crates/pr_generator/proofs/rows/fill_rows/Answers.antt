@@ -1,50 +1,60 @@
-use Rattle.std.proofs.Common.{◌≡◌, ◌+◌, ◌*◌, ◌-◌, [], ◌∷◌, length, ap, sym, subst, ◌∙◌, arith}
-use Rattle.std.proofs.lemmas.List.{take_all}
-use Rattle.std.proofs.lemmas.Slice.{take-put_mid}
+use Rattle.std.proofs.Common.{◌≡◌, ℕ, ◌≤◌, List, ◌+◌, ◌*◌, ◌-◌, ◌/◌, ◌++◌, length, take, drop, ap, sym, ◌∙◌, arith, length-drop, length-take-le}
+use Rattle.std.proofs.lemmas.List.{append-nil, drop_all}
 use Rattle.spin_model.specs.Stream.{advanced, draws}
 use Rattle.spin_model.proofs.Streams.{advanced-zero, advanced-advanced, draws-advanced}
-use Rattle.spin_model.proofs.Tables.{table-zero, length-table}
-use Rattle.pr_generator.specs.Rows.{state_of, AreRows}
-use Rattle.pr_generator.proofs.RowTurns.{rows-written, rows-are_rows, rows-advance, sums-are_words, xors-are_draws}
+use Rattle.spin_model.proofs.Tables.{table-zero}
+use Rattle.pr_generator.specs.Rows.{state_of}
+use Rattle.pr_generator.proofs.RowTurns.{draws-written}
 use Rattle.pr_generator.proofs.rows.fill_rows.Goals as goal
 
-pub turns-init : goal.turns-init
-turns-init c =
-    let written = rows-written c.args.rows.now c.told-rows in
-    record {
-      rows = subst AreRows written c.requires.rows;
-      moved = sym (ap state_of written) ∙ sym (advanced-zero (state_of c.args.rows.now));
-      drawn = sym (table-zero _);
-    }
+-- the part that the rounds leave
+abbrev part_from : ℕ → List ℕ → List ℕ
+part_from n xs = take (length xs - n) (drop n xs)
 
-pub turns-preserved : goal.turns-preserved
-turns-preserved c =
+length-part_from : (n : ℕ) (xs : List ℕ) → n ≤ length xs → n + length (part_from n xs) ≡ length xs
+length-part_from n xs within =
+    let left = length-drop n xs in
+    let long = length-take-le (length xs - n) (drop n xs) (omega arith) in
+    omega arith
+
+pub rounds-init : goal.rounds-init
+rounds-init c = record { rows = c.requires.rows; moved = sym (advanced-zero (state_of c.args.rows.now)); drawn = sym (table-zero _) }
+
+pub rounds-preserved : goal.rounds-preserved
+rounds-preserved c =
     let w = state_of c.args.rows.now in
-    let i = c.turns.i in
-    let rows = c.turns.a ∷ c.turns.b ∷ c.turns.c ∷ c.turns.d ∷ c.turns.e ∷ c.turns.f ∷ c.turns.g ∷ c.turns.h ∷ [] in
-    let sums = c.sum_row-sums.result in
-    let are = c.turns.invariant.rows in
-    let words = sums-are_words rows sums are c.sum_row-sums.ensures.sized c.sum_row-sums.ensures.sums in
-    let numbers = xors-are_draws rows sums c.draw_row.result are words c.draw_row.ensures.sized c.draw_row.ensures.xors in
-    let xs = c.turns.out in
-    let ys = c.copy_from_slice.new.self in
-    let later : 8 * i + 8 ≡ 8 * (i + 1) = omega arith in
-    let written : ys ≡ draws (advanced w (8 * i)) 8 = c.copy_from_slice.ensures.after ∙ numbers ∙ ap (λ v. draws v 8) c.turns.invariant.moved in
-    let eight : length ys ≡ 8 = ap length written ∙ length-table _ 8 in
+    let n = 64 * c.rounds.i in
+    let later : n + 64 ≡ 64 * (c.rounds.i + 1) = omega arith in
     record {
-      rows = rows-are_rows rows sums are c.sum_row-sums.ensures.sized;
-      moved = rows-advance rows sums are words ∙ ap (λ v. advanced v 8) c.turns.invariant.moved ∙ advanced-advanced w (8 * i) 8 ∙ ap (advanced w) later;
+      rows = c.fill_round.ensures.rows;
+      moved = c.fill_round.ensures.moved ∙ ap (λ v. advanced v 64) c.rounds.invariant.moved ∙ advanced-advanced w n 64 ∙ ap (advanced w) later;
       drawn =
-          take-put_mid (8 * i) (8 * i + 8 - 8 * i) xs ys (8 * (i + 1)) (omega arith) (omega arith)
-          ∙ rw (c.turns.invariant.drawn, written) (sym (draws-advanced w (8 * i) 8) ∙ ap (draws w) later);
+          draws-written w n 64 (64 * (c.rounds.i + 1)) (n + 64 - n) c.rounds.out c.fill_round.new.out c.rounds.invariant.drawn
+          (c.fill_round.ensures.drawn ∙ ap (λ v. draws v 64) c.rounds.invariant.moved) (omega arith) later;
     }
 
 pub returns-clause-moved : goal.returns-clause-moved
 returns-clause-moved c =
-    let last : 8 * c.turns.i ≡ length c.args.out.now = omega arith in
-    rw last at c.turns.invariant.moved
+    let w = state_of c.args.rows.now in
+    let n = 64 * (length c.args.out.now / 64) in
+    let last : 64 * c.rounds.i ≡ n = omega arith in
+    let rest = part_from n c.rounds.out in
+    let all = length-part_from n c.rounds.out (omega arith) ∙ c.rounds.auto.out in
+    c.fill_last.ensures.moved
+    ∙ ap (λ v. advanced v (length rest)) (c.rounds.invariant.moved ∙ ap (advanced w) last)
+    ∙ advanced-advanced w n (length rest)
+    ∙ ap (advanced w) all
 
 pub returns-clause-drawn : goal.returns-clause-drawn
 returns-clause-drawn c =
-    let last : 8 * c.turns.i ≡ length c.args.out.now = omega arith in
-    sym (take_all (8 * c.turns.i) c.turns.out (omega arith)) ∙ c.turns.invariant.drawn ∙ ap (draws (state_of c.args.rows.now)) last
+    let w = state_of c.args.rows.now in
+    let n = 64 * (length c.args.out.now / 64) in
+    let last : 64 * c.rounds.i ≡ n = omega arith in
+    let rest = part_from n c.rounds.out in
+    let all = length-part_from n c.rounds.out (omega arith) ∙ c.rounds.auto.out in
+    let before : take n c.rounds.out ≡ draws w n = rw last at c.rounds.invariant.drawn in
+    let next : c.fill_last.new.out ≡ draws (advanced w n) (length rest) = c.fill_last.ensures.drawn ∙ ap (λ v. draws v (length rest)) (c.rounds.invariant.moved ∙ ap (advanced w) last) in
+    let none = drop_all (length c.rounds.out - n) (drop n c.rounds.out) (omega (arith, length-drop n c.rounds.out)) in
+    ap (λ v. take n c.rounds.out ++ (c.fill_last.new.out ++ v)) none
+    ∙ ap (λ v. take n c.rounds.out ++ v) (append-nil c.fill_last.new.out)
+    ∙ rw (before, next) (sym (draws-advanced w n (length rest)) ∙ ap (draws w) all)
