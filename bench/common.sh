@@ -45,13 +45,12 @@ read_words() {
     check_words
 }
 
-# Builds bench/$1.c and the crate $2 into $build, for the same processor; gcc gets $define too, where a
-# script sets it.
+# Builds bench/$1.c and the crate $2 into $build, for the same processor.
 build_sides() {
     cd "$(dirname "$0")/.."
     build=bench/build
     mkdir -p "$build"
-    gcc -O3 "-march=$cpu" ${define-} "bench/$1.c" -o "$build/$1_c" || fail "gcc failed"
+    gcc -O3 "-march=$cpu" "bench/$1.c" -o "$build/$1_c" || fail "gcc failed"
     (cd "crates/$2" && rt run "--cpu=$cpu") > "$build/$2.log" 2>&1 \
         || fail "rt run failed: see $build/$2.log"
     cp "crates/$2/out/$2" "$build/$2"

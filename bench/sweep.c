@@ -27,25 +27,18 @@ typedef int64_t thresholds[7];
 static const thresholds METROPOLIS = {117354494, 3206562, 87615};
 static const thresholds HEAT = {87613, 3204169, 114233218, 2147483648, 4180734078, 4291763127, 4294879683};
 
-/* With DENSE no place is free between planes, and words begin off a cache line, as a heap gives them. */
-#ifdef DENSE
-enum { FREE = 0, OFF = 2 };
-#else
-enum { FREE = 1, OFF = 0 };
-#endif
-
 /* All words in one object, so that one register reaches them. */
 static struct {
-    uint64_t off[OFF], spins[ROOM], couplings[3 * ROOM];
+    uint64_t spins[ROOM], couplings[3 * ROOM];
     draw_row wheels[128][RING];
     uint32_t draws[PLANE];
 } state __attribute__((aligned(64)));
 
 /* Planes, colours and directions stand a few cache lines apart: at distances of whole pages the dozen
    places that are read at once would share one set of the first cache. */
-INLINE size_t plane_step(size_t size) { return size * size / 2 + FREE * 8; }
-INLINE size_t colour_step(size_t size) { return size * plane_step(size) + FREE * 24; }
-INLINE size_t direction_step(size_t size) { return 2 * colour_step(size) + FREE * 40; }
+INLINE size_t plane_step(size_t size) { return size * size / 2 + 8; }
+INLINE size_t colour_step(size_t size) { return size * plane_step(size) + 24; }
+INLINE size_t direction_step(size_t size) { return 2 * colour_step(size) + 40; }
 
 typedef lanes lanes_anywhere __attribute__((aligned(8)));
 
@@ -97,10 +90,11 @@ INLINE void fill(draw_row wheel[RING], draw_row *out, size_t count) {
 INLINE lanes new_spins(int heat, const uint32_t *draws, const thresholds t, const lanes six[6], lanes spin) {
     signed_lanes draw = widened(draws);
     lanes down = heat ? (lanes){0} : ~spin, front, front_twos, back, back_twos, twos, fours;
-    full_adder(six[0] ^ down, six[1] ^ down, six[2] ^ down, &front, &front_twos);
-    full_adder(six[3] ^ down, six[4] ^ down, six[5] ^ down, &back, &back_twos);
+    full_adder(six[0], six[1], six[2], &front, &front_twos);
+    full_adder(six[3], six[4], six[5], &back, &back_twos);
+    /* Three turned bits have the turned sum and the turned carry, so these are turned, and not all six. */
     lanes ones = front ^ back;
-    full_adder(front_twos, back_twos, front & back, &twos, &fours);
+    full_adder(front_twos ^ down, back_twos ^ down, (front ^ down) & (back ^ down), &twos, &fours);
     lanes first = choose(ones, below(draw, t[1]), below(draw, t[0]));
     if (!heat)
         return down ^ (fours & ~choose(twos, below(draw, t[2]), first));

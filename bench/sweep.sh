@@ -3,20 +3,18 @@
 
 usage() {
     cat <<'END'
-usage: bench/sweep.sh [--dense] [--cpu CPU] [--sizes "SIZE .."] [--passes N] [--turns N] [--limit RATIO]
+usage: bench/sweep.sh [--cpu CPU] [--sizes "SIZE .."] [--passes N] [--turns N] [--limit RATIO]
 
 Times sweep of the crate plane_sweep, in one thread, at each size and by both rules, against the same form
 in C (bench/sweep.c, gcc -O3). The two programs run by turns from the same state. For each size and rule
 it prints the least picoseconds of a spin update on both sides and their ratio. A spin update is that of one
 spin in one of the 64 samples, the random numbers included.
 
-  --dense        first word: the C side keeps its words with no free cache lines between planes, and off
-                 a cache line
   --cpu CPU      x86-64-v2 (as if left out) or x86-64-v3, for both compilers
   --sizes ..     of 8, 16, 32 and 64, all four if left out
   --passes N     passes of a turn, 100 if left out, each of 262144 / SIZE^3 sweeps
   --turns N      turns, 5 if left out
-  --limit RATIO  the greatest ratio that is right, 2.0 if left out
+  --limit RATIO  the greatest ratio that is right, 1.4 if left out
 
 Status: 0 where no ratio is above the limit, 1 where one is or the two sides left different spins, 2 for
 a wrong word or where a side can't be built. Needs rt and gcc 12.
@@ -24,13 +22,9 @@ END
 }
 
 passes=100
-limit=2.0
+limit=1.4
 sizes="8 16 32 64"
 . "$(dirname "$0")/common.sh"
-if [ "${1-}" = --dense ]; then
-    define=-DDENSE
-    shift
-fi
 read_words "$@"
 for size in $sizes; do
     case "$size" in

@@ -10,7 +10,7 @@ use Rattle.spin_model.proofs.CompactOrder.{compact-below}
 use Rattle.spin_model.proofs.Tables.{length-table, get_or-table}
 use Rattle.multispin_word.proofs.Bits.{is_set-zero}
 use Rattle.coupling_set.specs.CouplingWords.{place_of, bond_word, bonds_of, AreCouplings}
-use Rattle.coupling_set.specs.KeptWords.{free_words, kept_place, kept_count, kept_on}
+use Rattle.coupling_set.specs.KeptWords.{free_words, head_words, kept_place, kept_count, kept_on}
 use Rattle.coupling_set.proofs.Places.{half_plane-positive}
 
 -- the words of a direction fill 2 L planes, and those of all bonds 6 L
@@ -30,13 +30,14 @@ place-below l i d lawful within direction =
     omega arith
 
 -- word k of plane q
-pub kept_place-in_plane : (l q k : ℕ) → k < half_plane l → kept_place l (q * half_plane l + k) ≡ q * (half_plane l + free_words) + k
+pub kept_place-in_plane : (l q k : ℕ) → k < half_plane l
+    → kept_place l (q * half_plane l + k) ≡ head_words + (q * (half_plane l + free_words) + k)
 kept_place-in_plane l q k within =
     let plane = div-mul-add q (half_plane l) k within in
     omega arith
 
 -- a word by its plane and its place there
-kept_place-parts : (l n : ℕ) → IsLawfulSize l → kept_place l n ≡ n / half_plane l * (half_plane l + free_words) + n % half_plane l
+kept_place-parts : (l n : ℕ) → IsLawfulSize l → kept_place l n ≡ head_words + (n / half_plane l * (half_plane l + free_words) + n % half_plane l)
 kept_place-parts l n lawful =
     ap (kept_place l) (sym (div-add-mod' n (half_plane l)))
     ∙ kept_place-in_plane l (n / half_plane l) (n % half_plane l) (mod_below n (half_plane l) (half_plane-positive l lawful))
@@ -59,7 +60,7 @@ kept_place-same l m n lawful same =
     let m_column = mod_below m (half_plane l) positive in
     let n_column = mod_below n (half_plane l) positive in
     let parts = same_from_place (m / half_plane l) (m % half_plane l) (n / half_plane l) (n % half_plane l) (half_plane l + free_words)
-    (omega arith) (omega arith) (sym (kept_place-parts l m lawful) ∙ same ∙ kept_place-parts l n lawful) in
+    (omega arith) (omega arith) (omega (arith, sym (kept_place-parts l m lawful) ∙ same ∙ kept_place-parts l n lawful)) in
     sym (div-add-mod' m (half_plane l)) ∙ ap (λ q. q * half_plane l + m % half_plane l) parts.0
     ∙ ap (λ k. n / half_plane l * half_plane l + k) parts.1 ∙ div-add-mod' n (half_plane l)
 

@@ -1,10 +1,10 @@
 //! The words of the bonds: direction by direction, and in each the sites in compact order. So each
 //! plane of a colour and direction stands in one piece, and behind it a cache line is free.
 
-ghost use Rattle.std.specs.Prelude.{◌≡◌, ◌≢◌, ℕ, ◌<◌, length};
+ghost use Rattle.std.specs.Prelude.{◌≡◌, ◌≢◌, ℕ, ◌+◌, ◌*◌, ◌<◌, ◌≤◌, length};
 ghost use Rattle.coupling_set.specs.CouplingWords.{bonds_of, place_of, KeepsOthers};
-ghost use Rattle.coupling_set.specs.KeptWords.{kept_place, kept_count, kept_on};
-ghost use Rattle.spin_model.specs.Lattice.{volume, bond_count, IsLawfulSize};
+ghost use Rattle.coupling_set.specs.KeptWords.{free_words, head_words, kept_place, kept_count, kept_on, plane_number};
+ghost use Rattle.spin_model.specs.Lattice.{volume, bond_count, half_plane, IsLawfulSize};
 
 use lattice_geometry::Lattice;
 use multispin_word::with_bit;
@@ -14,13 +14,35 @@ use multispin_word::with_bit;
 /// and a sweep reads six side by side.
 pub(crate) const FREE_WORDS: u32 = 8;
 
+/// The words that are free before all planes. glibc gives a block of 128 kilobytes and more pages of
+/// its own, and keeps 16 bytes before it: with these words that is a cache line. So each plane begins
+/// at one, where half of all vectors of 32 bytes would lie across two (a tenth of the sweep).
+pub(crate) const HEAD_WORDS: u32 = 6;
+
+// And behind all planes: so many that the block is as large as that at each size.
+const TAIL_WORDS: u32 = 16384;
+
 /// The number of words, the free ones too: L planes for each of three directions and two colours.
 pub(crate) fn word_count(lattice: &Lattice) -> usize
     ensures value { result ≡ kept_count lattice.now }
     ensures lawful { IsLawfulSize lattice.now }
 {
     let size = lattice.size();
-    (6 * size * (size * (size / 2) + FREE_WORDS)) as usize
+    let planes = 6 * size * (size * (size / 2) + FREE_WORDS);
+    (HEAD_WORDS + planes + TAIL_WORDS) as usize
+}
+
+/// Where the words of a colour, a coordinate z and a direction `d` begin.
+pub(crate) fn plane_start(size: u32, colour: u32, z: u32, d: u32) -> u32
+    requires lawful { IsLawfulSize size }
+    requires colour { colour < 2 }
+    requires plane { z < size }
+    requires direction { d < 3 }
+    ensures value { result ≡ head_words + plane_number size d colour z * (half_plane size + free_words) }
+    ensures within { result + half_plane size ≤ kept_count size }
+{
+    let plane = (2 * d + colour) * size + z;
+    HEAD_WORDS + plane * (size * (size / 2) + FREE_WORDS)
 }
 
 /// Where the word of the bond from a site in direction `d` is kept.
@@ -32,8 +54,9 @@ pub(crate) fn place(lattice: &Lattice, site: u32, d: u32) -> usize
     ensures lawful { IsLawfulSize lattice.now }
 {
     let size = lattice.size();
-    let word = d * lattice.sites() + lattice.compact(site);
-    (word + FREE_WORDS * (word / (size * (size / 2)))) as usize
+    let (x, y, z) = lattice.coordinates(site);
+    let start = plane_start(size, lattice.colour(site), z, d);
+    (start + (y * (size / 2) + x / 2)) as usize
 }
 
 /// Writes one coupling of one sample: `negative` where J is -1.

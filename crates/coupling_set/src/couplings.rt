@@ -6,7 +6,7 @@ ghost use Rattle.coupling_set.specs.KeptWords.{kept_count, kept_on};
 ghost use Rattle.spin_model.specs.Couplings.{plus, random};
 ghost use Rattle.spin_model.specs.Lattice.{volume, half_plane, half_volume, from_compact};
 
-use crate::bond_words::{FREE_WORDS, place, word_count};
+use crate::bond_words::{place, plane_start, word_count};
 use crate::drawing::draw_samples;
 use glass_edges::NoMemory;
 use lattice_geometry::Lattice;
@@ -121,7 +121,7 @@ impl Couplings {
     {
         let size = self.lattice.size();
         let half_plane = size * (size / 2);
-        let first = ((2 * d + colour) * size + z) * (half_plane + FREE_WORDS);
+        let first = plane_start(size, colour, z, d);
         &self.words.as_slice()[first as usize..(first + half_plane) as usize]
     }
 }

@@ -1,6 +1,5 @@
 pub mod Numbers
 pub mod SpinText
-pub mod Outcomes
 pub mod Fetching
 pub mod SwapPairs
 pub mod PrintedBytes

@@ -1,12 +1,14 @@
 -- How many of six bits are set: as a number in three planes, and lane by lane.
-use Rattle.std.proofs.Common.{◌≡◌, ℕ, ◌+◌, ◌*◌, ◌^◌, ◌<◌, ◌≤◌, List, [], ◌∷◌, length, get_or, slice_index, slice_index_or, refl, sym, arith}
+use Rattle.std.proofs.Common.{◌≡◌, ℕ, ◌+◌, ◌*◌, ◌^◌, ◌<◌, ◌≤◌, not, List, [], ◌∷◌, length, get_or, slice_index, slice_index_or, refl, sym, ap, ◌∙◌, arith}
+use Rattle.std.specs.Prelude.{count_by}
 use Rattle.std.proofs.lemmas.List.{length-map}
+use Rattle.std.proofs.lemmas.List.Sums.{count_by-le-length}
 use Rattle.std.proofs.lemmas.Nat.Bits.{bit_at-lt, same_from_bits_below}
-use Rattle.std.specs.Int.{bit_at}
-use Rattle.multispin_word.specs.Planes.{is_set, one_if, first, number}
-use Rattle.multispin_word.proofs.Bits.{one_if-is_set, same-bit}
+use Rattle.multispin_word.specs.Planes.{differs, is_set, one_if, first, number}
+use Rattle.multispin_word.proofs.Bits.{is_set-zero, one_if-is_set, same-bit}
 use Rattle.bit_compare.specs.Counting.{count_of}
-use Rattle.local_rule.specs.SiteBits.{set_count, lane_words}
+use Rattle.local_rule.specs.SiteBits.{differing_count, equal_count, set_count, site_bits, lane_words}
+use Rattle.local_rule.proofs.Cases.{differs-false, differs-not}
 
 -- the bits of six words, counted by their number
 pub set_count-six : (six : List ℕ) (b : ℕ) → length six ≡ 6 → set_count six b ≡ count_of six b
@@ -38,11 +40,6 @@ number-three ws b e =
     rw (one_if-is_set (get_or ws 0 0) b, one_if-is_set (get_or ws 1 0) b, one_if-is_set (get_or ws 2 0) b, e)
     (omega arith)
 
--- a count by its three bits
-pub three-bits : (x y z b n : ℕ) → bit_at x b + 2 * bit_at y b + 4 * bit_at z b ≡ n
-    → n ≡ one_if (is_set x b) + 2 * one_if (is_set y b) + 4 * one_if (is_set z b)
-three-bits x y z b n e = rw (one_if-is_set x b, one_if-is_set y b, one_if-is_set z b) (sym e)
-
 -- a lane of six rows has six words
 pub lane-six : (rows : List (List ℕ)) (i : ℕ) → length rows ≡ 6 → length (lane_words rows i) ≡ 6
 lane-six rows i e = rw length-map e
@@ -62,13 +59,44 @@ lane-list (u ∷ v ∷ w ∷ x ∷ []) i e = absurd (omega (arith, e))
 lane-list (u ∷ v ∷ w ∷ x ∷ y ∷ []) i e = absurd (omega (arith, e))
 lane-list (u ∷ v ∷ w ∷ x ∷ y ∷ z ∷ t ∷ ts) i e = absurd (omega (arith, e))
 
--- so a lane's count is that of the rows' words
-pub lane-count : (rows : List (List ℕ)) (i b : ℕ) → length rows ≡ 6
-    → set_count (lane_words rows i) b
-    ≡ bit_at (slice_index (slice_index_or rows 0 []) i) b + bit_at (slice_index (slice_index_or rows 1 []) i) b
-    + bit_at (slice_index (slice_index_or rows 2 []) i) b + bit_at (slice_index (slice_index_or rows 3 []) i) b
-    + bit_at (slice_index (slice_index_or rows 4 []) i) b + bit_at (slice_index (slice_index_or rows 5 []) i) b
-lane-count rows i b e = rw (set_count-six (lane_words rows i) b (lane-six rows i e), lane-list rows i e) refl
+-- so the bits of a lane that differ are those of the rows' words
+pub lane-differing : (rows : List (List ℕ)) (i w b : ℕ) → length rows ≡ 6
+    → differing_count (lane_words rows i) w b
+    ≡ one_if (differs (is_set (slice_index (slice_index_or rows 0 []) i) b) (is_set w b)) + one_if (differs (is_set (slice_index (slice_index_or rows 1 []) i) b) (is_set w b))
+    + one_if (differs (is_set (slice_index (slice_index_or rows 2 []) i) b) (is_set w b)) + one_if (differs (is_set (slice_index (slice_index_or rows 3 []) i) b) (is_set w b))
+    + one_if (differs (is_set (slice_index (slice_index_or rows 4 []) i) b) (is_set w b)) + one_if (differs (is_set (slice_index (slice_index_or rows 5 []) i) b) (is_set w b))
+lane-differing rows i w b e = rw (lane-list rows i e) (omega arith)
+
+-- there are at most six
+pub differing-most : (rows : List (List ℕ)) (i w b : ℕ) → length rows ≡ 6 → differing_count (lane_words rows i) w b ≤ 6
+differing-most rows i w b e =
+    let most = count_by-le-length (λ bit. differs bit (is_set w b)) (site_bits (lane_words rows i) b) in
+    let bits = length-map (lane_words rows i) (λ word. is_set word b) in
+    omega (arith, most, bits, lane-six rows i e)
+
+-- a lane's count in three rows by its three bits
+pub lane-digits : (planes : List (List ℕ)) (i b n : ℕ) → length planes ≡ 3 → number (lane_words planes i) b ≡ n
+    → n
+    ≡ one_if (is_set (slice_index (slice_index_or planes 0 []) i) b) + 2 * one_if (is_set (slice_index (slice_index_or planes 1 []) i) b)
+    + 4 * one_if (is_set (slice_index (slice_index_or planes 2 []) i) b)
+lane-digits (x ∷ y ∷ z ∷ []) i b n e same = sym same ∙ number-three (slice_index x i ∷ slice_index y i ∷ slice_index z i ∷ []) b refl
+lane-digits [] i b n e same = absurd (omega (arith, e))
+lane-digits (x ∷ []) i b n e same = absurd (omega (arith, e))
+lane-digits (x ∷ y ∷ []) i b n e same = absurd (omega (arith, e))
+lane-digits (x ∷ y ∷ z ∷ t ∷ ts) i b n e same = absurd (omega (arith, e))
+
+-- from zero those differ that are set
+pub differing-zero : (six : List ℕ) (b : ℕ) → differing_count six 0 b ≡ set_count six b
+differing-zero six b =
+    ap (λ o. count_by (λ bit. differs bit o) (site_bits six b)) (is_set-zero b)
+    ∙ (λ i. count_by (λ bit. differs-false bit i) (site_bits six b))
+
+-- from the other spin those that are equal to the spin
+pub differing-other : (six : List ℕ) (other word b : ℕ) → is_set other b ≡ not (is_set word b)
+    → differing_count six other b ≡ equal_count six word b
+differing-other six other word b e =
+    ap (λ o. count_by (λ bit. differs bit o) (site_bits six b)) e
+    ∙ (λ i. count_by (λ bit. differs-not bit (is_set word b) i) (site_bits six b))
 
 -- a word is known by its 64 bits
 pub same-word : (v w : ℕ) → v < 2 ^ 64 → w < 2 ^ 64 → ((b : ℕ) → b < 64 → is_set v b ≡ is_set w b) → v ≡ w

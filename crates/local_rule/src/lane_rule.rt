@@ -1,11 +1,13 @@
-//! The spin rules on eight words at a time, as on one word. Lane i is word i of each row, with draw i.
+//! The spin rules on several sites at a time, as on one. Lane i is word i of each row, with draw i.
 
 ghost use Rattle.std.specs.Prelude.{◌≡◌, ℕ, ◌<◌, slice_index};
 ghost use Rattle.multispin_word.specs.Planes.{is_set};
 ghost use Rattle.spin_model.specs.SiteRule as rule;
-ghost use Rattle.local_rule.specs.SiteBits.{lane_words, set_count};
+ghost use Rattle.local_rule.specs.SiteBits.{differing_count, equal_count, lane_words, set_count};
 
-use crate::vectors::{below_lanes, choose_lanes, count_lanes, flipped_lanes, load, widened};
+use crate::vectors::{
+    below_lanes, choose_lanes, count_lanes, flipped_lanes, load, other_lanes, widened,
+};
 use threshold_table::RuleRow;
 
 /// The new spins of eight sites by heat bath, written to `out`: in lane i those of the site with draw
@@ -17,9 +19,43 @@ pub fn heat_bath_lanes(draws: &[u32; 8], row: &RuleRow, aligned: &[[u64; 8]; 6],
         ≡ rule.heat_bath row.now.values (set_count (lane_words aligned.now i) b)
         (slice_index draws.now i) }
 {
+    *out = heat_bath_sites(draws, row, aligned);
+}
+
+/// Replaces the spins of eight sites by Metropolis: in lane i those of the site with draw i, from
+/// word i of each of the six rows and its old spins.
+#[inline]
+pub fn metropolis_lanes(
+    draws: &[u32; 8],
+    row: &RuleRow,
+    satisfied: &[[u64; 8]; 6],
+    spins: &mut [u64; 8],
+)
+    ensures { (i b : ℕ) → i < 8 → b < 64
+        → is_set (slice_index spins.new i) b
+        ≡ rule.metropolis row.now.values (set_count (lane_words satisfied.now i) b)
+        (slice_index draws.now i) (is_set (slice_index spins.old i) b) }
+{
+    *spins = turned_sites(draws, row, satisfied, &[0; 8], spins);
+}
+
+/// The new spins of N sites by heat bath: in lane i those of the site with draw i, from word i of
+/// each of the six rows.
+#[inline(always)]
+pub fn heat_bath_sites<const N: usize>(
+    draws: &[u32; N],
+    row: &RuleRow,
+    aligned: &[[u64; N]; 6],
+) -> [u64; N]
+    ensures { (i b : ℕ) → i < N → b < 64
+        → is_set (slice_index result i) b
+        ≡ rule.heat_bath row.now.values (set_count (lane_words aligned.now i) b)
+        (slice_index draws.now i) }
+{
     let cases = &row.values;
     let draw = widened(draws);
-    let (ones, twos, fours) = count_lanes(aligned);
+    let [ones, twos, fours] = count_lanes(aligned, &[0; N]);
+    let (ones, twos) = (load(&ones), load(&twos));
     let zero_one = choose_lanes(
         ones,
         below_lanes(draw, cases[1]),
@@ -37,31 +73,51 @@ pub fn heat_bath_lanes(draws: &[u32; 8], row: &RuleRow, aligned: &[[u64; 8]; 6],
     );
     let up_to_three = choose_lanes(twos, two_three, zero_one);
     let from_four = choose_lanes(twos, below_lanes(draw, cases[6]), four_five);
-    *out = choose_lanes(fours, from_four, up_to_three).to_array();
+    choose_lanes(load(&fours), from_four, up_to_three).to_array()
 }
 
-/// Replaces the spins of eight sites by Metropolis: in lane i those of the site with draw i, from
-/// word i of each of the six rows and its old spins.
-#[inline]
-pub fn metropolis_lanes(
-    draws: &[u32; 8],
+/// The new spins of N sites by Metropolis: in lane i those of the site with draw i, from word i of
+/// each of the six rows of aligned neighbours and its old spins. The bond to a neighbour is satisfied
+/// where its bit is equal to that of the spin.
+#[inline(always)]
+pub fn metropolis_sites<const N: usize>(
+    draws: &[u32; N],
     row: &RuleRow,
-    satisfied: &[[u64; 8]; 6],
-    spins: &mut [u64; 8],
-)
-    ensures { (i b : ℕ) → i < 8 → b < 64
-        → is_set (slice_index spins.new i) b
-        ≡ rule.metropolis row.now.values (set_count (lane_words satisfied.now i) b)
-        (slice_index draws.now i) (is_set (slice_index spins.old i) b) }
+    aligned: &[[u64; N]; 6],
+    spins: &[u64; N],
+) -> [u64; N]
+    ensures { (i b : ℕ) → i < N → b < 64
+        → is_set (slice_index result i) b
+        ≡ rule.metropolis row.now.values
+        (equal_count (lane_words aligned.now i) (slice_index spins.now i) b)
+        (slice_index draws.now i) (is_set (slice_index spins.now i) b) }
+{
+    turned_sites(draws, row, aligned, &other_lanes(spins), spins)
+}
+
+// The same, where those bonds of a sample are satisfied whose bits differ from that of `other`.
+#[inline(always)]
+fn turned_sites<const N: usize>(
+    draws: &[u32; N],
+    row: &RuleRow,
+    six: &[[u64; N]; 6],
+    other: &[u64; N],
+    spins: &[u64; N],
+) -> [u64; N]
+    ensures { (i b : ℕ) → i < N → b < 64
+        → is_set (slice_index result i) b
+        ≡ rule.metropolis row.now.values
+        (differing_count (lane_words six.now i) (slice_index other.now i) b)
+        (slice_index draws.now i) (is_set (slice_index spins.now i) b) }
 {
     let cases = &row.values;
     let draw = widened(draws);
-    let (ones, twos, fours) = count_lanes(satisfied);
+    let [ones, twos, fours] = count_lanes(six, other);
     let four_five = choose_lanes(
-        ones,
+        load(&ones),
         below_lanes(draw, cases[1]),
         below_lanes(draw, cases[0]),
     );
-    let accepted = choose_lanes(twos, below_lanes(draw, cases[2]), four_five);
-    *spins = flipped_lanes(load(spins), fours, accepted).to_array();
+    let accepted = choose_lanes(load(&twos), below_lanes(draw, cases[2]), four_five);
+    flipped_lanes(load(spins), load(&fours), accepted).to_array()
 }

@@ -1,8 +1,8 @@
 //! The spin update at a site for 64 samples at once, by heat bath or Metropolis: on one word with one
-//! draw, and on eight words with eight draws.
+//! draw, and on several words with as many draws.
 #![tactic(auto)]
 
-pub use lane_rule::{heat_bath_lanes, metropolis_lanes};
+pub use lane_rule::{heat_bath_lanes, heat_bath_sites, metropolis_lanes, metropolis_sites};
 pub use laws::{heat_bath_both_ways, metropolis_both_ways};
 pub use vectors::{full_adder_lanes, load};
 pub use word_rule::{heat_bath, metropolis};

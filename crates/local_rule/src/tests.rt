@@ -64,6 +64,22 @@ fn rules_on_six_words_in_each_lane(rt: HostRuntime) {
 }
 
 #[test]
+fn bonds_are_satisfied_where_the_aligned_bit_is_the_spins(rt: HostRuntime) {
+    let rows = [[62; 4], [60; 4], [56; 4], [56; 4], [40; 4], [8; 4]];
+    for word in heat_bath_sites(&[100; 4], &heat_row(), &rows) {
+        assert_eq!(rt; word, 12);
+    }
+    // With all spins down the samples 0 to 5 have 6, 5, 4, 0, 2 and 1 satisfied bonds, and flip but
+    // for 0 and 2; with all up they have 0, 1, 2, 6, 4 and 5, and flip but for 3 and 4.
+    for word in metropolis_sites(&[100; 4], &metropolis_row(), &rows, &[0; 4]) {
+        assert_eq!(rt; word, 58);
+    }
+    for word in metropolis_sites(&[100; 4], &metropolis_row(), &rows, &[u64::MAX; 4]) {
+        assert_eq!(rt; word, 24);
+    }
+}
+
+#[test]
 fn lane_rules_equal_single_rules(rt: HostRuntime) {
     let draws = [0, 99, 100, 101, 4294967295, 100, 2147483648, 7];
     let rows = [

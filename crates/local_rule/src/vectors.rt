@@ -1,88 +1,158 @@
-//! Operations on eight words at a time. In a clause a vector is the list of its words.
+//! Operations on N words at a time. In a clause a vector is the list of its words.
 
-ghost use Rattle.std.specs.Prelude.{◌≡◌, ℕ, ◌+◌, ◌*◌, ◌<◌, ◌||◌, not, nat_lt, if◌then◌else◌, length, slice_index};
+ghost use Rattle.std.specs.Prelude.{◌≡◌, ℕ, ◌+◌, ◌*◌, ◌<◌, ◌&&◌, ◌||◌, not, nat_lt, if◌then◌else◌, length, slice_index};
 ghost use Rattle.std.specs.Int.{bit_at};
-ghost use Rattle.multispin_word.specs.Planes.{is_set};
-ghost use Rattle.local_rule.specs.SiteBits.{lane_words, set_count};
+ghost use Rattle.multispin_word.specs.Planes.{differs, is_set, number};
+ghost use Rattle.local_rule.specs.SiteBits.{differing_count, lane_words};
 
 use std::simd::prelude::*;
 
-/// Eight words as a vector.
-#[inline]
-pub fn load(words: &[u64; 8]) -> u64x8
+/// N words as a vector.
+#[inline(always)]
+pub fn load<const N: usize>(words: &[u64; N]) -> Simd<u64, N>
     ensures same { result ≡ words.now }
-    ensures length { length result ≡ 8 }
+    ensures length { length result ≡ N }
 {
-    u64x8::from_array(*words)
+    Simd::<u64, N>::from_array(*words)
 }
 
-/// Eight draws as words.
-#[inline]
-pub fn widened(draws: &[u32; 8]) -> u64x8
-    ensures length { length result ≡ 8 }
-    ensures same { (i : ℕ) → i < 8 → slice_index result i ≡ slice_index draws.now i }
+/// N draws as words.
+#[inline(always)]
+pub fn widened<const N: usize>(draws: &[u32; N]) -> Simd<u64, N>
+    ensures length { length result ≡ N }
+    ensures same { (i : ℕ) → i < N → slice_index result i ≡ slice_index draws.now i }
 {
-    u32x8::from_array(*draws).cast()
+    Simd::<u32, N>::from_array(*draws).cast()
 }
 
-/// How many of the six bits of each lane and sample are set: the planes of 1, 2 and 4.
-#[inline]
-pub fn count_lanes(six: &[[u64; 8]; 6]) -> (u64x8, u64x8, u64x8)
-    ensures lengths { (length result.0 ≡ 8) × (length result.1 ≡ 8) × (length result.2 ≡ 8) }
-    ensures count { (i b : ℕ) → i < 8
-        → bit_at (slice_index result.0 i) b + 2 * bit_at (slice_index result.1 i) b
-        + 4 * bit_at (slice_index result.2 i) b
-        ≡ set_count (lane_words six.now i) b }
+/// How many of the six bits of each lane and sample differ from that of `other`: the planes of 1, 2
+/// and 4.
+#[inline(always)]
+pub fn count_lanes<const N: usize>(six: &[[u64; N]; 6], other: &[u64; N]) -> [[u64; N]; 3]
+    ensures { (i b : ℕ) → i < N → number (lane_words result i) b
+        ≡ differing_count (lane_words six.now i) (slice_index other.now i) b }
 {
-    let (front, front_twos) = full_adder_lanes(load(&six[0]), load(&six[1]), load(&six[2]));
-    let (back, back_twos) = full_adder_lanes(load(&six[3]), load(&six[4]), load(&six[5]));
-    let (ones, carry) = full_adder_lanes(front, back, u64x8::splat(0));
-    let (twos, fours) = full_adder_lanes(front_twos, back_twos, carry);
-    (ones, twos, fours)
+    let other = load(other);
+    let (a, b, c) = (load(&six[0]), load(&six[1]), load(&six[2]));
+    let (d, e, f) = (load(&six[3]), load(&six[4]), load(&six[5]));
+    let (front, back) = (sum_lanes(a, b, c), sum_lanes(d, e, f));
+    // Three turned bits have the turned sum and the turned carry, so these are turned, and not all six.
+    let front_twos = differing_lanes(carry_lanes(a, b, c), other);
+    let back_twos = differing_lanes(carry_lanes(d, e, f), other);
+    let carry = shared_lanes(differing_lanes(front, other), differing_lanes(back, other));
+    [
+        differing_lanes(front, back).to_array(),
+        sum_lanes(front_twos, back_twos, carry).to_array(),
+        carry_lanes(front_twos, back_twos, carry).to_array(),
+    ]
 }
 
 /// The bits of `inside` for the samples in the mask, and those of `outside` for the others.
-#[inline]
-pub fn choose_lanes(mask: u64x8, inside: u64x8, outside: u64x8) -> u64x8
-    requires { (length mask ≡ 8) × (length inside ≡ 8) × (length outside ≡ 8) }
-    ensures length { length result ≡ 8 }
-    ensures chosen { (i b : ℕ) → i < 8
-        → is_set (slice_index result i) b ≡ (if is_set (slice_index mask i) b
-        then is_set (slice_index inside i) b else is_set (slice_index outside i) b) }
+#[inline(always)]
+pub fn choose_lanes<const N: usize>(
+    mask: Simd<u64, N>,
+    inside: Simd<u64, N>,
+    outside: Simd<u64, N>,
+) -> Simd<u64, N>
+    requires { (length mask ≡ N) × (length inside ≡ N) × (length outside ≡ N) }
+    ensures length { length result ≡ N }
+    ensures chosen { (i b : ℕ) → i < N
+        → is_set (slice_index result i) b ≡ (if is_set (slice_index mask.entry i) b
+        then is_set (slice_index inside.entry i) b else is_set (slice_index outside.entry i) b) }
 {
     outside ^ (mask & (inside ^ outside))
 }
 
 /// All samples of the lanes whose draw is below the threshold, and none of the others.
-#[inline]
-pub fn below_lanes(draws: u64x8, threshold: u64) -> u64x8
-    requires { length draws ≡ 8 }
-    ensures length { length result ≡ 8 }
-    ensures below { (i b : ℕ) → i < 8 → b < 64
-        → is_set (slice_index result i) b ≡ nat_lt (slice_index draws i) threshold }
+#[inline(always)]
+pub fn below_lanes<const N: usize>(draws: Simd<u64, N>, threshold: u64) -> Simd<u64, N>
+    requires { length draws ≡ N }
+    ensures length { length result ≡ N }
+    ensures below { (i b : ℕ) → i < N → b < 64
+        → is_set (slice_index result i) b ≡ nat_lt (slice_index draws.entry i) threshold }
 {
     draws
-        .simd_lt(u64x8::splat(threshold))
-        .select(u64x8::splat(u64::MAX), u64x8::splat(0))
+        .simd_lt(Simd::<u64, N>::splat(threshold))
+        .select(Simd::<u64, N>::splat(u64::MAX), Simd::<u64, N>::splat(0))
+}
+
+/// The other spin in each lane and sample.
+#[inline(always)]
+pub fn other_lanes<const N: usize>(spins: &[u64; N]) -> [u64; N]
+    ensures { (i b : ℕ) → i < N → b < 64
+        → is_set (slice_index result i) b ≡ not (is_set (slice_index spins.now i) b) }
+{
+    // By all ones, since the range of a lane has no name that `!` could use.
+    (load(spins) ^ Simd::<u64, N>::splat(u64::MAX)).to_array()
 }
 
 /// The other spin, but the old one where the flip costs energy and is not accepted.
-#[inline]
-pub fn flipped_lanes(spins: u64x8, costly: u64x8, accepted: u64x8) -> u64x8
-    requires { (length spins ≡ 8) × (length costly ≡ 8) × (length accepted ≡ 8) }
-    ensures length { length result ≡ 8 }
-    ensures flipped { (i b : ℕ) → i < 8 → b < 64
+#[inline(always)]
+pub fn flipped_lanes<const N: usize>(
+    spins: Simd<u64, N>,
+    costly: Simd<u64, N>,
+    accepted: Simd<u64, N>,
+) -> Simd<u64, N>
+    requires { (length spins ≡ N) × (length costly ≡ N) × (length accepted ≡ N) }
+    ensures length { length result ≡ N }
+    ensures flipped { (i b : ℕ) → i < N → b < 64
         → is_set (slice_index result i) b
-        ≡ (if not (is_set (slice_index costly i) b) || is_set (slice_index accepted i) b
-        then not (is_set (slice_index spins i) b) else is_set (slice_index spins i) b) }
+        ≡ (if not (is_set (slice_index costly.entry i) b) || is_set (slice_index accepted.entry i) b
+        then not (is_set (slice_index spins.entry i) b) else is_set (slice_index spins.entry i) b) }
 {
-    // By all ones, since the range of a lane has no name that `!` could use.
-    let all = u64x8::splat(u64::MAX);
+    // By all ones, as above.
+    let all = Simd::<u64, N>::splat(u64::MAX);
     (spins ^ all) ^ (costly & (accepted ^ all))
 }
 
-/// Of three bits of each lane and sample the low and the high bit of their sum.
-#[inline]
+// Where two bits differ, in each lane and sample.
+#[inline(always)]
+fn differing_lanes<const N: usize>(a: Simd<u64, N>, b: Simd<u64, N>) -> Simd<u64, N>
+    requires { (length a ≡ N) × (length b ≡ N) }
+    ensures length { length result ≡ N }
+    ensures differing { (i k : ℕ) → i < N → is_set (slice_index result i) k
+        ≡ differs (is_set (slice_index a.entry i) k) (is_set (slice_index b.entry i) k) }
+{
+    a ^ b
+}
+
+// Where both are set.
+#[inline(always)]
+fn shared_lanes<const N: usize>(a: Simd<u64, N>, b: Simd<u64, N>) -> Simd<u64, N>
+    requires { (length a ≡ N) × (length b ≡ N) }
+    ensures length { length result ≡ N }
+    ensures shared { (i k : ℕ) → i < N → is_set (slice_index result i) k
+        ≡ (is_set (slice_index a.entry i) k && is_set (slice_index b.entry i) k) }
+{
+    a & b
+}
+
+// Of three bits of each lane and sample the low bit of their sum.
+#[inline(always)]
+fn sum_lanes<const N: usize>(a: Simd<u64, N>, b: Simd<u64, N>, c: Simd<u64, N>) -> Simd<u64, N>
+    requires { (length a ≡ N) × (length b ≡ N) × (length c ≡ N) }
+    ensures length { length result ≡ N }
+    ensures sum { (i k : ℕ) → i < N → is_set (slice_index result i) k
+        ≡ differs (differs (is_set (slice_index a.entry i) k) (is_set (slice_index b.entry i) k)) (is_set (slice_index c.entry i) k) }
+{
+    a ^ b ^ c
+}
+
+// And the high bit.
+#[inline(always)]
+fn carry_lanes<const N: usize>(a: Simd<u64, N>, b: Simd<u64, N>, c: Simd<u64, N>) -> Simd<u64, N>
+    requires { (length a ≡ N) × (length b ≡ N) × (length c ≡ N) }
+    ensures length { length result ≡ N }
+    ensures carry { (i k : ℕ) → i < N → is_set (slice_index result i) k
+        ≡ (is_set (slice_index a.entry i) k && is_set (slice_index b.entry i) k
+        || differs (is_set (slice_index a.entry i) k) (is_set (slice_index b.entry i) k)
+        && is_set (slice_index c.entry i) k) }
+{
+    (a & b) | ((a ^ b) & c)
+}
+
+/// Of three bits of each of eight lanes and each sample the low and the high bit of their sum.
+#[inline(always)]
 pub fn full_adder_lanes(a: u64x8, b: u64x8, carry: u64x8) -> (u64x8, u64x8)
     requires { (length a ≡ 8) × (length b ≡ 8) × (length carry ≡ 8) }
     ensures lengths { (length result.0 ≡ 8) × (length result.1 ≡ 8) }
@@ -90,6 +160,5 @@ pub fn full_adder_lanes(a: u64x8, b: u64x8, carry: u64x8) -> (u64x8, u64x8)
         → bit_at (slice_index result.0 i) k + 2 * bit_at (slice_index result.1 i) k
         ≡ bit_at (slice_index a i) k + bit_at (slice_index b i) k + bit_at (slice_index carry i) k }
 {
-    let either = a ^ b;
-    (either ^ carry, (a & b) | (either & carry))
+    (sum_lanes(a, b, carry), carry_lanes(a, b, carry))
 }

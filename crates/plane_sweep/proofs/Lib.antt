@@ -10,10 +10,9 @@ pub mod BeginningStates
 pub mod StoredSamples
 pub mod StoredStates
 pub mod SixWords
-pub mod EightLanes
+pub mod FourLanes
 pub mod RowSteps
 pub mod RowSweeps
-pub mod RowPairs
 pub mod SweptPlanes
 pub mod PlaneNeighbours
 pub mod SamplePulls

@@ -6,7 +6,7 @@ use Rattle.std.proofs.Math.Nat.{add-mul, mod-add-mod}
 use Rattle.spin_model.specs.Lattice.{IsLawfulSize, half_plane, next, previous}
 use Rattle.plane_sweep.specs.PlaneSweep.{IsRow}
 use Rattle.plane_sweep.specs.declared.rows.Row.{Row}
-use Rattle.plane_sweep.proofs.EightLanes.{next-inside, next-around, previous-inside, previous-around}
+use Rattle.plane_sweep.proofs.FourLanes.{next-inside, next-around, previous-inside, previous-around}
 use Rattle.plane_sweep.proofs.SixWords.{row-whole}
 
 turned-parity : (n : ℕ) → not (n % 2 == 0) ≡ ((n + 1) % 2 == 0)

@@ -12,25 +12,25 @@ use Rattle.spin_model.specs.SiteRule.{new_spin}
 use Rattle.spin_model.specs.Words.{is_set}
 use Rattle.threshold_table.specs.Tables.{rule_of}
 use Rattle.plane_sweep.specs.Neighbourhood.{pulls, Surrounds}
-use Rattle.plane_sweep.specs.PlaneSweep.{agreeing_count, SweepsWord, SweepsWords, SweepsEight, SweepsRow, IsRow, pulls_lent}
+use Rattle.plane_sweep.specs.PlaneSweep.{agreeing_count, SweepsWord, SweepsWords, SweepsFour, SweepsRow, IsRow, pulls_lent}
 use Rattle.plane_sweep.specs.declared.replica.Plane.{Plane}
 use Rattle.plane_sweep.specs.declared.rows.Row.{Row}
 use Rattle.plane_sweep.specs.declared.rows.SlotRule.{SlotRule}
 use Rattle.plane_sweep.specs.declared.surroundings.Surroundings.{Surroundings}
-use Rattle.plane_sweep.proofs.EightLanes.{mid-below, mid-at, mid-above, mid-sized}
+use Rattle.plane_sweep.proofs.FourLanes.{mid-below, mid-at, mid-above, mid-sized}
 use Rattle.plane_sweep.proofs.SixWords.{row-within, pulls-lent}
 
 -- a row of a lattice of an equal side
 pub row-same : (m l c z y : ℕ) (row : Row) → m ≡ l → IsRow m c z y row → IsRow l c z y row
 row-same m l c z y row same at = let P : ℕ → Type 0 = λ n. IsRow n c z y row in subst P same at
 
--- eight words that lanes give, written into a list from a place on
-pub eight-written : (rule : SlotRule) (draws : List ℕ) (at m : ℕ) (words drawn before after : List ℕ) (rows : List (List ℕ)) → m ≡ 8 → at + 8 ≤ length words
-    → ((i : ℕ) → i < 8 → get_or before i 0 ≡ get_or words (at + i) 0) → ((i : ℕ) → i < 8 → get_or drawn i 0 ≡ get_or draws (at + i) 0) → length after ≡ 8
+-- four words that lanes give, written into a list from a place on
+pub four-written : (rule : SlotRule) (draws : List ℕ) (at m : ℕ) (words drawn before after : List ℕ) (rows : List (List ℕ)) → m ≡ 4 → at + 4 ≤ length words
+    → ((i : ℕ) → i < 4 → get_or before i 0 ≡ get_or words (at + i) 0) → ((i : ℕ) → i < 4 → get_or drawn i 0 ≡ get_or draws (at + i) 0) → length after ≡ 4
     → ((j : ℕ) → get_or (put_mid at m words after) j 0 < 2 ^ 64)
-    → ((i b : ℕ) → i < 8 → b < 64 → is_set (get_or after i 0) b ≡ new_spin (rule_of rule.kind) rule.row.values (set_count (lane_words rows i) b) (agreeing_count (lane_words rows i) (get_or before i 0) b) (get_or drawn i 0) (is_set (get_or before i 0) b))
-    → SweepsEight (lane_words rows) rule draws at words (put_mid at m words after)
-eight-written rule draws at m words drawn before after rows eight within old numbers sized range made = record {
+    → ((i b : ℕ) → i < 4 → b < 64 → is_set (get_or after i 0) b ≡ new_spin (rule_of rule.kind) rule.row.values (set_count (lane_words rows i) b) (agreeing_count (lane_words rows i) (get_or before i 0) b) (get_or drawn i 0) (is_set (get_or before i 0) b))
+    → SweepsFour (lane_words rows) rule draws at words (put_mid at m words after)
+four-written rule draws at m words drawn before after rows four within old numbers sized range made = record {
   sized = mid-sized at m words after (omega arith) (omega arith);
   done = λ i lane.
       let now : get_or after i 0 ≡ get_or (put_mid at m words after) (at + i) 0 = sym (mid-at at m words after i (omega arith) (omega arith) (omega arith)) in
@@ -63,14 +63,14 @@ module _ (s : Surroundings) (rule : SlotRule) (draws : List ℕ) (row : Row) whe
     after = λ j high. get_or-set_other words (row.here + k) j new 0 (λ same. absurd (omega arith));
   }
 
-  -- eight columns, by words of which lane i is column k + i
-  pub row-eight : (k : ℕ) (six : ℕ → List ℕ) (old new : List ℕ) → ((i : ℕ) → i < 8 → six i ≡ pulls_lent s row (k + i))
-      → SweepsEight six rule draws (row.here + k) old new → SweepsRow s rule draws row k (k + 8) old new
-  row-eight k six old new same made = record {
+  -- four columns, by words of which lane i is column k + i
+  pub row-four : (k : ℕ) (six : ℕ → List ℕ) (old new : List ℕ) → ((i : ℕ) → i < 4 → six i ≡ pulls_lent s row (k + i))
+      → SweepsFour six rule draws (row.here + k) old new → SweepsRow s rule draws row k (k + 4) old new
+  row-four k six old new same made = record {
     sized = made.sized;
     done = λ j from to.
         let i = j - k in
-        let lane : i < 8 = omega arith in
+        let lane : i < 4 = omega arith in
         let column : k + i ≡ j = omega arith in
         let place : row.here + k + i ≡ row.here + j = omega arith in
         let P : List ℕ → Type 0 = λ xs. SweepsWord (rule_of rule.kind) rule.row.values xs (get_or draws (row.here + k + i) 0) (get_or old (row.here + k + i) 0) (get_or new (row.here + k + i) 0) in

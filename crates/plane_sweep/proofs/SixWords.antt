@@ -3,8 +3,9 @@ use Rattle.std.proofs.Common.{◌≡◌, ℕ, ◌+◌, ◌-◌, ◌*◌, ◌/◌
 use Rattle.std.proofs.lemmas.Nat.{xor_lt, mul-le, mul-add-lt, mod_below, row_fits}
 use Rattle.std.proofs.Math.Nat.{mul_comm}
 use Rattle.std.specs.Int.{bit_not, w64}
+use Rattle.std.specs.Prelude.{count_by}
 use Rattle.coupling_set.specs.CouplingWords.{CouplingsView, bond_word}
-use Rattle.local_rule.specs.SiteBits.{set_count}
+use Rattle.local_rule.specs.SiteBits.{equal_count, set_count, site_bits}
 use Rattle.multispin_word.specs.Planes.{differs}
 use Rattle.multispin_word.proofs.Bits.{is_set-xor, is_set-not}
 use Rattle.scalar_rule.specs.Neighbours.{agree}
@@ -26,6 +27,10 @@ not-differs false false = refl
 pub is_set-agree : (a b k : ℕ) → a < 2 ^ 64 → b < 2 ^ 64 → k < 64 → is_set (bit_not w64 (bit_xor a b)) k ≡ agree (is_set a k) (is_set b k)
 is_set-agree a b k a_fits b_fits below =
     is_set-not (bit_xor a b) k (xor_lt 64 a b a_fits b_fits) below ∙ ap not (is_set-xor a b k) ∙ not-differs (is_set a k) (is_set b k)
+
+-- the bits that are equal to the spin agree with it
+pub equal-agreeing : (six : List ℕ) (w b : ℕ) → equal_count six w b ≡ agreeing_count six w b
+equal-agreeing six w b = λ i. count_by (λ bit. not-differs bit (is_set w b) i) (site_bits six b)
 
 -- six words that agree bit by bit
 pub agreeing-six : (six : List ℕ) (w b : ℕ) (p q r s t u : ℕ) → length six ≡ 6

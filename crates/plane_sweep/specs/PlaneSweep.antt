@@ -77,12 +77,12 @@ pulls_lent s row k =
     left : ℕ
     left = row.here + left_column row k
 
--- a plane's words after eight of them from a place on are updated, each by its draw; those of lane i are six i
-pub record SweepsEight (six : ℕ → List ℕ) (rule : SlotRule) (draws : List ℕ) (at : ℕ) (old new : List ℕ) : Type 0 where
+-- a plane's words after four of them from a place on are updated, each by its draw; those of lane i are six i
+pub record SweepsFour (six : ℕ → List ℕ) (rule : SlotRule) (draws : List ℕ) (at : ℕ) (old new : List ℕ) : Type 0 where
   pub sized : length new ≡ length old
-  pub done : (i : ℕ) → i < 8 → SweepsWord (rule_of rule.kind) rule.row.values (six i) (slice_index draws (at + i)) (slice_index old (at + i)) (slice_index new (at + i))
+  pub done : (i : ℕ) → i < 4 → SweepsWord (rule_of rule.kind) rule.row.values (six i) (slice_index draws (at + i)) (slice_index old (at + i)) (slice_index new (at + i))
   pub before : (j : ℕ) → j < at → slice_index new j ≡ slice_index old j
-  pub after : (j : ℕ) → at + 8 ≤ j → slice_index new j ≡ slice_index old j
+  pub after : (j : ℕ) → at + 4 ≤ j → slice_index new j ≡ slice_index old j
 
 -- a plane's words after the columns from m to n of a row are updated, each by its draw
 pub record SweepsRow (s : Surroundings) (rule : SlotRule) (draws : List ℕ) (row : Row) (m n : ℕ) (old new : List ℕ) : Type 0 where
@@ -90,14 +90,6 @@ pub record SweepsRow (s : Surroundings) (rule : SlotRule) (draws : List ℕ) (ro
   pub done : (k : ℕ) → m ≤ k → k < n → SweepsWord (rule_of rule.kind) rule.row.values (pulls_lent s row k) (slice_index draws (row.here + k)) (slice_index old (row.here + k)) (slice_index new (row.here + k))
   pub before : (j : ℕ) → j < row.here + m → slice_index new j ≡ slice_index old j
   pub after : (j : ℕ) → row.here + n ≤ j → slice_index new j ≡ slice_index old j
-
--- a plane's words after two rows of four, one behind the other, are updated, each by its draw
-pub record SweepsPair (s : Surroundings) (rule : SlotRule) (draws : List ℕ) (first second : Row) (old new : List ℕ) : Type 0 where
-  pub sized : length new ≡ length old
-  pub done : (k : ℕ) → k < 4 → SweepsWord (rule_of rule.kind) rule.row.values (pulls_lent s first k) (slice_index draws (first.here + k)) (slice_index old (first.here + k)) (slice_index new (first.here + k))
-  pub done_behind : (k : ℕ) → k < 4 → SweepsWord (rule_of rule.kind) rule.row.values (pulls_lent s second k) (slice_index draws (second.here + k)) (slice_index old (second.here + k)) (slice_index new (second.here + k))
-  pub before : (j : ℕ) → j < first.here → slice_index new j ≡ slice_index old j
-  pub after : (j : ℕ) → second.here + 4 ≤ j → slice_index new j ≡ slice_index old j
 
 -- a plane after its half sweep: its words from the other colour's planes, its generator a draw for each site further
 pub record SweepsPlane (couplings : CouplingsView) (other : List Plane) (rule : SlotRule) (c z : ℕ) (old new : Plane) : Type 0 where

@@ -5,7 +5,6 @@ mod copying;
 mod generators;
 mod lanes;
 mod opening;
-mod pairs;
 mod parts;
 mod random_words;
 mod replica;
@@ -17,6 +16,7 @@ mod sweeping;
 #[cfg(test)]
 mod tests;
 
+pub use parts::site_word;
 pub use replica::{Duo, Plane, Replica};
 pub use stand::{PairWheels, Stand};
 pub use sweeping::sweep;

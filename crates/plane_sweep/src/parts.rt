@@ -117,8 +117,8 @@ fn sample_spins(
     Ok(Items::of(spins))
 }
 
-// The word of a site.
-fn site_word(lattice: &Lattice, planes: &Items<Plane>, site: u32) -> u64
+/// The word of a site, in the planes of a replica.
+pub fn site_word(lattice: &Lattice, planes: &Items<Plane>, site: u32) -> u64
     requires site { site < volume lattice.now }
     requires count { length planes.now ≡ 2 * lattice.now }
     requires planes { All (FitsPlane lattice.now) planes.now }

@@ -9,8 +9,7 @@ ghost use Rattle.spin_model.specs.Lattice.{half_plane, next, previous, IsLawfulS
 ghost use Rattle.spin_model.specs.Words.{is_set};
 ghost use Rattle.threshold_table.specs.Tables.{rule_of};
 
-use crate::lanes::sweep_eight;
-use crate::pairs::sweep_pairs;
+use crate::lanes::sweep_four;
 use crate::replica::Plane;
 use crate::surroundings::{Surroundings, lend, next, previous};
 use coupling_set::Couplings;
@@ -28,11 +27,11 @@ pub(crate) struct SlotRule {
 #[derive(Clone, Copy)]
 pub(crate) struct Row {
     /// Words in a row.
-    pub(crate) half: u32,
+    pub(crate) half: usize,
     /// Where the row begins, and the rows one step on and one step back.
-    pub(crate) here: u32,
-    pub(crate) up: u32,
-    pub(crate) down: u32,
+    pub(crate) here: usize,
+    pub(crate) up: usize,
+    pub(crate) down: usize,
     /// The colour's sites in this row begin at x = 0, and not at 1.
     pub(crate) even: bool,
 }
@@ -56,13 +55,51 @@ pub(crate) fn sweep_words(
     requires plane { z < couplings.now.size }
     ensures { SweepsWords couplings.now other.now rule.now draws.now colour z (half_plane couplings.now.size) own.old own.new }
 {
-    // Code of its own for the sizes most used: the width of a row is then known in it.
     match couplings.size() {
-        8 => sweep_pairs(own, other, couplings, rule, draws, colour, z),
-        16 => sweep_rows(own, other, couplings, rule, draws, colour, z, 16),
-        32 => sweep_rows(own, other, couplings, rule, draws, colour, z, 32),
-        64 => sweep_rows(own, other, couplings, rule, draws, colour, z, 64),
-        size => sweep_rows(own, other, couplings, rule, draws, colour, z, size),
+        8 => sweep_sized::<8>(own, other, couplings, rule, draws, colour, z),
+        16 => sweep_sized::<16>(own, other, couplings, rule, draws, colour, z),
+        32 => sweep_sized::<32>(own, other, couplings, rule, draws, colour, z),
+        64 => sweep_sized::<64>(own, other, couplings, rule, draws, colour, z),
+        size => sweep_rows(own, other, couplings, rule, draws, colour, z, size as usize),
+    }
+}
+
+// The same, with code of its own for a size and for each kind: both are then known in its loops.
+fn sweep_sized<const SIZE: usize>(
+    own: &mut [u64],
+    other: &[Plane],
+    couplings: &Couplings,
+    rule: &SlotRule,
+    draws: &[u32],
+    colour: u32,
+    z: u32,
+)
+    requires size { couplings.now.size ≡ SIZE }
+    requires lawful { IsLawfulSize couplings.now.size }
+    requires own { length own.old ≡ half_plane couplings.now.size }
+    requires draws { length draws.now ≡ half_plane couplings.now.size }
+    requires count { length other.now ≡ couplings.now.size }
+    requires planes { All (FitsPlane couplings.now.size) other.now }
+    requires colour { colour < 2 }
+    requires plane { z < couplings.now.size }
+    ensures { SweepsWords couplings.now other.now rule.now draws.now colour z (half_plane couplings.now.size) own.old own.new }
+{
+    let row = rule.row;
+    match rule.kind {
+        RuleKind::Heat => {
+            let rule = SlotRule {
+                kind: RuleKind::Heat,
+                row,
+            };
+            sweep_rows(own, other, couplings, &rule, draws, colour, z, SIZE)
+        }
+        RuleKind::Metropolis => {
+            let rule = SlotRule {
+                kind: RuleKind::Metropolis,
+                row,
+            };
+            sweep_rows(own, other, couplings, &rule, draws, colour, z, SIZE)
+        }
     }
 }
 
@@ -76,7 +113,7 @@ fn sweep_rows(
     draws: &[u32],
     colour: u32,
     z: u32,
-    size: u32,
+    size: usize,
 )
     requires size { size ≡ couplings.now.size }
     requires lawful { IsLawfulSize couplings.now.size }
@@ -99,7 +136,7 @@ fn sweep_rows(
     }
 }
 
-// The new words of a row: by eight, and the rest by one.
+// The new words of a row: by four, and the rest by one.
 #[inline(always)]
 fn sweep_row(own: &mut [u64], around: &Surroundings, rule: &SlotRule, draws: &[u32], row: &Row)
     requires rows { HasRows (length around.now.here.now) around.now row.now }
@@ -107,10 +144,10 @@ fn sweep_row(own: &mut [u64], around: &Surroundings, rule: &SlotRule, draws: &[u
     requires draws { length draws.now ≡ length around.now.here.now }
     ensures { SweepsRow around.now rule.now draws.now row.now 0 row.now.half own.old own.new }
 {
-    'eights: for j in 0..row.half / 8 {
-        sweep_eight(own, around, rule, draws, row, 8 * j);
+    'fours: for j in 0..row.half / 4 {
+        sweep_four(own, around, rule, draws, row, 4 * j);
     }
-    'rest: for k in row.half / 8 * 8..row.half {
+    'rest: for k in row.half / 4 * 4..row.half {
         sweep_one(own, around, rule, draws, row, k);
     }
 }
@@ -123,7 +160,7 @@ fn sweep_one(
     rule: &SlotRule,
     draws: &[u32],
     row: &Row,
-    k: u32,
+    k: usize,
 )
     requires rows { HasRows (length around.now.here.now) around.now row.now }
     requires own { length own.old ≡ length around.now.here.now }
@@ -131,13 +168,13 @@ fn sweep_one(
     requires within { k < row.now.half }
     ensures { SweepsRow around.now rule.now draws.now row.now k (k + 1) own.old own.new }
 {
-    let place = (row.here + k) as usize;
+    let place = row.here + k;
     own[place] = new_word(rule, draws[place], &pulls_of(around, row, k), own[place]);
 }
 
 // The first row of plane z of a colour.
 #[inline(always)]
-pub(crate) fn first_row(size: u32, colour: u32, z: u32) -> Row
+fn first_row(size: usize, colour: u32, z: u32) -> Row
     requires size { IsLawfulSize size }
     requires colour { colour < 2 }
     requires plane { z < size }
@@ -155,7 +192,7 @@ pub(crate) fn first_row(size: u32, colour: u32, z: u32) -> Row
 
 // The row behind a row, in a plane of so many words.
 #[inline(always)]
-pub(crate) fn row_behind(row: &Row, words: u32) -> Row
+fn row_behind(row: &Row, words: usize) -> Row
     requires few { words ≤ 2048 }
     requires here { row.now.here + row.now.half ≤ words }
     requires up { row.now.up + row.now.half ≤ words }
@@ -178,15 +215,15 @@ pub(crate) fn row_behind(row: &Row, words: u32) -> Row
 // J times the neighbours' spins at column k: ahead in x, y and z, and behind.
 #[inline(always)]
 #[tactic(auto, unfolding(crate::specs::PlaneSweep::pulls_lent))]
-fn pulls_of(around: &Surroundings, row: &Row, k: u32) -> [u64; 6]
+fn pulls_of(around: &Surroundings, row: &Row, k: usize) -> [u64; 6]
     requires rows { HasRows (length around.now.here.now) around.now row.now }
     requires within { k < row.now.half }
     ensures { result ≡ pulls_lent around.now row.now k }
 {
-    let here = (row.here + k) as usize;
-    let (up, down) = ((row.up + k) as usize, (row.down + k) as usize);
-    let right = (row.here + ahead_column(row, k)) as usize;
-    let left = (row.here + behind_column(row, k)) as usize;
+    let here = row.here + k;
+    let (up, down) = (row.up + k, row.down + k);
+    let right = row.here + ahead_column(row, k);
+    let left = row.here + behind_column(row, k);
     [
         around.here[right] ^ around.ahead_x[here],
         around.here[up] ^ around.ahead_y[here],
@@ -199,7 +236,7 @@ fn pulls_of(around: &Surroundings, row: &Row, k: u32) -> [u64; 6]
 
 // The column of the neighbour ahead in x, and of the one behind.
 #[inline(always)]
-fn ahead_column(row: &Row, k: u32) -> u32
+fn ahead_column(row: &Row, k: usize) -> usize
     requires { k < row.now.half }
     ensures value { result ≡ right_column row.now k }
     ensures within { result < row.now.half }
@@ -208,7 +245,7 @@ fn ahead_column(row: &Row, k: u32) -> u32
 }
 
 #[inline(always)]
-fn behind_column(row: &Row, k: u32) -> u32
+fn behind_column(row: &Row, k: usize) -> usize
     requires { k < row.now.half }
     ensures value { result ≡ left_column row.now k }
     ensures within { result < row.now.half }

@@ -38,24 +38,24 @@ pub(crate) fn lend<'a>(
     requires planes { All (FitsPlane couplings.now.size) other.now }
     ensures { Surrounds couplings.now other.now colour z result }
 {
-    let size = couplings.size();
-    let (on, back) = (next(size, z), previous(size, z));
+    let (size, at) = (couplings.size() as usize, z as usize);
+    let (on, back) = (next(size, at), previous(size, at));
     Surroundings {
-        here: other[z as usize].words.as_slice(),
-        above: other[on as usize].words.as_slice(),
-        below: other[back as usize].words.as_slice(),
+        here: other[at].words.as_slice(),
+        above: other[on].words.as_slice(),
+        below: other[back].words.as_slice(),
         ahead_x: couplings.plane(colour, z, 0),
         ahead_y: couplings.plane(colour, z, 1),
         ahead_z: couplings.plane(colour, z, 2),
         here_x: couplings.plane(1 - colour, z, 0),
         here_y: couplings.plane(1 - colour, z, 1),
-        below_z: couplings.plane(1 - colour, back, 2),
+        below_z: couplings.plane(1 - colour, back as u32, 2),
     }
 }
 
 /// One step on around a boundary of n places.
 #[inline]
-pub(crate) fn next(n: u32, x: u32) -> u32
+pub(crate) fn next(n: usize, x: usize) -> usize
     requires { x < n }
     ensures value { result ≡ next n x }
     ensures within { result < n }
@@ -65,7 +65,7 @@ pub(crate) fn next(n: u32, x: u32) -> u32
 
 /// One step back.
 #[inline]
-pub(crate) fn previous(n: u32, x: u32) -> u32
+pub(crate) fn previous(n: usize, x: usize) -> usize
     requires { x < n }
     ensures value { result ≡ previous n x }
     ensures within { result < n }

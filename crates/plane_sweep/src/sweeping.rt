@@ -7,14 +7,12 @@ ghost use Rattle.plane_sweep.specs.Storing.{Changed};
 ghost use Rattle.scalar_rule.specs.Plan.{dynamics_of, slots_of};
 ghost use Rattle.scalar_rule.specs.Replica.{configuration_of, with_configuration};
 ghost use Rattle.scalar_rule.specs.Sweep as model;
+ghost use Rattle.spin_model.specs.Lattice.{half_plane, IsLawfulSize};
 
 use crate::replica::{Plane, Replica};
 use crate::rows::{SlotRule, sweep_words};
 use coupling_set::Couplings;
 use scalar_rule::Plan;
-
-/// The greatest number of sites of one colour in a plane.
-const PLANE: usize = 2048;
 
 /// A sweep of one replica of a temperature slot, in all 64 samples at once: the half sweep of colour
 /// 0, then that of colour 1, which sees the new spins of colour 0. The planes of a colour may be cut
@@ -51,17 +49,38 @@ fn sweep_replica(replica: &mut Replica, plan: &Plan, slot: u32)
     sweep_colours(replica.planes.as_mut_slice(), plan.couplings(), &rule, size);
 }
 
-// Colour 0, then colour 1.
+// The same. The room for the draws is cleared in each sweep, so a small lattice takes less of it.
 fn sweep_colours(planes: &mut [Plane], couplings: &Couplings, rule: &SlotRule, size: usize)
     requires size { size ≡ couplings.now.size }
+    requires lawful { IsLawfulSize couplings.now.size }
     requires count { length planes.old ≡ 2 * couplings.now.size }
     requires planes { All (FitsPlane couplings.now.size) planes.old }
     ensures { SweepsColours couplings.now rule.now planes.old planes.new }
 {
-    let mut draws = [0u32; PLANE];
+    if size <= 16 {
+        sweep_both(planes, couplings, rule, &mut [0u32; 128], size);
+    } else {
+        sweep_both(planes, couplings, rule, &mut [0u32; 2048], size);
+    }
+}
+
+// Colour 0, then colour 1.
+fn sweep_both(
+    planes: &mut [Plane],
+    couplings: &Couplings,
+    rule: &SlotRule,
+    draws: &mut [u32],
+    size: usize,
+)
+    requires size { size ≡ couplings.now.size }
+    requires room { half_plane couplings.now.size ≤ length draws.old }
+    requires count { length planes.old ≡ 2 * couplings.now.size }
+    requires planes { All (FitsPlane couplings.now.size) planes.old }
+    ensures { SweepsColours couplings.now rule.now planes.old planes.new }
+{
     let (first, second) = planes.split_at_mut(size);
-    sweep_colour(first, second, couplings, rule, &mut draws, 0);
-    sweep_colour(second, first, couplings, rule, &mut draws, 1);
+    sweep_colour(first, second, couplings, rule, draws, 0);
+    sweep_colour(second, first, couplings, rule, draws, 1);
 }
 
 // The planes of a colour, each of them by the planes of the other colour.
@@ -77,7 +96,7 @@ fn sweep_colour(
     requires planes { All (FitsPlane couplings.now.size) own.old }
     requires other { length other.now ≡ couplings.now.size }
     requires others { All (FitsPlane couplings.now.size) other.now }
-    requires draws { length draws.old ≡ PLANE }
+    requires room { half_plane couplings.now.size ≤ length draws.old }
     requires colour { colour < 2 }
     ensures { Changed (SweepsPlane couplings.now other.now rule.now colour) couplings.now.size own.old own.new }
 {
@@ -107,7 +126,7 @@ fn sweep_plane(
     requires own { FitsPlane couplings.now.size plane.old }
     requires other { length other.now ≡ couplings.now.size }
     requires others { All (FitsPlane couplings.now.size) other.now }
-    requires draws { length draws.old ≡ PLANE }
+    requires room { half_plane couplings.now.size ≤ length draws.old }
     requires colour { colour < 2 }
     requires plane { z < couplings.now.size }
     ensures { SweepsPlane couplings.now other.now rule.now colour z plane.old plane.new }

@@ -69,7 +69,19 @@ pub fn write_rows(rows: &Rows, out: &mut [u32])
 }
 
 /// Writes the next random numbers, as many as the slice is long, and moves the rows on by as many.
-pub fn fill_rows(rows: &mut Rows, out: &mut [u32])
+pub fn fill_words(rows: &mut Rows, out: &mut [u32])
+    requires rows { AreRows rows.old }
+    ensures rows { AreRows rows.new }
+    ensures moved { state_of rows.new ≡ advanced (state_of rows.old) (length out.old) }
+    ensures drawn { out.new ≡ draws (state_of rows.old) (length out.old) }
+{
+    let (blocks, rest) = out.split_at_mut(out.len() / 8 * 8);
+    fill_rows(rows, blocks);
+    fill_rest(rows, rest);
+}
+
+// The same for a multiple of eight.
+fn fill_rows(rows: &mut Rows, out: &mut [u32])
     requires rows { AreRows rows.old }
     requires whole { length out.old % 8 ≡ 0 }
     ensures rows { AreRows rows.new }
@@ -147,17 +159,12 @@ fn fill_last(rows: &mut Rows, out: &mut [u32])
     if out.is_empty() {
         return;
     }
-    if out.len() == 32 {
-        // a whole plane of side 8: with the number of turns known, LLVM shifts no row
-        fill_by_shifts(rows, 4, out);
-    } else {
-        fill_by_shifts(rows, out.len() / 8, out);
-    }
+    fill_by_shifts(rows, out.len() / 8, out);
 }
 
-// That many turns, after each of which every row takes the place of the one before it, in registers.
+/// That many turns, after each of which every row takes the place of the one before it, in registers.
 #[inline(always)]
-fn fill_by_shifts(rows: &mut Rows, turns: usize, out: &mut [u32])
+pub fn fill_by_shifts(rows: &mut Rows, turns: usize, out: &mut [u32])
     requires rows { AreRows rows.old }
     requires sized { length out.old ≡ 8 * turns }
     ensures rows { AreRows rows.new }
@@ -197,8 +204,8 @@ fn fill_by_shifts(rows: &mut Rows, turns: usize, out: &mut [u32])
     ];
 }
 
-/// Writes the next random numbers, fewer than eight, and moves the rows on by as many.
-pub fn fill_rest(rows: &mut Rows, out: &mut [u32])
+// Writes the next random numbers, fewer than eight, and moves the rows on by as many.
+fn fill_rest(rows: &mut Rows, out: &mut [u32])
     requires rows { AreRows rows.old }
     requires rest { length out.old < 8 }
     ensures rows { AreRows rows.new }

@@ -5,7 +5,7 @@ ghost use Rattle.pr_generator.specs.Rows.{state_of, AreRows};
 ghost use Rattle.spin_model.specs.Seeding.{seeded};
 ghost use Rattle.spin_model.specs.Stream.{advanced, draw, draws};
 
-use crate::rows::{Rows, fill_rest, fill_rows, rows_of, turn_by, write_rows};
+use crate::rows::{Rows, fill_by_shifts, fill_words, rows_of, turn_by, write_rows};
 use crate::seeding::seed_words;
 use std::marker::Model;
 
@@ -50,13 +50,17 @@ impl Wheel {
     }
 
     /// Writes the next random numbers, as many as the slice is long.
+    #[inline(always)]
     pub fn fill(&mut self, out: &mut [u32])
         ensures moved { self.new ≡ advanced self.old (length out.old) }
         ensures drawn { out.new ≡ draws self.old (length out.old) }
     {
-        let (blocks, rest) = out.split_at_mut(out.len() / 8 * 8);
-        fill_rows(&mut self.rows, blocks);
-        fill_rest(&mut self.rows, rest);
+        if out.len() == 32 {
+            // A plane of side 8. With the number of turns known no row is shifted, and no call is made.
+            fill_by_shifts(&mut self.rows, 4, out);
+        } else {
+            fill_words(&mut self.rows, out);
+        }
     }
 
     /// Writes the state, oldest word first.

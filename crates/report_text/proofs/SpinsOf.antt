@@ -1,5 +1,5 @@
 -- The spin of a sample at a site of a packed replica.
-use Rattle.std.proofs.Common.{◌≡◌, ℕ, ◌<◌, Bool, false, List}
+use Rattle.std.proofs.Common.{◌≡◌, ℕ, ◌<◌, false, List}
 use Rattle.spin_model.proofs.Tables.{get_or-table}
 use Rattle.spin_model.specs.Lattice.{volume}
 use Rattle.spin_model.specs.Words.{is_set}

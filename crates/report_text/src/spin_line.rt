@@ -5,15 +5,15 @@ ghost use Rattle.glass_edges.specs.Causes.{HasCause};
 ghost use Rattle.glass_edges.specs.Contents.{appended, AppendsPrefix, PutsFront};
 ghost use Rattle.scalar_rule.specs.Neighbours.{spin};
 ghost use Rattle.scalar_rule.specs.SpinDigits.{four_spins as digit_at, spin_digits};
-ghost use Rattle.spin_model.specs.Lattice.{volume, half_plane};
-ghost use Rattle.plane_sweep.specs.Packed.{FitsReplica, spins_of, word_at};
+ghost use Rattle.spin_model.specs.Lattice.{volume};
+ghost use Rattle.plane_sweep.specs.Packed.{FitsReplica, spins_of};
 ghost use Rattle.report_text.specs.Lines.{spins_head, spins_line};
 
 use crate::digits::spin_digit;
 use glass_edges::{Fault, Line, Sink};
 use lattice_geometry::Lattice;
 use multispin_word::bit;
-use plane_sweep::Replica;
+use plane_sweep::{Replica, site_word};
 
 /// Puts the spins that a sample has in a packed replica, `copy` of the two of a temperature slot:
 /// bit `sample mod 64` of its words, in the order of the sites.
@@ -108,19 +108,5 @@ fn is_up(replica: &Replica, lattice: &Lattice, site: u32, b: u32) -> bool
     requires fits { FitsReplica lattice.now replica.now }
     ensures { result ≡ spin (spins_of lattice.now b replica.now.planes) site }
 {
-    bit(word_of(replica, lattice, site), b)
-}
-
-// The word of a site.
-fn word_of(replica: &Replica, lattice: &Lattice, site: u32) -> u64
-    requires site { site < volume lattice.now }
-    requires fits { FitsReplica lattice.now replica.now }
-    ensures { result ≡ word_at lattice.now replica.now.planes site }
-{
-    let (x, y, z) = lattice.coordinates(site);
-    let size = lattice.size();
-    let plane = replica
-        .planes
-        .at((lattice.colour(site) * size + z) as usize);
-    *plane.words.at((y * (size / 2) + x / 2) as usize)
+    bit(site_word(lattice, &replica.planes, site), b)
 }

@@ -1,10 +1,9 @@
--- A bond's word lies within the list.
-use Rattle.coupling_set.proofs.KeptPlaces.{place-below, kept_place-below}
+-- A bond's word lies in its plane, at the site's place there.
+use Rattle.std.proofs.Common.{sym}
+use Rattle.coupling_set.proofs.KeptPlanes.{kept_place-site}
 use Rattle.coupling_set.proofs.bond_words.place.Goals as goal
 
-pub returns-clause-within : goal.returns-clause-within
-returns-clause-within c =
-    let l = c.args.lattice.now in
-    let lawful = c.size-size.ensures.lawful in
-    let bound = kept_place-below l _ lawful (place-below l c.args.site c.args.d lawful c.requires.site c.requires.direction) in
-    rw (c.sites.ensures.value, c.compact.ensures.value, c.size-size.ensures.value) bound
+pub returns-clause-value : goal.returns-clause-value
+returns-clause-value c =
+    rw (c.plane_start-start.ensures.value, c.size-size.ensures.value, c.colour.ensures.value, c.coordinates-x.ensures.x, c.coordinates-x.ensures.y, c.coordinates-x.ensures.z)
+    (sym (kept_place-site c.args.lattice.now c.args.site c.args.d c.size-size.ensures.lawful c.requires.site))

@@ -3,7 +3,7 @@ use Rattle.local_rule.proofs.Lanes.{lower-long, lower-at}
 use Rattle.local_rule.proofs.vectors.below_lanes.Goals as goal
 
 pub returns-clause-length : goal.returns-clause-length
-returns-clause-length c = lower-long c.args.draws c.args.threshold c.requires
+returns-clause-length g c = lower-long g.row.N c.args.draws c.args.threshold c.requires
 
 pub returns-clause-below : goal.returns-clause-below
-returns-clause-below c = λ i b h l. lower-at c.args.draws c.args.threshold i b c.requires h l
+returns-clause-below g c = λ i b h l. lower-at g.row.N c.args.draws c.args.threshold i b c.requires h l

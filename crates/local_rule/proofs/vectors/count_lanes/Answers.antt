@@ -1,25 +1,36 @@
--- The four full adders add up to the count of the lane's six bits.
-use Rattle.std.proofs.Common.{◌≡◌, ℕ, slice_index, replicate, arith}
-use Rattle.std.proofs.lemmas.Simd.{get_or-replicate}
-use Rattle.std.proofs.lemmas.Nat.Bits.{bit_at-zero}
-use Rattle.std.specs.Int.{bit_at}
-use Rattle.local_rule.proofs.Counts.{lane-count}
+-- Six turned bits are counted by four adders, of which the first two count the bits themselves.
+use Rattle.std.proofs.Common.{ℕ, [], ◌∷◌, slice_index, slice_index_or, refl, ◌∙◌, sym, arith}
+use Rattle.multispin_word.specs.Planes.{is_set}
+use Rattle.local_rule.proofs.Cases.{six-turned}
+use Rattle.local_rule.proofs.Counts.{number-three, lane-differing}
 use Rattle.local_rule.proofs.vectors.count_lanes.Goals as goal
 
-pub returns-clause-count : goal.returns-clause-count
-returns-clause-count c = λ i b h.
-    let front = c.full_adder_lanes.ensures.sum i b h in
-    let back = c.full_adder_lanes-2.ensures.sum i b h in
-    let ones = c.full_adder_lanes-3.ensures.sum i b h in
-    let twos = c.full_adder_lanes-4.ensures.sum i b h in
-    let none : bit_at (slice_index (replicate {A = ℕ} 8 0) i) b ≡ 0 = rw (get_or-replicate {A = ℕ} 8 i 0 0 h) (bit_at-zero b) in
-    rw (
-      lane-count c.args.six.now i b (omega arith),
-      ← c.load.ensures.same,
-      ← c.load-2.ensures.same,
-      ← c.load-3.ensures.same,
-      ← c.load-4.ensures.same,
-      ← c.load-5.ensures.same,
-      ← c.load-6.ensures.same,
+pub returns : goal.returns
+returns g c = λ i b h.
+    let six = c.args.six.now in
+    let bit : ℕ → _ = λ n. is_set (slice_index (slice_index_or six n []) i) b in
+    let o = is_set (slice_index c.args.other.now i) b in
+    number-three (slice_index c.differing_lanes-3.result i ∷ slice_index c.sum_lanes.result i ∷ slice_index c.carry_lanes-3.result i ∷ []) b refl
+    ∙ rw (
+      c.differing_lanes-3.ensures.differing i b h,
+      c.sum_lanes.ensures.sum i b h,
+      c.carry_lanes-3.ensures.carry i b h,
+      c.differing_lanes-front_twos.ensures.differing i b h,
+      c.differing_lanes-back_twos.ensures.differing i b h,
+      c.shared_lanes-carry.ensures.shared i b h,
+      c.differing_lanes.ensures.differing i b h,
+      c.differing_lanes-2.ensures.differing i b h,
+      c.carry_lanes.ensures.carry i b h,
+      c.carry_lanes-2.ensures.carry i b h,
+      c.sum_lanes-front.ensures.sum i b h,
+      c.sum_lanes-back.ensures.sum i b h,
+      c.load-other.ensures.same,
+      c.load-a.ensures.same,
+      c.load-b.ensures.same,
+      c.load-c.ensures.same,
+      c.load-d.ensures.same,
+      c.load-e.ensures.same,
+      c.load-f.ensures.same,
     )
-    (omega (arith, front, back, ones, twos, none))
+    (six-turned (bit 0) (bit 1) (bit 2) (bit 3) (bit 4) (bit 5) o)
+    ∙ sym (lane-differing six i (slice_index c.args.other.now i) b (omega arith))

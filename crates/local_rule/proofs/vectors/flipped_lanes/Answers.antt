@@ -3,9 +3,9 @@ use Rattle.local_rule.proofs.Lanes.{turned-long, turned-at}
 use Rattle.local_rule.proofs.vectors.flipped_lanes.Goals as goal
 
 pub returns-clause-length : goal.returns-clause-length
-returns-clause-length c =
-    turned-long c.args.spins c.args.costly c.args.accepted c.requires.0 c.requires.1 c.requires.2
+returns-clause-length g c =
+    turned-long g.row.N c.args.spins c.args.costly c.args.accepted c.requires.0 c.requires.1 c.requires.2
 
 pub returns-clause-flipped : goal.returns-clause-flipped
-returns-clause-flipped c = λ i b h l.
-    turned-at c.args.spins c.args.costly c.args.accepted i b c.requires.0 c.requires.1 c.requires.2 h l
+returns-clause-flipped g c = λ i b h l.
+    turned-at g.row.N c.args.spins c.args.costly c.args.accepted i b c.requires.0 c.requires.1 c.requires.2 h l

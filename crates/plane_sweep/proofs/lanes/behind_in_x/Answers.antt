@@ -2,7 +2,7 @@ use Rattle.std.proofs.Common.{inl, inr, ◌≡◌, ℕ, ◌+◌, ◌-◌, bit_xo
 use Rattle.std.proofs.lemmas.Bool.{cases_eq}
 use Rattle.spin_model.specs.Lattice.{previous}
 use Rattle.plane_sweep.specs.PlaneSweep.{left_column}
-use Rattle.plane_sweep.proofs.EightLanes.{pulled, previous-inside, previous-around}
+use Rattle.plane_sweep.proofs.FourLanes.{pulled, previous-inside, previous-around}
 use Rattle.plane_sweep.proofs.lanes.behind_in_x.Goals as goal
 use Rattle.plane_sweep.proofs.lanes.behind_in_x.Goals.{then-not-row, else-not-row, then-k-gt0, else-k-gt0}
 
@@ -27,8 +27,8 @@ returns-clause-words c = λ i lane.
           | inl first ↦
               let none : k + i ≡ 0 = omega (arith, v.if-k-gt0.false) in
               let end : previous row.half (k + i) ≡ row.half - 1 = ap (previous row.half) none ∙ previous-around row.half (omega (arith, c.requires.within)) in
-              let place : row.here + (row.half - 8) + 7 ≡ row.here + left_column row (k + i) = rw w.if-not-row.false (omega (arith, c.requires.within)) in
-              ap (λ xs. get_or xs i 0) (w.result-is ∙ v.result-is) ∙ ap (λ n. get_or v.one_back.result n 0) first ∙ v.one_back.ensures.first ∙ v.pull-last.ensures.words 7 (omega arith) ∙ to _ place
+              let place : row.here + (row.half - 4) + 3 ≡ row.here + left_column row (k + i) = rw w.if-not-row.false (omega (arith, c.requires.within)) in
+              ap (λ xs. get_or xs i 0) (w.result-is ∙ v.result-is) ∙ ap (λ n. get_or v.one_back.result n 0) first ∙ v.one_back.ensures.first ∙ v.pull-last.ensures.words 3 (omega arith) ∙ to _ place
           | inr other ↦
               let one : previous row.half (k + i) ≡ k + i - 1 = previous-inside row.half (k + i) (omega arith) (omega (arith, c.requires.within)) in
               let place : row.here + k + (i - 1) ≡ row.here + left_column row (k + i) = rw w.if-not-row.false (omega arith) in

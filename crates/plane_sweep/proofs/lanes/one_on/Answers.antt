@@ -1,7 +1,7 @@
 use Rattle.std.proofs.Common.{◌≡◌, ◌+◌, ◌++◌, get_or, ap, ◌∙◌, arith}
 use Rattle.std.proofs.lemmas.List.{get_or_append_left, get_or-append_right}
 use Rattle.spin_model.specs.Steps.{table}
-use Rattle.plane_sweep.proofs.EightLanes.{shuffled}
+use Rattle.plane_sweep.proofs.FourLanes.{shuffled}
 use Rattle.plane_sweep.proofs.lanes.one_on.Goals as goal
 
 pub returns-clause-front : goal.returns-clause-front
@@ -13,4 +13,4 @@ returns-clause-front c = λ i below.
 
 pub returns-clause-last : goal.returns-clause-last
 unfolding table
-returns-clause-last c = shuffled c.args.words c.args.behind 1 7 (omega arith) ∙ get_or-append_right c.args.words c.args.behind 8 8 0 c.requires (omega arith)
+returns-clause-last c = shuffled c.args.words c.args.behind 1 3 (omega arith) ∙ get_or-append_right c.args.words c.args.behind 4 4 0 c.requires (omega arith)

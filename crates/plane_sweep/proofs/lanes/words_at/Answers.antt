@@ -1,5 +1,5 @@
 use Rattle.std.proofs.Common.{◌+◌, ◌-◌, arith}
-use Rattle.plane_sweep.proofs.EightLanes.{chunk-at}
+use Rattle.plane_sweep.proofs.FourLanes.{chunk-at}
 use Rattle.plane_sweep.proofs.lanes.words_at.Goals as goal
 
 pub returns-clause-words : goal.returns-clause-words

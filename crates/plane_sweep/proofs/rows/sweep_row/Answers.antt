@@ -2,12 +2,12 @@ use Rattle.std.proofs.Common.{◌≡◌, ◌+◌, ◌*◌, arith}
 use Rattle.plane_sweep.proofs.RowSweeps.{row-joined}
 use Rattle.plane_sweep.proofs.rows.sweep_row.Goals as goal
 
-pub eights-preserved : goal.eights-preserved
-eights-preserved c =
-    let more : 8 * c.eights.j + 8 ≡ 8 * (c.eights.j + 1) = omega arith in
+pub fours-preserved : goal.fours-preserved
+fours-preserved c =
+    let more : 4 * c.fours.j + 4 ≡ 4 * (c.fours.j + 1) = omega arith in
     rw (← more)
-    (row-joined c.args.around.now c.args.rule.now c.args.draws.now c.args.row.now 0 (8 * c.eights.j) (8 * c.eights.j + 8) c.args.own.now c.eights.own c.sweep_eight.new.own
-    (omega arith) (omega arith) c.eights.invariant c.sweep_eight.ensures)
+    (row-joined c.args.around.now c.args.rule.now c.args.draws.now c.args.row.now 0 (4 * c.fours.j) (4 * c.fours.j + 4) c.args.own.now c.fours.own c.sweep_four.new.own
+    (omega arith) (omega arith) c.fours.invariant c.sweep_four.ensures)
 
 pub rest-preserved : goal.rest-preserved
 rest-preserved c =

@@ -2,8 +2,8 @@ use Rattle.std.proofs.Common.{◌*◌}
 use Rattle.plane_sweep.specs.PlaneSweep.{SweepsRow}
 use Rattle.plane_sweep.proofs.rows.sweep_row.Given as goal
 
-abbrev pub invariant-eights : goal.invariant-eights
-invariant-eights l = SweepsRow l.around l.rule l.draws l.row 0 (8 * l.j) l.fn.own l.own
+abbrev pub invariant-fours : goal.invariant-fours
+invariant-fours l = SweepsRow l.around l.rule l.draws l.row 0 (4 * l.j) l.fn.own l.own
 
 abbrev pub invariant-rest : goal.invariant-rest
 invariant-rest l = SweepsRow l.around l.rule l.draws l.row 0 l.k l.fn.own l.own

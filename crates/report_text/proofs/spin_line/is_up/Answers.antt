@@ -5,5 +5,5 @@ use Rattle.report_text.proofs.spin_line.is_up.Goals as goal
 
 pub returns : goal.returns
 returns c =
-    c.bit.ensures ∙ ap (λ word. is_set word c.args.b) c.word_of.ensures
+    c.bit.ensures ∙ ap (λ word. is_set word c.args.b) c.site_word.ensures
     ∙ sym (spin-spins_of c.args.lattice.now c.args.b c.args.replica.now.planes c.args.site c.requires.site)

@@ -1,4 +1,4 @@
-use Rattle.std.proofs.Common.{rules, arith, ◌≡◌, ◌+◌, ◌*◌, ◌/◌, ◌-◌, ◌++◌, ◌∷◌, [], ℕ, length, sym, ap, ◌∙◌, subst, append-nil, append_assoc}
+use Rattle.std.proofs.Common.{rules, arith, ◌≡◌, ◌+◌, ◌*◌, ◌/◌, ◌-◌, ◌++◌, ◌∷◌, [], ℕ, sym, ap, ◌∙◌, subst, append-nil, append_assoc}
 use Rattle.glass_edges.specs.Contents.{PutsFront, AppendsPrefix}
 use Rattle.glass_edges.proofs.Puts.{front-none, front-step, front-failed, OnErr_of}
 use Rattle.scalar_rule.specs.SpinDigits.{four_spins, spin_digits}

@@ -1,16 +1,12 @@
 -- What is put behind the head of the line is a prefix of it at each error.
 use Rattle.std.proofs.Common.{◌≡◌, ◌++◌, ◌%◌, ap, ◌∙◌, subst, codes}
-use Rattle.std.specs.Prelude.{Result, Ok, Err, OnErr}
+use Rattle.std.proofs.lemmas.Result.{on_err_weaker}
 use Rattle.glass_edges.specs.Contents.{AppendsPrefix}
 use Rattle.glass_edges.proofs.Puts.{front-then, front-more, front-prefix, front-failed, OnErr_of}
 use Rattle.scalar_rule.specs.SpinDigits.{spin_digits}
 use Rattle.plane_sweep.specs.Packed.{spins_of}
 use Rattle.report_text.specs.Lines.{spins_head, spins_line}
 use Rattle.report_text.proofs.spin_line.spins.Goals as goal
-
-OnErr_map : {T E P Q : Type 0} → (P → Q) → (r : Result T E) → OnErr r P → OnErr r Q
-OnErr_map f (Ok x) p = tt
-OnErr_map f (Err e) p = f p
 
 pub returns-in_err-make_room-clause-prefix : goal.returns-in_err-make_room-clause-prefix
 unfolding spins_line
@@ -32,5 +28,5 @@ returns-clause-prefix g c =
     let now = g.O.Sink.taken c.put.new.out in
     let head : c.add_head.new.line ≡ words = c.add_head.ensures ∙ ap (λ xs. xs ++ words) c.new-line.ensures in
     let front = front-then _ _ _ _ _ _ c.in_ok-put_digits.ensures.front c.in_ok-make_room.ensures.front in
-    OnErr_map (λ p. subst (λ xs. AppendsPrefix before now (xs ++ digits ++ codes "\n")) head
-    (front-prefix _ _ _ _ _ (front-more _ _ _ _ (codes "\n") front) (subst (AppendsPrefix _ now) c.add.ensures p))) c.put.result c.put.ensures.prefix
+    on_err_weaker c.put.result (λ p. subst (λ xs. AppendsPrefix before now (xs ++ digits ++ codes "\n")) head
+    (front-prefix _ _ _ _ _ (front-more _ _ _ _ (codes "\n") front) (subst (AppendsPrefix _ now) c.add.ensures p))) c.put.ensures.prefix

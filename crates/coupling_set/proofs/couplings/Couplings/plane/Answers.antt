@@ -6,7 +6,7 @@ use Rattle.spin_model.proofs.CompactOrder.{from_compact-below}
 use Rattle.coupling_set.specs.CouplingWords.{CouplingsView, bond_word}
 use Rattle.coupling_set.specs.KeptWords.{kept_count}
 use Rattle.coupling_set.proofs.KeptPlaces.{kept-word}
-use Rattle.coupling_set.proofs.KeptPlanes.{kept_plane-end, kept_place-plane}
+use Rattle.coupling_set.proofs.KeptPlanes.{kept_place-plane}
 use Rattle.coupling_set.proofs.couplings.Couplings.plane.Goals as goal
 
 -- an item of a part of a list
@@ -17,11 +17,9 @@ part-read xs words first last k place same within at =
 
 pub slice_bounds-result-end : goal.slice_bounds-result-end
 slice_bounds-result-end c =
-    let l = c.self.inside.lattice in
-    let plane = rw (← c.self.view_is) at c.requires.plane in
-    let end = kept_plane-end l c.args.d c.args.colour c.args.z c.requires.direction c.requires.colour plane in
-    let long : length c.as_slice.result.now ≡ kept_count l = ap length c.as_slice.ensures ∙ c.self.invariant.sized in
-    rw (c.size-size.ensures.value) (omega arith)
+    let long : length c.as_slice.result.now ≡ kept_count c.size-size.result = ap length c.as_slice.ensures ∙ c.self.invariant.sized ∙ ap kept_count (sym c.size-size.ensures.value) in
+    let within = c.plane_start-first.ensures.within in
+    omega (arith, long, within)
 
 pub returns-clause-words : goal.returns-clause-words
 returns-clause-words c = λ k below.
@@ -34,6 +32,6 @@ returns-clause-words c = λ k below.
     let site = from_compact l (c.args.colour * half_volume l + c.args.z * half_plane l + k) in
     let place = kept_place-plane l c.args.colour c.args.z k c.args.d lawful c.requires.colour plane within in
     let word = kept-word l words site c.args.d lawful (from_compact-below l _ lawful) c.requires.direction in
-    rw (c.size-size.ensures.value)
+    rw (c.plane_start-first.ensures.value, c.size-size.ensures.value)
     (part-read _ words _ _ k _ c.as_slice.ensures (omega arith) (sym place) ∙ sym word
     ∙ ap (λ (v : CouplingsView). bond_word v (from_compact v.size (c.args.colour * half_volume v.size + c.args.z * half_plane v.size + k)) c.args.d) c.self.view_is)
