@@ -7,7 +7,7 @@ use Rattle.atomic_table.specs.Table.{State, Me, step, Act, keeps, takes, gives, 
 use Rattle.atomic_table.proofs.Lists.{set_here, set_else, exchanged}
 use Rattle.turn_cell.specs.declared.view.View.{View}
 use Rattle.turn_cell.specs.Sums.{total, sum_below, times, AreInWork, is_in_work}
-use Rattle.turn_cell.specs.Progress.{ArePhased, AreAtRest, NoneIsInWork, AtMost, first_view}
+use Rattle.turn_cell.specs.Progress.{ArePhased, AreAtHome, NoneIsInWork, AtMost, first_view}
 use Rattle.turn_cell.specs.AtomicSteps.{after_turn, after_refusal, after_return, Tries, GivesBack}
 use Rattle.turn_cell.specs.LockRule.{HasView, IsBased, Fits, HasHolder, LockRule}
 use Rattle.turn_cell.proofs.Adding.{total-set, length-numbers_from, numbers-sum_below, out_no}
@@ -20,12 +20,12 @@ unwrap_or_first a (Some b) = b
 pub one_some : {A : Type 0} {a b : A} → Some a ≡ Some b → a ≡ b
 one_some {A = A} {a = a} e = ap (unwrap_or_first a) e
 
--- words at rest are phased, and none is in work
-pub at_rest-phased : (ws : List ℕ) → AreAtRest ws → ArePhased ws
-at_rest-phased ws rest i = omega (arith, rest i)
+-- words at home are phased, and none is in work
+pub at_home-phased : (ws : List ℕ) → AreAtHome ws → ArePhased ws
+at_home-phased ws home i = omega (arith, home i)
 
-pub at_rest-calm : (ws : List ℕ) → AreAtRest ws → NoneIsInWork ws
-at_rest-calm ws rest i e = absurd (omega (arith, rest i))
+pub at_home-calm : (ws : List ℕ) → AreAtHome ws → NoneIsInWork ws
+at_home-calm ws home i e = absurd (omega (arith, home i))
 
 module _ {O : Type 0} where
   -- two views of one seat, with the same work

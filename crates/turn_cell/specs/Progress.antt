@@ -9,9 +9,10 @@ use Rattle.turn_cell.specs.declared.view.View.{View}
 abbrev pub ArePhased : List ℕ → Type 0
 ArePhased words = (i : ℕ) → slice_index words i % 4 < 3
 
--- every word has phase 0, as those that a lock is opened with
-abbrev pub AreAtRest : List ℕ → Type 0
-AreAtRest words = (i : ℕ) → slice_index words i % 4 ≡ 0
+-- every word has phase 0 or 2, which an even word has: at rest, or handed back and waiting, as those
+-- that a lock is opened with
+abbrev pub AreAtHome : List ℕ → Type 0
+AreAtHome words = (i : ℕ) → slice_index words i % 2 ≡ 0
 
 -- no word has phase 1
 abbrev pub NoneIsInWork : List ℕ → Type 0

@@ -1,6 +1,6 @@
 //! How a lock is opened, with its seats.
 ghost use Rattle.std.specs.Prelude.{◌≡◌, ℕ, ◌<◌, ◌≤◌, false, [], length, IfOk, vec_len, vec_capacity};
-ghost use Rattle.turn_cell.specs.Progress.{AreAtRest, first_view};
+ghost use Rattle.turn_cell.specs.Progress.{AreAtHome, first_view};
 ghost use Rattle.turn_cell.specs.AtomicSteps.{kept_part, given_part};
 ghost use Rattle.turn_cell.specs.Seats.{cell_id, seat_view, IsSeatOf, AreOpened};
 
@@ -14,7 +14,7 @@ use std::alloc::Global;
 use std::snapshot::Snapshot;
 
 impl<V: Kept> TurnCell<V> {
-    /// A lock over the value, whose progress words these are, all at rest; and its 1 to 64 seats.
+    /// A lock over the value, whose progress words these are, none in work; and its 1 to 64 seats.
     ///
     /// The seats have the numbers 0, 1, 2 and on, in this order, and the value's provenance; none
     /// holds the lock, has seen a word or has work. Where memory is refused the value is dropped.
@@ -25,7 +25,7 @@ impl<V: Kept> TurnCell<V> {
         passes: u32,
     ) -> Result<(TurnCell<V>, Vec<Pass<V>>), NoMemory>
         requires words { V.marks value ≡ marks.now }
-        requires at_rest { AreAtRest marks.now }
+        requires at_home { AreAtHome marks.now }
         requires seats { (0 < passes) × (passes ≤ 64) }
         ensures count { IfOk result (λ c. vec_len c.1 ≡ passes) }
         ensures opened { IfOk result (λ c.
@@ -76,7 +76,7 @@ fn made<V: Kept>(
     passes: u32,
 ) -> Result<(TurnCell<V>, Pass<V>), NoMemory>
     requires words { V.marks value ≡ marks.now }
-    requires at_rest { AreAtRest marks.now }
+    requires at_home { AreAtHome marks.now }
     requires some { 0 < passes }
     ensures own { IfOk result (λ c. IsSeatOf (cell_id c.0) c.1) }
     ensures first { IfOk result (λ c. seat_view c.1 ≡ first_view (V.origin value) (length marks.now) passes) }

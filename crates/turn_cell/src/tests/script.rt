@@ -91,3 +91,31 @@ fn two_seats_take_turns(rt: HostRuntime) -> Result<(), Fail> {
     assert!(rt; end.words[0] == 4 && end.words[1] == 4);
     Ok(())
 }
+
+// The one seat finds the first place waiting for its partner, and brings it to rest.
+fn waiting_place_comes_to_rest<R: Wait + Abort>(rt: &R, cell: &TurnCell<Words>, p: &mut Pass<Words>)
+    requires { IsIdle (cell_id cell.now) (Some 7) 1 0 p.old }
+    ensures { IsIdle (cell_id cell.now) (Some 7) 1 0 p.new }
+{
+    let value = cell.take_turn(rt, p);
+    assert!(rt; value.words[0] == 2 && value.words[1] == 4);
+    let value = stored(cell, p, value, 0, 4);
+    cell.give_back(p, value);
+}
+
+#[test]
+fn a_lock_opens_with_a_waiting_item(rt: HostRuntime) -> Result<(), Fail> {
+    let value = Words {
+        name: 7,
+        words: [2, 4],
+    };
+    let (cell, mut seats) = TurnCell::open(rt.alloc(), value, &[2, 4], 1)?;
+    let Some(mut p) = seats.pop() else {
+        unreachable!()
+    };
+    waiting_place_comes_to_rest(&rt, &cell, &mut p);
+    seats.push_reserved(p);
+    let end = cell.close(seats);
+    assert!(rt; end.words[0] == 4 && end.words[1] == 4);
+    Ok(())
+}
