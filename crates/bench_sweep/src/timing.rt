@@ -1,12 +1,10 @@
 //! The least time of several passes, each of several sweeps, and what they left.
 
-ghost use Rattle.std.specs.Prelude.{◌≡◌, ℕ, ◌<◌};
-ghost use Rattle.plane_sweep.specs.Packed.{part_copy, FitsReplica};
-ghost use Rattle.scalar_rule.specs.Plan.{dynamics_of, slots_of};
-ghost use Rattle.scalar_rule.specs.Replica.{configuration_of, with_configuration};
-ghost use Rattle.scalar_rule.specs.Sweep as model;
+ghost use Rattle.std.specs.Prelude.{◌≡◌};
+ghost use Rattle.plane_sweep.specs.Packed.{FitsReplica};
+ghost use Rattle.scalar_rule.specs.Plan.{slots_of};
 
-use plane_sweep::{Replica, sweep};
+use plane_sweep::{Replica, sweep_often};
 use scalar_rule::Plan;
 use std::io;
 use std::time::Instant;
@@ -27,24 +25,10 @@ pub fn least_of(
     let mut least = u128::MAX;
     'passes: for _ in 0..passes {
         let start = Instant::now(rt)?;
-        sweep_often(rt, replica, plan, sweeps);
+        sweep_often(rt, replica, plan, 0, 1, sweeps);
         least = least.min(start.elapsed(rt)?.as_nanos());
     }
     Ok(least)
-}
-
-// That many sweeps, in one thread.
-fn sweep_often(rt: &HostRuntime, replica: &mut Replica, plan: &Plan, sweeps: u32)
-    requires replica { FitsReplica plan.now.size replica.old }
-    requires slots { slots_of plan.now ≡ 1 }
-    ensures swept { (b : ℕ) → b < 64 → part_copy plan.now.size b replica.new
-        ≡ with_configuration (part_copy plan.now.size b replica.old)
-        (model.sweeps (dynamics_of plan.now b 0) sweeps (configuration_of (part_copy plan.now.size b replica.old))) }
-    ensures fits { FitsReplica plan.now.size replica.new }
-{
-    'sweeps: for _i in 0..sweeps {
-        sweep(rt, replica, plan, 0, 1);
-    }
 }
 
 /// All words in one number, which depends on their order too.

@@ -2,6 +2,9 @@
 use Rattle.std.proofs.Common.{◌≡◌, ℕ, ◌-◌, ◌<◌, ◌≤◌, List, [], ◌++◌, ap, sym, ◌∙◌, subst, arith}
 use Rattle.plane_sweep.specs.Packed.{part, PermutesLabels, StandFits}
 use Rattle.plane_sweep.specs.declared.stand.Stand.{Stand}
+use Rattle.plane_sweep.proofs.LabelEpochs.{serial-permutes}
+use Rattle.plane_sweep.proofs.SampleParts.{part-fits}
+use Rattle.plane_sweep.proofs.SharedWords.{words-part}
 use Rattle.scalar_rule.specs.Epoch.{epoch_records}
 use Rattle.scalar_rule.specs.Laws.{HaveSameWords}
 use Rattle.scalar_rule.specs.Plan.{Plan}
@@ -13,10 +16,8 @@ use Rattle.scalar_rule.proofs.Resuming.{epochs-bit}
 use Rattle.scalar_rule.proofs.SampleWords.{serial-same}
 use Rattle.glass_engine.specs.KeptRun.{sample_at}
 use Rattle.glass_engine.specs.Runs.{RunView, starts, IsEnd}
-use Rattle.glass_engine.proofs.Labels.{serial-permutes}
 use Rattle.glass_engine.proofs.Parts.{bit-part, epoch-part}
 use Rattle.glass_engine.proofs.Pieces.{in_order-same}
-use Rattle.glass_engine.proofs.SharedWords.{words-part}
 
 -- the samples begin as the parts of the starting state, and are driven by a plan that is the run's
 pub record IsDriven (run : RunView) (plan : Plan) (xs ys : List Sample) : Type 0 where
@@ -37,7 +38,7 @@ driven-bits run plan xs ys d b within =
 pub driven-labels : (run : RunView) (plan : Plan) (xs ys : List Sample) → IsDriven run plan xs ys → (b : ℕ) → b < 64 → PermutesLabels plan (sample_at ys b)
 driven-labels run plan xs ys d b within =
     let P : Plan → Type 0 = λ p. PermutesLabels p (sample_at ys b) in
-    subst P (sym d.plan_is) (subst (PermutesLabels run.plan) (sym (driven run plan xs ys d b within)) (serial-permutes run.plan (starts run b) run.until (d.fits.labels b within)))
+    subst P (sym d.plan_is) (subst (PermutesLabels run.plan) (sym (driven run plan xs ys d b within)) (serial-permutes run.plan (starts run b) run.until (part-fits run.plan b run.base within d.fits).pairs (d.fits.labels b within)))
 
 pub driven-words : (run : RunView) (plan : Plan) (xs ys : List Sample) → IsDriven run plan xs ys → (a b : ℕ) → a < 64 → b < 64 → HaveSameWords plan (sample_at ys a) (sample_at ys b)
 driven-words run plan xs ys d a b a_within b_within =

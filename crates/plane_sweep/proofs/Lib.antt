@@ -18,3 +18,8 @@ pub mod PlaneNeighbours
 pub mod SamplePulls
 pub mod SampleSweeps
 pub mod ColourSweeps
+pub mod LevelStands
+pub mod LabelSteps
+pub mod LabelEpochs
+pub mod SharedWords
+pub mod Starting

@@ -1,5 +1,5 @@
 -- A plane's words are updated row by row, and in a row from one column to another.
-use Rattle.std.proofs.Common.{inl, inr, ◌≡◌, ℕ, ◌+◌, ◌-◌, ◌*◌, ◌/◌, ◌%◌, ◌^◌, ◌<◌, ◌≤◌, List, length, get_or, set, refl, sym, ap, subst, ◌∙◌, arith}
+use Rattle.std.proofs.Common.{inl, inr, ◌≡◌, ℕ, zero, ◌+◌, ◌-◌, ◌*◌, ◌/◌, ◌%◌, ◌^◌, ◌<◌, ◌≤◌, List, length, get_or, set, refl, sym, ap, subst, ◌∙◌, arith}
 use Rattle.std.proofs.lemmas.Bool.{cases_lt}
 use Rattle.std.proofs.lemmas.List.{get_or_default, get_or_past, length-set, get_or-set_same, get_or-set_other}
 use Rattle.std.proofs.lemmas.Nat.{div-mul-add, mod-mul-add}
@@ -101,7 +101,7 @@ module _ (s : Surroundings) (rule : SlotRule) (draws : List ℕ) (row : Row) whe
 -- the words of the rows before, and one row more
 pub row-swept : (couplings : CouplingsView) (other : List Plane) (rule : SlotRule) (draws : List ℕ) (c z y : ℕ) (s : Surroundings) (row : Row) (old xs ys : List ℕ)
     → IsLawfulSize couplings.size → y < couplings.size → length old ≡ half_plane couplings.size → Surrounds couplings other c z s → IsRow couplings.size c z y row
-    → SweepsWords couplings other rule draws c z (y * (couplings.size / 2)) old xs → SweepsRow s rule draws row 0 row.half xs ys
+    → SweepsWords couplings other rule draws c z (y * (couplings.size / 2)) old xs → SweepsRow s rule draws row zero row.half xs ys
     → SweepsWords couplings other rule draws c z ((y + 1) * (couplings.size / 2)) old ys
 row-swept couplings other rule draws c z y s row old xs ys lawful within sized around at rows swept =
     let half = couplings.size / 2 in

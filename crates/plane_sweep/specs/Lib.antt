@@ -1,4 +1,8 @@
 pub mod Packed
+pub mod Uneven
+pub mod Cells
+pub mod StartingStates
+pub mod Laws
 pub mod Sharing
 pub mod Beginnings
 pub mod Storing

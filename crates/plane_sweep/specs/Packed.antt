@@ -67,10 +67,14 @@ pub record Permutes (n : ℕ) (f : ℕ → ℕ) : Type 0 where
   pub apart : (t u : ℕ) → t < n → u < n → f t ≡ f u → t ≡ u
   pub onto : (q : ℕ) → q < n → (t : ℕ) × (t < n) × (f t ≡ q)
 
--- the labels of a sample over the slots are the slots' numbers, each once, in each replica
-pub record PermutesLabels (plan : Plan) (s : Sample) : Type 0 where
-  pub first : Permutes (slots_of plan) (λ t. (slot_at s.slots t).first.replica)
-  pub second : Permutes (slots_of plan) (λ t. (slot_at s.slots t).second.replica)
+-- the labels of n slots are the slots' numbers, each once, in each replica
+pub record PermutesAt (n : ℕ) (slots : ℕ → PlainSlot) : Type 0 where
+  pub first : Permutes n (λ t. (slots t).first.replica)
+  pub second : Permutes n (λ t. (slots t).second.replica)
+
+-- those of a sample
+abbrev pub PermutesLabels : Plan → Sample → Type 0
+PermutesLabels plan s = PermutesAt (slots_of plan) (λ t. slot_at s.slots t)
 
 -- a plane has a word of 64 bits for each of its sites, and a generator
 pub record FitsPlane (l : ℕ) (plane : Plane) : Type 0 where

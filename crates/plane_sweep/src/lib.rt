@@ -1,9 +1,11 @@
 //! The state of 64 disorder samples, one bit of a word each, and its checkerboard sweep.
 #![tactic(auto)]
 
+mod cells;
 mod copying;
 mod generators;
 mod lanes;
+mod laws;
 mod opening;
 mod parts;
 mod random_words;
@@ -15,8 +17,14 @@ mod surroundings;
 mod sweeping;
 #[cfg(test)]
 mod tests;
+mod uneven;
 
+pub use cells::{Cell, cell_at, deepest, has_record, shallowest};
+pub use laws::{
+    labels_permute_after_epochs, labels_permute_after_exchange, parts_are_starting_states,
+};
 pub use parts::site_word;
 pub use replica::{Duo, Plane, Replica};
 pub use stand::{PairWheels, Stand};
-pub use sweeping::sweep;
+pub use sweeping::{sweep, sweep_often};
+pub use uneven::{Place, RaggedStand, record_in_range};

@@ -32,7 +32,30 @@ pub fn sweep<R: Sync>(_rt: &R, replica: &mut Replica, plan: &Plan, slot: u32, pi
     sweep_replica(replica, plan, slot);
 }
 
-// The same, in one run a colour.
+/// That many sweeps of a replica of a temperature slot, as `sweep` makes one.
+pub fn sweep_often<R: Sync>(
+    rt: &R,
+    replica: &mut Replica,
+    plan: &Plan,
+    slot: u32,
+    pieces: u32,
+    count: u32,
+)
+    requires replica { FitsReplica plan.now.size replica.old }
+    requires slot { slot < slots_of plan.now }
+    requires some_pieces { 1 ≤ pieces }
+    requires few_pieces { pieces ≤ 16 }
+    ensures swept { (b : ℕ) → b < 64 → part_copy plan.now.size b replica.new
+        ≡ with_configuration (part_copy plan.now.size b replica.old)
+        (model.sweeps (dynamics_of plan.now b slot) count (configuration_of (part_copy plan.now.size b replica.old))) }
+    ensures fits { FitsReplica plan.now.size replica.new }
+{
+    'sweeps: for _ in 0..count {
+        sweep(rt, replica, plan, slot, pieces);
+    }
+}
+
+// A sweep, in one run a colour.
 fn sweep_replica(replica: &mut Replica, plan: &Plan, slot: u32)
     requires replica { FitsReplica plan.now.size replica.old }
     requires slot { slot < slots_of plan.now }

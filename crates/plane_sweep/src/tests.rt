@@ -5,7 +5,7 @@ ghost use Rattle.plane_sweep.specs.Packed.{PermutesLabels, StandFits};
 ghost use Rattle.scalar_rule.specs.Shape.{Fits};
 ghost use Rattle.spin_model.specs.Lattice.{volume};
 
-use crate::{Replica, Stand, sweep};
+use crate::{Place, RaggedStand, Replica, Stand, sweep};
 use coupling_set::Couplings;
 use lattice_geometry::Lattice;
 use pr_generator::Wheel;
@@ -144,6 +144,25 @@ fn a_stored_sample_comes_back_and_the_others_stay(rt: HostRuntime) -> Result<(),
         assert!(rt; same_spins_everywhere(&part, &before), "sample {bit}");
         assert_eq!(rt; part.epoch, 3, "sample {bit}");
     }
+    Ok(())
+}
+
+#[test]
+fn a_level_state_is_made_and_copied(rt: HostRuntime) -> Result<(), Fail> {
+    let alloc = rt.alloc();
+    let plan = plan_of(alloc, 4, RuleKind::Heat)?;
+    let mut stand = Stand::opening(alloc, &plan, Start::Up)?;
+    stand.epoch = 5;
+    let level = RaggedStand::level(alloc, stand)?;
+    let copy = level.copy(alloc)?;
+    let place = Place {
+        epoch: 5,
+        arrived: false,
+    };
+    assert!(rt; copy.places.as_slice() == [place, place].as_slice());
+    assert!(rt; copy.pending.is_empty());
+    assert_eq!(rt; copy.slots.len(), 2);
+    assert_eq!(rt; copy.pairs.len(), 1);
     Ok(())
 }
 

@@ -1,11 +1,14 @@
 -- Values that were worked out apart from this repository, so that a wrong rule in the definitions does not check.
-use Rattle.std.proofs.Common.{◌≡◌, ℕ, ◌-◌, ◌^◌, [], ◌∷◌, Bool, true, false, refl}
+use Rattle.std.proofs.Common.{◌≡◌, ℕ, ◌-◌, ◌^◌, [], ◌∷◌, List, Bool, true, false, refl}
 use Rattle.std.specs.Prelude.{◌==◌, map, replicate}
+use Rattle.spin_model.specs.Steps.{count_below}
 use Rattle.spin_model.specs.Lattice.{forward, backward}
 use Rattle.scalar_rule.specs.Neighbours.{aligned, satisfied}
 use Rattle.scalar_rule.specs.Exchange.{is_swapped}
 use Rattle.scalar_rule.specs.Epoch.{has_turn, has_partner, pair_of, partner}
+use Rattle.scalar_rule.specs.Ragged.{Position}
 use Rattle.scalar_rule.specs.Records.{is_recorded}
+use Rattle.scalar_rule.specs.Positions.{least, greatest, sum_below, done, position_in, floor_of, deepest_of, cell_number, pending_before, pending_count}
 
 -- a colder slot with as many unsatisfied bonds or more is always swapped, also without an entry and at the greatest draw
 pub ties_and_falls : map (λ hot. is_swapped ([] ∷ []) 0 (2 ^ 32 - 1) 10 hot) (8 ∷ 10 ∷ 12 ∷ []) ≡ true ∷ true ∷ false ∷ []
@@ -47,3 +50,21 @@ pub counts_at_a_negative_bond : (map (aligned 4 one_negative (replicate 64 true)
     × (map (satisfied 4 one_negative (replicate 64 true)) (0 ∷ 1 ∷ 3 ∷ []) ≡ 5 ∷ 5 ∷ 6 ∷ [])
 unfolding aligned satisfied forward backward
 counts_at_a_negative_bond = (refl, refl)
+
+-- three slots: the first waits at epoch 2, the second is at rest at 1, the third waits there
+pub three_slots : List Position
+three_slots = record { epoch = 2; waits = true } ∷ record { epoch = 1; waits = false } ∷ record { epoch = 1; waits = true } ∷ []
+
+-- so they have completed 3, 1 and 2 epochs
+pub epochs_of_three_slots : (floor_of three_slots ≡ 1) × (deepest_of three_slots ≡ 3) × (sum_below (λ t. done (position_in three_slots t)) 3 ≡ 6)
+unfolding least greatest sum_below three_slots
+epochs_of_three_slots = (refl, refl, refl)
+
+-- and with two samples six records are kept ahead of epoch 1: of epoch 1 slots 0 and 2 in sample 0, then in sample 1; of
+-- epoch 2 slot 0 in both
+pub records_of_three_slots : (pending_count 2 1 three_slots ≡ 6)
+    × (map (λ (t : ℕ). pending_before 2 1 three_slots (cell_number 1 2 3 1 0 t)) (0 ∷ 2 ∷ []) ≡ 0 ∷ 1 ∷ [])
+    × (map (λ (t : ℕ). pending_before 2 1 three_slots (cell_number 1 2 3 1 1 t)) (0 ∷ 2 ∷ []) ≡ 2 ∷ 3 ∷ [])
+    × (map (λ (b : ℕ). pending_before 2 1 three_slots (cell_number 1 2 3 2 b 0)) (0 ∷ 1 ∷ []) ≡ 4 ∷ 5 ∷ [])
+unfolding least greatest count_below three_slots
+records_of_three_slots = (refl, refl, refl, refl)

@@ -9,6 +9,7 @@ use Rattle.scalar_rule.specs.Epoch.{slot_at, pair_at, swept_slot, swept_slots, h
 use Rattle.scalar_rule.specs.Exchange.{drawn_pair}
 use Rattle.scalar_rule.specs.Laws.{level_start}
 use Rattle.scalar_rule.specs.Ragged.{Position, position_at, generators, waiting_from, ready}
+use Rattle.scalar_rule.specs.Serial.{serial}
 use Rattle.scalar_rule.specs.declared.sample.PlainSlot.{PlainSlot}
 use Rattle.scalar_rule.specs.declared.sample.PlainPair.{PlainPair}
 use Rattle.scalar_rule.specs.declared.sample.Sample.{Sample}
@@ -176,3 +177,14 @@ ready-level plan s (suc m) t below =
     (λ has. content (partner t e) (partner-below n t e below has))
     (λ has. generators-level plan s (pair_of t e) m (pair-below n t e below has))
     ∙ sym (epoch-slot plan x s.bit e t bit here below)
+
+-- epoch e of the dynamics
+pub ready-serial : (plan : Plan) (s : Sample) (e t : ℕ) → s.epoch ≤ e → t < slots_of plan → ready plan (level_start plan s) e t ≡ slot_at (serial plan s e).slots t
+ready-serial plan s e t from h =
+    let there : s.epoch + (e - s.epoch) ≡ e = omega arith in
+    ap (λ n. ready plan (level_start plan s) n t) (sym there) ∙ ready-level plan s (e - s.epoch) t h
+
+pub generators-serial : (plan : Plan) (s : Sample) (e k : ℕ) → s.epoch ≤ e → k < pairs_of plan → generators plan (level_start plan s) k e ≡ pair_at (serial plan s e).pairs k
+generators-serial plan s e k from h =
+    let there : s.epoch + (e - s.epoch) ≡ e = omega arith in
+    ap (λ n. generators plan (level_start plan s) k n) (sym there) ∙ generators-level plan s k (e - s.epoch) h

@@ -16,3 +16,11 @@ pub mod Shifts
 pub mod EnergyParity
 pub mod KnownValues
 pub mod ComputedStates
+pub mod SlotPartners
+pub mod UnevenContents
+pub mod UnevenReached
+pub mod Extremes
+pub mod InStep
+pub mod Cells
+pub mod LevelRuns
+pub mod ReachedRuns

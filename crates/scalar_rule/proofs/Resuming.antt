@@ -46,7 +46,7 @@ serial-serial plan s c e from to =
 flat_map-one : {X : Type 0} (g h : ℕ → List X) (k : ℕ) → g k ≡ h k → flat_map g (k ∷ []) ≡ flat_map h (k ∷ [])
 flat_map-one g h k same = flat_map-cons g k [] ∙ ap (λ v. v ++ []) same ∙ sym (flat_map-cons h k [])
 
-flat_map-table : {X : Type 0} (g h : ℕ → List X) (item : ℕ → ℕ) (n : ℕ) → ((k : ℕ) → k < n → g (item k) ≡ h (item k)) → flat_map g (table item n) ≡ flat_map h (table item n)
+pub flat_map-table : {X : Type 0} (g h : ℕ → List X) (item : ℕ → ℕ) (n : ℕ) → ((k : ℕ) → k < n → g (item k) ≡ h (item k)) → flat_map g (table item n) ≡ flat_map h (table item n)
 unfolding table
 flat_map-table g h item zero same = refl
 flat_map-table g h item (suc n) same =

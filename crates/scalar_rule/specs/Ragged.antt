@@ -1,11 +1,13 @@
 -- The content of a slot whose epoch may differ from other slots': at rest at an epoch, and waiting for its partner
 -- there. It speaks of one disorder sample.
 use Rattle.std.specs.Prelude.{ℕ, zero, suc, Bool, not, ◌&&◌, false, ◌==◌, nat_le, if◌then◌else◌, List, slice_index_or}
-use Rattle.scalar_rule.specs.Plan.{Plan, slots_of}
+use Rattle.spin_model.specs.Steps.{table}
+use Rattle.scalar_rule.specs.Plan.{Plan, slots_of, pairs_of}
 use Rattle.scalar_rule.specs.Epoch.{has_turn, has_partner, partner, pair_of, side, pair_at, slot_at, swept_slot}
 use Rattle.scalar_rule.specs.Exchange.{drawn_pair}
 use Rattle.scalar_rule.specs.declared.sample.PlainSlot.{PlainSlot}
 use Rattle.scalar_rule.specs.declared.sample.PlainPair.{PlainPair}
+use Rattle.scalar_rule.specs.declared.sample.Sample.{Sample}
 
 -- an epoch, and whether the slot is swept there and waits for its partner; else it is at rest
 pub record Position : Type 0 where
@@ -50,3 +52,12 @@ ready plan s (suc e) t =
 -- the content of slot t that waits at epoch e, for epochs not before its own position
 abbrev pub arrived : Plan → UnevenState → ℕ → ℕ → PlainSlot
 arrived plan s e t = waiting_from plan s e t (ready plan s e t)
+
+-- the state with every slot at rest at epoch e, for epochs not before a position
+abbrev pub all_ready : Plan → UnevenState → ℕ → Sample
+all_ready plan s e = record {
+  bit = s.bit;
+  epoch = e;
+  slots = table (λ t. ready plan s e t) (slots_of plan);
+  pairs = table (λ k. generators plan s k e) (pairs_of plan);
+}

@@ -9,7 +9,7 @@ use Rattle.scalar_rule.specs.declared.sample.Sample.{Sample}
 use Rattle.plane_sweep.specs.declared.stand.Stand.{Stand}
 use Rattle.glass_engine.specs.KeptRun.{sample_at}
 use Rattle.glass_engine.proofs.Advancing.{sample-read}
-use Rattle.glass_engine.proofs.SharedWords.{sharing-same}
+use Rattle.plane_sweep.proofs.SharedWords.{sharing-same}
 use Rattle.glass_engine.proofs.driving.store_samples.Goals as goal
 
 pub store-requires-clause-labels : goal.store-requires-clause-labels
