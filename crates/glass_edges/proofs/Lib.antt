@@ -1,5 +1,6 @@
 pub mod FirstByIndex
 pub mod FirstRefusals
 pub mod Firsts
+pub mod KnownBytes
 pub mod Maps
 pub mod Puts

@@ -14,8 +14,8 @@ appended-nothing None = refl
 appended-nothing (Some xs) = ap Some (append-nil xs)
 
 -- after the first bytes, n bytes of the rest
-pub appended-rest : (o : Option (List ℕ)) (bytes : List ℕ) (at n : ℕ) → appended (appended o (take at bytes)) (take n (take (length bytes - at) (drop at bytes))) ≡ appended o (take (at + n) bytes)
-appended-rest o bytes at n = rw (take_rest bytes at, take-add at n bytes) (appended-appended o (take at bytes) (take n (drop at bytes)))
+pub appended_rest : (o : Option (List ℕ)) (bytes : List ℕ) (at n : ℕ) → appended (appended o (take at bytes)) (take n (take (length bytes - at) (drop at bytes))) ≡ appended o (take (at + n) bytes)
+appended_rest o bytes at n = rw (take_rest bytes at, take-add at n bytes) (appended-appended o (take at bytes) (take n (drop at bytes)))
 
 -- something is left where not all is put
 pub rest_left : (bytes : List ℕ) (at : ℕ) → at < length bytes → 0 < length (take (length bytes - at) (drop at bytes))

@@ -3,10 +3,10 @@
 ghost use Rattle.std.specs.Prelude.{◌≡◌, ◌+◌, ◌≤◌, ℕ, length, None, OnOk, OnErr};
 ghost use Rattle.glass_edges.specs.Causes.{one_more};
 
+use crate::file_bytes::{read_opened, write_created};
 use crate::{Fault, Fetched, Shelf};
 use std::alloc::Global;
 use std::fs::File;
-use std::io::{ErrorKind, Read, Write};
 use std::marker::Model;
 use std::rt::Files;
 
@@ -49,7 +49,7 @@ impl<R: Files + Drop> Shelf for FileShelf<R> {
         ensures uncounted { ¬ (result ≡ Fetched.Failed) → self.new ≡ self.old }
         ensures later { self.old ≤ self.new }
     {
-        let fetched = read_file(&self.rt, alloc, name, limit);
+        let fetched = read_opened(File::open(&self.rt, name), alloc, limit);
         if let Fetched::Failed = fetched {
             self.faults = self.faults.saturating_add(1);
         }
@@ -61,61 +61,10 @@ impl<R: Files + Drop> Shelf for FileShelf<R> {
         ensures uncounted { OnOk result (self.new ≡ self.old) }
         ensures later { self.old ≤ self.new }
     {
-        let written = write_file(&self.rt, name, bytes);
+        let written = write_created(File::create(&self.rt, name), bytes);
         if written.is_err() {
             self.faults = self.faults.saturating_add(1);
         }
         written
     }
-}
-
-/// Reads a file of at most `limit` bytes.
-fn read_file<R: Files>(rt: &R, alloc: Global, name: &str, limit: u64) -> Fetched
-    ensures limit { (v : _) → result ≡ Fetched.Held v → length v.items ≤ limit }
-    ensures one_past { (n : ℕ) → result ≡ Fetched.TooLong n → n ≡ limit + 1 }
-{
-    match File::open(rt, name) {
-        Ok(mut file) => read_within(&mut file, alloc, limit),
-        Err(error) if error.kind() == ErrorKind::NotFound => Fetched::Absent,
-        Err(_) => Fetched::Failed,
-    }
-}
-
-/// Reads to the end, or one byte past the limit.
-fn read_within<F: Read>(file: &mut F, alloc: Global, limit: u64) -> Fetched
-    ensures limit { (v : _) → result ≡ Fetched.Held v → length v.items ≤ limit }
-    ensures one_past { (n : ℕ) → result ≡ Fetched.TooLong n → n ≡ limit + 1 }
-{
-    let mut bytes = Vec::new(alloc);
-    let mut chunk = [0u8; 4096];
-    'chunks: for _ in 0..u64::MAX {
-        let left = limit.saturating_sub(bytes.len() as u64);
-        let most = left.saturating_add(1).min(4096) as usize;
-        match file.read(&mut chunk[..most]) {
-            Ok(0) => return Fetched::Held(bytes),
-            Ok(count) if count as u64 > left => return Fetched::TooLong(limit + 1),
-            Ok(count) => {
-                if bytes.extend_from_slice(&chunk[..count]).is_err() {
-                    return Fetched::NoMemory;
-                }
-            }
-            Err(_) => return Fetched::Failed,
-        }
-    }
-    Fetched::Failed
-}
-
-/// Writes a file, piece by piece.
-fn write_file<R: Files>(rt: &R, name: &str, bytes: &[u8]) -> Result<(), Fault> {
-    let Ok(mut file) = File::create(rt, name) else {
-        return Err(Fault);
-    };
-    let mut at = 0;
-    'pieces: while at < bytes.len() {
-        match file.write(&bytes[at..]) {
-            Ok(count) if count > 0 => at += count,
-            _ => return Err(Fault),
-        }
-    }
-    Ok(())
 }

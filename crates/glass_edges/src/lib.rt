@@ -5,6 +5,7 @@
 #![tactic(auto)]
 
 mod entries;
+mod file_bytes;
 mod file_shelf;
 mod first_refusal;
 mod gate;

@@ -1,6 +1,6 @@
 //! The buffer in which a line of text is made.
 
-ghost use Rattle.std.specs.Prelude.{◌≡◌, ◌+◌, ◌≤◌, ◌↔◌, IsTrue, [], ◌++◌, length, decimal, OnOk, OnErr};
+ghost use Rattle.std.specs.Prelude.{◌≡◌, ◌+◌, ◌≤◌, ◌↔◌, IsTrue, [], ◌++◌, length, decimal, Ok, OnOk, OnErr};
 ghost use Rattle.std.specs.Fmt.{signed_decimal};
 ghost use Rattle.glass_edges.specs.Causes.{HasCause};
 ghost use Rattle.glass_edges.specs.Contents.{appended, AppendsPrefix, PutsFront};
@@ -97,25 +97,29 @@ impl Line {
     }
 
     /// Puts the text and makes it empty. At an error, which counts a fault, the output has taken a
-    /// prefix of it.
+    /// prefix of it, and the line keeps all of it.
     pub fn put<O: Sink>(&mut self, out: &mut O) -> Result<(), Fault>
         ensures whole { OnOk result (O.taken out.new ≡ appended (O.taken out.old) self.old) }
         ensures prefix { OnErr result (AppendsPrefix (O.taken out.old) (O.taken out.new) self.old) }
         ensures cause { HasCause (O.faults out.old) (O.faults out.new) result }
         ensures emptied { OnOk result (self.new ≡ []) }
+        ensures kept { OnErr result (self.new ≡ self.old) }
     {
         put_all(out, self.as_slice())?;
         self.clear();
         Ok(())
     }
 
-    /// Puts the text where `count` more bytes would not fit behind it.
+    /// Puts the text where `count` more bytes would not fit behind it, and does nothing where they
+    /// would.
     pub fn make_room<O: Sink>(&mut self, out: &mut O, count: usize) -> Result<(), Fault>
         requires { count ≤ 256 }
         ensures room { OnOk result (length self.new + count ≤ 256) }
         ensures front { OnOk result (PutsFront (O.taken out.old) (O.taken out.new) self.old self.new) }
         ensures prefix { OnErr result (AppendsPrefix (O.taken out.old) (O.taken out.new) self.old) }
         ensures cause { HasCause (O.faults out.old) (O.faults out.new) result }
+        ensures stays { length self.old + count ≤ 256
+            → (result ≡ Ok tt) × (self.new ≡ self.old) × (out.new ≡ out.old) }
     {
         if self.len() > 256 - count {
             return self.put(out);
@@ -124,10 +128,13 @@ impl Line {
     }
 
     /// Adds bytes of any number; what does not fit goes out in full buffers, and the rest stays.
+    /// Where all of them fit nothing is put.
     pub fn extend<O: Sink>(&mut self, out: &mut O, bytes: &[u8]) -> Result<(), Fault>
         ensures front { OnOk result (PutsFront (O.taken out.old) (O.taken out.new) (self.old ++ bytes.now) self.new) }
         ensures prefix { OnErr result (AppendsPrefix (O.taken out.old) (O.taken out.new) (self.old ++ bytes.now)) }
         ensures cause { HasCause (O.faults out.old) (O.faults out.new) result }
+        ensures stays { length self.old + length bytes.now ≤ 256
+            → (result ≡ Ok tt) × (self.new ≡ self.old ++ bytes.now) × (out.new ≡ out.old) }
     {
         let mut at = 0;
         'pieces: while at < bytes.len() {

@@ -30,7 +30,8 @@ pub trait Shelf {
     /// How often it has failed: a count that never falls and stays at its last value, 2^64 - 1.
     ghost faults: { Self → ℕ };
 
-    /// Reads the file of this name, of at most `limit` bytes. No file changes.
+    /// Reads the file of this name, of at most `limit` bytes. No file changes, and a fault is counted
+    /// where reading failed and nowhere else.
     fn fetch(&mut self, alloc: Global, name: &str, limit: u64) -> Fetched
         ensures held { (v : _) → result ≡ Fetched.Held v → HoldsFile (holds self.old) name.now v.items }
         ensures limit { (v : _) → result ≡ Fetched.Held v → length v.items ≤ limit }
@@ -38,11 +39,12 @@ pub trait Shelf {
         ensures above { (n : ℕ) → result ≡ Fetched.TooLong n → limit < n }
         ensures long { (n : ℕ) → result ≡ Fetched.TooLong n → HoldsAtLeast (holds self.old) name.now n }
         ensures failed { result ≡ Fetched.Failed → Rose (faults self.old) (faults self.new) }
+        ensures quiet { ¬ (result ≡ Fetched.Failed) → faults self.new ≡ faults self.old }
         ensures later { faults self.old ≤ faults self.new }
         ensures same { holds self.new ≡ holds self.old };
 
-    /// Sets the file of this name to exactly these bytes. At an error, which counts a fault, that
-    /// name may hold anything, and all other names stay.
+    /// Sets the file of this name to exactly these bytes, and counts no fault. At an error, which
+    /// counts a fault, that name may hold anything, and all other names stay.
     fn place(&mut self, name: &str, bytes: &[u8]) -> Result<(), Fault>
         ensures placed { OnOk result (Placed (holds self.old) (holds self.new) name.now bytes.now) }
         ensures others { OnErr result (SameElsewhere (holds self.old) (holds self.new) name.now) }

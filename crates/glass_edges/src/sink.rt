@@ -15,7 +15,7 @@ pub trait Sink {
     ghost faults: { Self → ℕ };
 
     /// Takes the first bytes of the piece, at least one of a piece that isn't empty, and answers
-    /// how many. At an error, which counts a fault, it has taken none.
+    /// how many; no fault is counted then. At an error, which counts a fault, it has taken none.
     fn put(&mut self, piece: &[u8]) -> Result<usize, Fault>
         ensures taken { IfOk result (λ n. taken self.new ≡ appended (taken self.old) (take n piece.now)) }
         ensures within { IfOk result (λ n. n ≤ length piece.now) }
@@ -24,8 +24,9 @@ pub trait Sink {
         ensures cause { HasCause (faults self.old) (faults self.new) result };
 }
 
-/// Puts all of the bytes, piece by piece; where there are none it makes no put. At an error, which
-/// counts a fault, the output has taken a prefix of them.
+/// Puts all of the bytes, piece by piece; where there are none it makes no put. It ends at the first
+/// error, which counts a fault: the output has then taken a prefix of them.
+#[tactic(auto, using(crate::proofs::Puts::appended_rest, crate::proofs::Puts::rest_left))]
 pub fn put_all<S: Sink>(sink: &mut S, bytes: &[u8]) -> Result<(), Fault>
     ensures whole { OnOk result (S.taken sink.new ≡ appended (S.taken sink.old) bytes.now) }
     ensures prefix { OnErr result (AppendsPrefix (S.taken sink.old) (S.taken sink.new) bytes.now) }

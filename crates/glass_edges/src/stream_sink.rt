@@ -1,7 +1,7 @@
 //! The adapter over a stream of the system.
 
 ghost use Rattle.std.specs.Prelude.{◌≡◌, ◌<◌, ◌≤◌, None, length, take, IfOk, OnOk, OnErr};
-ghost use Rattle.std.specs.Io.KnownBytes.{Appends};
+ghost use Rattle.std.specs.Io.KnownBytes.{Appends, Keeps};
 ghost use Rattle.glass_edges.specs.Causes.{one_more};
 
 use crate::{Fault, Sink};
@@ -38,11 +38,12 @@ impl<W: Write + Drop> Sink for StreamSink<W> {
     ghost faults = { λ s. s.1 };
 
     /// Writes once. Each error of the system is a fault, also an interrupted call, and so is a
-    /// length of 0 for a piece that isn't empty.
+    /// length of 0 for a piece that isn't empty; the writer then holds what it held.
     fn put(&mut self, piece: &[u8]) -> Result<usize, Fault>
         ensures within { IfOk result (λ n. n ≤ length piece.now) }
         ensures some { IfOk result (λ n. 0 < length piece.now → 0 < n) }
         ensures written { IfOk result (λ n. Appends (W.contents self.old.0) (W.contents self.new.0) (take n piece.now)) }
+        ensures unwritten { OnErr result (Keeps (W.contents self.old.0) (W.contents self.new.0)) }
         ensures counted { OnErr result (self.new.1 ≡ one_more self.old.1) }
         ensures uncounted { OnOk result (self.new.1 ≡ self.old.1) }
         ensures later { self.old.1 ≤ self.new.1 }

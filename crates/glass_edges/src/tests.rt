@@ -1,12 +1,13 @@
 ghost use Rattle.std.specs.Prelude.{◌<◌};
 
+use crate::file_bytes::{read_opened, write_pieces};
 use crate::{
     Fault, FileShelf, Gate, HonestShelf, HonestSink, Line, MemoryShelf, MemorySink, NoMemory,
     OpenGate, Shelf, Sink, StreamSink, first_found_is_first, put_all,
 };
 use std::alloc::{AllocError, Global};
 use std::fs;
-use std::io::{self, ErrorKind, Write};
+use std::io::{self, ErrorKind, Read, Write};
 use std::test::Fail;
 
 /// An output with room for so many bytes, at most `most` at a put; the put of this number fails.
@@ -130,18 +131,38 @@ fn a_line_lets_a_long_text_out_in_full_buffers(rt: HostRuntime) -> Result<(), Fa
     Ok(())
 }
 
-/// A writer with a fault: it answers an error, or that it has written nothing.
+/// A writer that takes two bytes at a time. The write of one number, from 0, fails: with an error of
+/// a kind, or by taking nothing.
 #[derive(Drop)]
 struct FaultyWriter {
-    interrupted: bool,
+    taken: Vec<u8>,
+    fault: Option<ErrorKind>,
+    failing: u64,
+    writes: u64,
+}
+
+impl FaultyWriter {
+    fn new(alloc: Global, fault: Option<ErrorKind>, failing: u64) -> FaultyWriter {
+        FaultyWriter {
+            taken: Vec::new(alloc),
+            fault,
+            failing,
+            writes: 0,
+        }
+    }
 }
 
 impl Write for FaultyWriter {
-    fn write(&mut self, _buf: &[u8]) -> io::Result<usize> {
-        if self.interrupted {
-            return Err(io::Error::from(ErrorKind::Interrupted));
+    fn write(&mut self, buf: &[u8]) -> io::Result<usize> {
+        let number = self.writes;
+        self.writes = self.writes.saturating_add(1);
+        if number != self.failing {
+            return self.taken.write(&buf[..buf.len().min(2)]);
         }
-        Ok(0)
+        match self.fault {
+            Some(kind) => Err(io::Error::from(kind)),
+            None => Ok(0),
+        }
     }
 
     fn flush(&mut self) -> io::Result<()> {
@@ -157,10 +178,91 @@ fn stream_sink_over_a_memory_writer(rt: HostRuntime) -> Result<(), Fail> {
         assert!(rt; put_all(&mut sink, text.as_bytes()).is_ok());
     }
     assert_eq!(rt; written.as_slice(), b"energy,-192\n".as_slice());
-    for interrupted in [false, true] {
-        let mut sink = StreamSink::of(FaultyWriter { interrupted });
-        assert!(rt; sink.put(b"a").is_err());
-        assert_eq!(rt; sink.put(b"").is_err(), interrupted);
+    Ok(())
+}
+
+#[test]
+fn a_failed_write_is_not_tried_again(rt: HostRuntime) -> Result<(), Fail> {
+    let faults = [
+        None,
+        Some(ErrorKind::Interrupted),
+        Some(ErrorKind::StorageFull),
+    ];
+    for fault in faults {
+        let mut stream = FaultyWriter::new(rt.alloc(), fault, 2);
+        assert!(rt; put_all(&mut StreamSink::of(&mut stream), b"0123456").is_err());
+        let mut file = FaultyWriter::new(rt.alloc(), fault, 2);
+        assert!(rt; write_pieces(&mut file, b"0123456").is_err());
+        for writer in [stream, file] {
+            assert_eq!(rt; writer.taken.as_slice(), b"0123".as_slice());
+            assert_eq!(rt; writer.writes, 3);
+        }
+    }
+    let mut sink = StreamSink::of(FaultyWriter::new(rt.alloc(), None, 0));
+    assert_eq!(rt; sink.put(b""), Ok(0));
+    Ok(())
+}
+
+/// A reader of ten digits that gives three at a time. The read of one number, from 0, fails.
+#[derive(Drop)]
+struct FaultyReader {
+    given: usize,
+    failing: u64,
+    reads: u64,
+}
+
+impl Read for FaultyReader {
+    fn read(&mut self, buf: &mut [u8]) -> io::Result<usize> {
+        let number = self.reads;
+        self.reads = self.reads.saturating_add(1);
+        if number == self.failing {
+            return Err(io::Error::from(ErrorKind::Interrupted));
+        }
+        let mut rest = &b"0123456789"[self.given.min(10)..];
+        let most = buf.len().min(3);
+        let count = rest.read(&mut buf[..most])?;
+        self.given = self.given.saturating_add(count);
+        Ok(count)
+    }
+}
+
+#[test]
+fn a_short_read_is_no_end_and_a_failed_one_is_told(rt: HostRuntime) -> Result<(), Fail> {
+    // The read that fails, the limit, what is answered, and after how many reads.
+    let cases = [
+        (9, 10, "Held([48, 49, 50, 51, 52, 53, 54, 55, 56, 57])", 5),
+        (9, 9, "TooLong(10)", 4),
+        (0, 10, "Failed", 1),
+        (2, 10, "Failed", 3),
+        (4, 10, "Failed", 5),
+    ];
+    for (failing, limit, answer, reads) in cases {
+        let mut file = FaultyReader {
+            given: 0,
+            failing,
+            reads: 0,
+        };
+        let fetched = read_opened(Ok(&mut file), rt.alloc(), limit);
+        let told = format!(in rt.alloc(); "{:?}", fetched)?;
+        assert_eq!(rt; told.as_str(), answer, "{failing} {limit}");
+        assert_eq!(rt; file.reads, reads, "{failing} {limit}");
+    }
+    Ok(())
+}
+
+#[test]
+fn a_name_that_the_system_does_not_find_is_absent(rt: HostRuntime) -> Result<(), Fail> {
+    let kinds = [
+        (ErrorKind::NotFound, "Absent"),
+        (ErrorKind::PermissionDenied, "Failed"),
+        (ErrorKind::NotADirectory, "Failed"),
+        (ErrorKind::Interrupted, "Failed"),
+    ];
+    for (kind, answer) in kinds {
+        let opened: io::Result<FaultyReader> = Err(io::Error::from(kind));
+        let fetched = read_opened(opened, rt.alloc(), 10);
+        let told = format!(in rt.alloc(); "{:?}", fetched)?;
+        assert_eq!(rt; told.as_str(), answer, "{kind:?}");
     }
     Ok(())
 }

@@ -7,7 +7,7 @@ abbrev pub invariant-pieces : goal.invariant-pieces
 invariant-pieces g l = record {
   within : l.at ≤ length l.bytes;
   taken : g.S.Sink.taken l.sink ≡ appended (g.S.Sink.taken l.fn.sink) (take l.at l.bytes);
-  later : g.S.Sink.faults l.fn.sink ≤ g.S.Sink.faults l.sink;
+  passed : g.S.Sink.faults l.sink ≡ g.S.Sink.faults l.fn.sink;
   untouched : l.at ≡ 0 → l.sink ≡ l.fn.sink;
 }
 

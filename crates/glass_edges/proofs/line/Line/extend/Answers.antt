@@ -1,5 +1,5 @@
 -- Each round puts a front of the text so far where the line is full, and adds what fits.
-use Rattle.std.proofs.Common.{rules, arith, ◌≡◌, ℕ, ◌+◌, ◌-◌, List, ◌++◌, take, drop, sym, ap, ◌∙◌, subst, append_assoc}
+use Rattle.std.proofs.Common.{rules, arith, ◌≡◌, ℕ, ◌+◌, ◌-◌, ◌<◌, List, ◌++◌, length, take, drop, sym, ap, ◌∙◌, subst, append_assoc, length-append, length-take-le}
 use Rattle.std.proofs.Math.Seq.{take-add}
 use Rattle.std.proofs.lemmas.List.{take-append-drop}
 use Rattle.glass_edges.specs.Contents.{PutsFront, AppendsPrefix}
@@ -23,7 +23,17 @@ pieces-preserved g c = record {
   front = subst (λ text. PutsFront (g.O.Sink.taken c.args.out.now) (g.O.Sink.taken c.make_room.new.out) text c.add.new.self)
       (text-more c.args.self.now c.args.bytes.now c.pieces.at c.min-count.result)
       (front-step _ _ _ _ _ _ _ _ c.pieces.invariant.front c.in_ok-make_room.ensures.front c.add.ensures);
-  later = search (rules, arith);
+  passed = c.in_ok-make_room.ensures.cause.passed ∙ c.pieces.invariant.passed;
+  stays = λ fits.
+      let some : 0 < c.min-count.result = omega (arith, c.min-count.ensures, c.len.ensures.value, c.in_ok-make_room.ensures.room, c.pieces-test.true) in
+      let before = c.pieces.invariant.stays (omega (arith, fits)) in
+      let long : length c.pieces.self ≡ length c.args.self.now + c.pieces.at =
+      ap length before.0 ∙ length-append c.args.self.now _ ∙ ap (λ n. length c.args.self.now + n) (length-take-le c.pieces.at c.args.bytes.now c.pieces.invariant.within) in
+      let room = c.make_room.ensures.stays (omega (arith, long, fits, some)) in (
+        c.add.ensures ∙ ap (λ xs. xs ++ take (c.pieces.at + c.min-count.result - c.pieces.at) (drop c.pieces.at c.args.bytes.now)) (room.1 ∙ before.0)
+            ∙ text-more c.args.self.now c.args.bytes.now c.pieces.at c.min-count.result,
+        room.2 ∙ before.1,
+      );
 }
 
 pub returns-in_err-make_room-clause-prefix : goal.returns-in_err-make_room-clause-prefix
