@@ -1,6 +1,6 @@
 //! Texts that contracts see as their bytes.
 
-ghost use Rattle.std.specs.Prelude.{◌≡◌, ◌≤◌, length, IfOk};
+ghost use Rattle.std.specs.Prelude.{◌≡◌, ◌≤◌, length, Some, IfOk};
 
 use glass_edges::NoMemory;
 use std::alloc::Global;
@@ -40,6 +40,8 @@ impl KeyText {
 }
 
 impl fmt::Display for KeyText {
+    ghost output = { λ key. Some key };
+
     fn fmt<W: fmt::Write>(&self, f: &mut fmt::Formatter<W>) -> fmt::Result {
         f.write_str(self.as_str())
     }
