@@ -1,4 +1,4 @@
-use Rattle.std.proofs.Common.{rules, arith, drop, ◌∙◌, ap, subst}
+use Rattle.std.proofs.Common.{rules, arith, drop, ◌∙◌, ap, subst, refl}
 use Rattle.std.proofs.lemmas.List.{take_rest}
 use Rattle.spin_model.proofs.Tables.{length-table}
 use Rattle.glass_edges.specs.Contents.{appended, AppendsPrefix}
@@ -15,7 +15,7 @@ pub epochs-init : goal.epochs-init
 epochs-init g c = record {
   text = put-none _ _ (window-none _ c.args.base.now.epoch);
   rest = c.requires.records;
-  later = search (rules, arith);
+  passed = refl;
 }
 
 pub write_recorded-requires-clause-records : goal.write_recorded-requires-clause-records
@@ -44,5 +44,5 @@ epochs-preserved g c =
       text = put-more _ _ _ _ _ _ c.epochs.invariant.text (c.in_ok-count.ensures.whole ∙ ap (appended _) front)
           (rows-more m c.args.orders.now.samples c.args.orders.now.every c.args.base.now.epoch c.epochs.epoch (search (rules, arith)));
       rest = take_rest c.epochs.rest.now c.in_ok-count.count ∙ ap (λ n. drop n c.epochs.rest.now) c.in_ok-count.ensures.count ∙ behind;
-      later = search (rules, arith);
+      passed = c.in_ok-count.ensures.cause.passed ∙ c.epochs.invariant.passed;
     }

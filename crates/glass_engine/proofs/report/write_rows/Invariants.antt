@@ -1,4 +1,4 @@
-use Rattle.std.proofs.Common.{◌≡◌, ◌≤◌}
+use Rattle.std.proofs.Common.{◌≡◌}
 use Rattle.glass_edges.specs.Contents.{appended}
 use Rattle.plane_sweep.specs.Packed.{part}
 use Rattle.scalar_rule.specs.Records.{in_order, measured_from}
@@ -10,5 +10,5 @@ invariant-epochs g l = record {
   text : g.O.Sink.taken l.out ≡ appended (g.O.Sink.taken l.fn.out)
       (rows_in_order (measured_from l.plan (λ b. part l.plan.size b l.base)) l.orders.samples l.orders.every l.base.epoch l.epoch);
   rest : l.rest ≡ in_order (measured_from l.plan (λ b. part l.plan.size b l.base)) l.orders.samples l.orders.every l.epoch l.until;
-  later : g.O.Sink.faults l.fn.out ≤ g.O.Sink.faults l.out;
+  passed : g.O.Sink.faults l.out ≡ g.O.Sink.faults l.fn.out;
 }

@@ -1,4 +1,4 @@
-use Rattle.std.proofs.Common.{rules, arith, ◌≡◌, ℕ, ◌<◌, length, get_or, ◌∙◌, ap, sym, subst}
+use Rattle.std.proofs.Common.{arith, ◌≡◌, ℕ, ◌<◌, length, get_or, ◌∙◌, ap, sym, subst, refl}
 use Rattle.glass_edges.specs.Contents.{appended, AppendsPrefix}
 use Rattle.plane_sweep.specs.Packed.{part, part_slot}
 use Rattle.plane_sweep.specs.declared.replica.Duo.{Duo}
@@ -20,7 +20,7 @@ spins-read l size b t stand duo same below is =
 pub slots-init : goal.slots-init
 slots-init g c = record {
   text = put-none _ _ (joined-zero _ _);
-  later = search (rules, arith);
+  passed = refl;
 }
 
 pub slots-preserved : goal.slots-preserved
@@ -29,7 +29,7 @@ slots-preserved g c =
     let read = spins-read _ _ c.args.sample c.slots.slot c.args.stand.now c.at.result.now c.lattice.ensures.value below c.at.ensures in
     record {
       text = put-more _ _ _ _ _ _ c.slots.invariant.text (c.in_ok-write_slot_spins.ensures.whole ∙ ap (appended _) read) (joined-more _ _ c.slots.slot);
-      later = search (rules, arith);
+      passed = c.in_ok-write_slot_spins.ensures.cause.passed ∙ c.slots.invariant.passed;
     }
 
 pub returns-in_err-write_slot_spins-clause-prefix : goal.returns-in_err-write_slot_spins-clause-prefix

@@ -1,4 +1,4 @@
-use Rattle.std.proofs.Common.{◌≡◌, ◌≤◌, flat_map}
+use Rattle.std.proofs.Common.{◌≡◌, flat_map}
 use Rattle.glass_edges.specs.Contents.{appended}
 use Rattle.plane_sweep.specs.Packed.{part}
 use Rattle.scalar_rule.specs.Epoch.{slot_at}
@@ -10,5 +10,5 @@ abbrev pub invariant-slots : goal.invariant-slots
 invariant-slots g l = record {
   text : g.O.Sink.taken l.out ≡ appended (g.O.Sink.taken l.fn.out)
       (flat_map (λ t. slot_spins l.plan.size l.sample t (slot_at (part l.plan.size l.sample l.stand).slots t)) (table (λ t. t) l.slot));
-  later : g.O.Sink.faults l.fn.out ≤ g.O.Sink.faults l.out;
+  passed : g.O.Sink.faults l.out ≡ g.O.Sink.faults l.fn.out;
 }
