@@ -1,9 +1,15 @@
 -- What a fetch gives of the bytes that a step asks for.
-use Rattle.std.proofs.Common.{◌≡◌, ℕ, ◌<◌, ◌≤◌, true, false, nat_le, List, length, Option, Some, None, option_map, IfSome, Ok, Err, if◌then◌else◌, refl, sym, ap, subst, ◌∙◌, arith}
+use Rattle.std.proofs.Common.{rules, Global, ◌≡◌, ℕ, ◌<◌, ◌≤◌, true, false, nat_le, List, length, Option, Some, None, option_map, IfSome, Result, Ok, Err, if◌then◌else◌, refl, sym, ap, subst, ◌∙◌, arith}
 use Rattle.std.proofs.lemmas.Bool.Decides.{nat_tests}
-use Rattle.glass_edges.specs.Contents.{Files, HoldsFile, HoldsAtLeast}
+use Rattle.std.specs.declared.vec.Vec.{Vec}
+use Rattle.glass_edges.specs.Causes.{Rose}
+use Rattle.glass_edges.specs.Contents.{Files, HoldsFile, LacksFile, HoldsAtLeast}
+use Rattle.glass_edges.specs.declared.shelf.Fetched.{Fetched}
+use Rattle.glass_edges.specs.declared.shelf.Fetched.TheVariants as answer
 use Rattle.glass_main.specs.declared.role.Role.{Role}
-use Rattle.glass_main.specs.declared.refusal.Refusal.TheVariants.{TooLong}
+use Rattle.glass_main.specs.declared.refusal.Refusal.TheVariants.{Absent, TooLong}
+use Rattle.glass_main.specs.Gathers.{Gathers, Fetches, gathered}
+use Rattle.glass_main.specs.declared.ending.Ending.{Ending}
 use Rattle.glass_main.specs.Request.{limit_of, bytes_in, bytes_at}
 use Rattle.glass_main.specs.Statuses.{IsRefusedBy}
 
@@ -19,6 +25,11 @@ bytes-found role None name bytes h small = tt
 bytes-found role (Some files) name bytes h small =
     ap (bytes_in role) h ∙ ap (λ b. if b then Ok bytes else Err (TooLong role (length bytes))) (short (length bytes) (limit_of role) small)
 
+pub bytes-absent : (role : Role) (held : Option Files) (name : List ℕ) → LacksFile held name
+    → IfSome (option_map (bytes_at role name) held) (λ a. IsRefusedBy a (Absent role))
+bytes-absent role None name h = tt
+bytes-absent role (Some files) name h = subst (λ a. IsRefusedBy {A = List ℕ} a (Absent role)) (sym (ap (bytes_in role) h)) refl
+
 pub bytes-too_many : (role : Role) (held : Option Files) (name : List ℕ) (n : ℕ) → limit_of role < n → HoldsAtLeast held name n
     → IfSome (option_map (bytes_at role name) held) (λ a. IsRefusedBy a (TooLong role n))
 bytes-too_many role None name n above h = tt
@@ -26,3 +37,53 @@ bytes-too_many role (Some files) name n above (bytes, is, least) =
     let past : limit_of role < length bytes = omega (arith, above, least) in
     let refused = ap (bytes_in role) is ∙ ap (λ b. if b then Ok bytes else Err (TooLong role (length bytes))) (long (length bytes) (limit_of role) past) in
     subst (λ a. IsRefusedBy {A = List ℕ} a (TooLong role n)) (sym refused) (n, refl, above, least)
+
+-- a fetch, and what is made of its answer, are a step that reads one file
+pub gathers_fetched : (role : Role) (name : List ℕ) (held holds : Option Files) (before now limit : ℕ) (fetched : Fetched) (result : Result (List ℕ) Ending)
+    → result ≡ gathered role fetched → limit ≡ limit_of role
+    → ((v : Vec ℕ Global) → fetched ≡ answer.Held v → HoldsFile held name v.items)
+    → ((v : Vec ℕ Global) → fetched ≡ answer.Held v → length v.items ≤ limit)
+    → (fetched ≡ answer.Absent → LacksFile held name)
+    → ((n : ℕ) → fetched ≡ answer.TooLong n → limit < n)
+    → ((n : ℕ) → fetched ≡ answer.TooLong n → HoldsAtLeast held name n)
+    → (fetched ≡ answer.Failed → Rose before now)
+    → (¬ (fetched ≡ answer.Failed) → now ≡ before)
+    → before ≤ now → holds ≡ held
+    → Gathers (option_map (bytes_at role name) held) (Fetches role) result (record { holds = held; faults = before }) (record { holds = holds; faults = now })
+gathers_fetched role name held holds before now limit (answer.Held v) result is most found within absent above long failed quiet later same = rw is (record {
+  found = bytes-found role held name v.items (found v refl) (subst (λ n. length v.items ≤ n) most (within v refl));
+  passed = quiet (λ e. search rules);
+  stopped = tt;
+  same = same;
+  later = later;
+})
+gathers_fetched role name held holds before now limit answer.Absent result is most found within absent above long failed quiet later same = rw is (record {
+  found = tt;
+  passed = tt;
+  stopped = ((tt, bytes-absent role held name (absent refl)), quiet (λ e. search rules));
+  same = same;
+  later = later;
+})
+gathers_fetched role name held holds before now limit (answer.TooLong n) result is most found within absent above long failed quiet later same =
+    let past = subst (λ m. m < n) most (above n refl) in
+    rw is (record {
+      found = tt;
+      passed = tt;
+      stopped = ((past, bytes-too_many role held name n past (long n refl)), quiet (λ e. search rules));
+      same = same;
+      later = later;
+    })
+gathers_fetched role name held holds before now limit answer.Failed result is most found within absent above long failed quiet later same = rw is (record {
+  found = tt;
+  passed = tt;
+  stopped = (refl, failed refl);
+  same = same;
+  later = later;
+})
+gathers_fetched role name held holds before now limit answer.NoMemory result is most found within absent above long failed quiet later same = rw is (record {
+  found = tt;
+  passed = tt;
+  stopped = quiet (λ e. search rules);
+  same = same;
+  later = later;
+})

@@ -1,6 +1,5 @@
 -- How a run ends once its files are read.
 use Rattle.std.proofs.Common.{◌≡◌, ℕ, ◌≤◌, Option, Some, None, option_map, IfSome, Result, Ok, refl, sym, ap, subst, inr, arith}
-use Rattle.glass_edges.specs.Causes.{Rose}
 use Rattle.glass_edges.specs.Contents.{Files, appended, AppendsPrefix}
 use Rattle.glass_edges.specs.Refusals.{unless}
 use Rattle.run_plan.specs.Amounts.{amount_refusal}
@@ -13,7 +12,7 @@ use Rattle.glass_main.specs.declared.ending.Ending.TheVariants.{Done, Refused, U
 use Rattle.glass_main.specs.CommandLine.{RunOrder, Run}
 use Rattle.glass_main.specs.Endings.{IsReached}
 use Rattle.glass_main.specs.Gathers.{Gathers}
-use Rattle.glass_main.specs.Opened.{IsUnopened}
+use Rattle.glass_main.specs.Opened.{IsUnopened, Reports}
 use Rattle.glass_main.specs.Outside.{Output, Store}
 use Rattle.glass_main.specs.Request.{Work, RunWork, and_then, told_as, plan_at, run_work, until_of, text_asked}
 use Rattle.glass_main.specs.Statuses.{Ends, IsRefusedBy, Fits}
@@ -32,7 +31,7 @@ ends-unopened order planned (Refused told) held holds before g stops = record {
   words = inr stops.0;
   cause = asked-after order planned held.holds (λ a. IsRefusedBy a told) g.found stops.1;
   out = refl;
-  files = g.same;
+  files = (g.same, g.passed);
   later = (g.later, omega arith);
 }
 ends-unopened order planned (Unread role) held holds before g stops = absurd stops
@@ -41,7 +40,7 @@ ends-unopened order planned NoMemory held holds before g stops = record {
   words = tt;
   cause = asked-after order planned held.holds (λ a. Fits a NoMemory) g.found tt;
   out = refl;
-  files = g.same;
+  files = (g.same, g.passed);
   later = (g.later, omega arith);
 }
 
@@ -57,26 +56,25 @@ asked-run : (order : RunOrder) (planned : Planned) (e : ℕ) (held : Option File
 asked-run order planned e held P found is none p =
     asked-after order planned held P found (subst (λ n. P (run_work planned n)) is (subst P (sym (work-accepted planned e none)) p))
 
-pub ends-done : (order : RunOrder) (planned : Planned) (e : ℕ) (held holds : Store) (before now : Output)
+-- an open run ends as what it leaves says
+pub ends-finished : (order : RunOrder) (planned : Planned) (e : ℕ) (ending : Ending) (held holds : Store) (before now : Output)
     → Gathers (option_map (plan_at order.run) held.holds) (IsReached order.run held.holds) (Ok planned) held holds → e ≡ until_of order planned
-    → amount_refusal planned.plan planned.orders 0 e ≡ None → now.taken ≡ appended before.taken (run_text planned e) → before.faults ≤ now.faults
-    → Ends (Some (Run order)) Done held holds before now
-ends-done order planned e held holds before now g is none whole later = record {
+    → amount_refusal planned.plan planned.orders 0 e ≡ None → Reports (run_text planned e) ending before now → before.faults ≤ now.faults
+    → Ends (Some (Run order)) ending held holds before now
+ends-finished order planned e Done held holds before now g is none told later = record {
   words = tt;
   cause = asked-run order planned e held.holds (λ a. Fits a Done) g.found is none tt;
-  out = asked-run order planned e held.holds (λ a. now.taken ≡ appended before.taken (text_asked a)) g.found is none whole;
-  files = g.same;
+  out = (told.0, asked-run order planned e held.holds (λ a. now.taken ≡ appended before.taken (text_asked a)) g.found is none told.1);
+  files = (g.same, g.passed);
   later = (g.later, later);
 }
-
-pub ends-unwritten : (order : RunOrder) (planned : Planned) (e : ℕ) (held holds : Store) (before now : Output)
-    → Gathers (option_map (plan_at order.run) held.holds) (IsReached order.run held.holds) (Ok planned) held holds → e ≡ until_of order planned
-    → amount_refusal planned.plan planned.orders 0 e ≡ None → AppendsPrefix before.taken now.taken (run_text planned e) → Rose before.faults now.faults → before.faults ≤ now.faults
-    → Ends (Some (Run order)) Unwritten held holds before now
-ends-unwritten order planned e held holds before now g is none prefix rose later = record {
+ends-finished order planned e (Refused refusal) held holds before now g is none told later = absurd told
+ends-finished order planned e (Unread role) held holds before now g is none told later = absurd told
+ends-finished order planned e Unwritten held holds before now g is none told later = record {
   words = tt;
   cause = asked-run order planned e held.holds (λ a. Fits a Unwritten) g.found is none tt;
-  out = (rose, asked-run order planned e held.holds (λ a. AppendsPrefix before.taken now.taken (text_asked a)) g.found is none prefix);
-  files = g.same;
+  out = (told.0, asked-run order planned e held.holds (λ a. AppendsPrefix before.taken now.taken (text_asked a)) g.found is none told.1);
+  files = (g.same, g.passed);
   later = (g.later, later);
 }
+ends-finished order planned e NoMemory held holds before now g is none told later = absurd told

@@ -89,6 +89,13 @@ MayEnd command held (Unread role) = MayFetch command held role
 MayEnd command held Unwritten = Unit {0}
 MayEnd command held NoMemory = Unit {0}
 
+-- words that read no file: those of `plain`, and those that are no command
+abbrev pub ReadsNoFile : Option Command → Type 0
+ReadsNoFile None = Unit {0}
+ReadsNoFile (Some (Plain order)) = Unit {0}
+ReadsNoFile (Some (Check name)) = ⊥
+ReadsNoFile (Some (Run order)) = ⊥
+
 -- words that are no command are refused as such, and no others
 abbrev pub Reads : Option Command → Option Files → Ending → Type 0
 Reads None held ending = ending ≡ Refused refused.Words

@@ -64,22 +64,25 @@ Fits asked (Unread role) = Unit {0}
 Fits asked Unwritten = IsAccepted asked
 Fits asked NoMemory = Unit {0}
 
--- what the output got: the whole text; nothing; or a prefix of the text and then a fault
+-- what the output got: the whole text; nothing; or a prefix of the text and then a fault, and no fault with any other
+-- ending
 abbrev pub Printed : Option (Result Work Refusal) → Ending → Output → Output → Type 0
-Printed asked Done old new = IfSome asked (λ a. new.taken ≡ appended old.taken (text_asked a))
+Printed asked Done old new =
+    (new.faults ≡ old.faults) × IfSome asked (λ a. new.taken ≡ appended old.taken (text_asked a))
 Printed asked (Refused told) old new = new ≡ old
 Printed asked (Unread role) old new = new ≡ old
 Printed asked Unwritten old new =
     Rose old.faults new.faults × IfSome asked (λ a. AppendsPrefix old.taken new.taken (text_asked a))
 Printed asked NoMemory old new = new ≡ old
 
--- what became of the store: its files are as before, and where one could not be read a fault was counted
+-- what became of the store: its files are as before, and a fault was counted where one could not be read, and with no
+-- other ending
 abbrev pub Kept : Ending → Store → Store → Type 0
-Kept Done old new = new.holds ≡ old.holds
-Kept (Refused told) old new = new.holds ≡ old.holds
+Kept Done old new = (new.holds ≡ old.holds) × (new.faults ≡ old.faults)
+Kept (Refused told) old new = (new.holds ≡ old.holds) × (new.faults ≡ old.faults)
 Kept (Unread role) old new = (new.holds ≡ old.holds) × Rose old.faults new.faults
-Kept Unwritten old new = new.holds ≡ old.holds
-Kept NoMemory old new = new.holds ≡ old.holds
+Kept Unwritten old new = (new.holds ≡ old.holds) × (new.faults ≡ old.faults)
+Kept NoMemory old new = (new.holds ≡ old.holds) × (new.faults ≡ old.faults)
 
 -- an ending, its cause and what it leaves
 pub record Ends (command : Option Command) (ending : Ending) (held holds : Store) (before now : Output) : Type 0 where
@@ -91,9 +94,11 @@ pub record Ends (command : Option Command) (ending : Ending) (held holds : Store
 
 -- ---- the error output
 
--- the error output got the line, or a prefix of it and then a fault
+-- the error output got the line and counted no fault, or got a prefix of it and then a fault
 unfoldable pub Says : List ℕ → Output → Output → Type 0
-Says line old new = (new.taken ≡ appended old.taken line) ⊎ (Rose old.faults new.faults × AppendsPrefix old.taken new.taken line)
+Says line old new =
+    ((new.taken ≡ appended old.taken line) × (new.faults ≡ old.faults))
+    ⊎ (Rose old.faults new.faults × AppendsPrefix old.taken new.taken line)
 
 -- what the error output got: nothing where all is done, else the line of the ending
 abbrev pub Told : Ending → Output → Output → Type 0
@@ -112,11 +117,19 @@ pub record Answers (command : Option Command) (status : ℕ) (held holds : Store
   pub ends : Ends command ending held holds before now
   pub err : Told ending err_before err_now
 
--- all of the work is done: the output got its text, the error output nothing, and the files are as before
+-- all of the work is done: the output got its text, the error output nothing, the files are as before, and no fault was
+-- counted
 pub record DoesWork (work : Work) (held holds : Store) (before now err_before err_now : Output) : Type 0 where
   pub out : now.taken ≡ appended before.taken (text_of work)
   pub err : err_now ≡ err_before
   pub files : holds.holds ≡ held.holds
+  pub passed : (now.faults ≡ before.faults) × (holds.faults ≡ held.faults)
+
+-- each fault is told by the status: one of the store by 8, one of the output by 9, and with 0 the error output counted none
+pub record TellsFaults (status : ℕ) (held holds : Store) (before now err_before err_now : Output) : Type 0 where
+  pub store : ¬ (status ≡ 8) → holds.faults ≡ held.faults
+  pub out : ¬ (status ≡ 9) → now.faults ≡ before.faults
+  pub err : status ≡ 0 → err_now.faults ≡ err_before.faults
 
 -- what is asked for is work, and it is done
 abbrev pub Does : Result Work Refusal → Store → Store → Output → Output → Output → Output → Type 0

@@ -4,7 +4,7 @@ ghost use Rattle.std.specs.Prelude.{◌≡◌, ◌≤◌, ◌+◌, length, optio
 ghost use Rattle.run_plan.specs.RunFile.{IsLawfulRunFile, AreLawfulOrders};
 ghost use Rattle.run_plan.specs.PlanOf.{plan_with};
 ghost use Rattle.glass_main.specs.Endings.{IsReached, IsReachedAfter};
-ghost use Rattle.glass_main.specs.Gathers.{Gathers, Fetches, FetchesNone};
+ghost use Rattle.glass_main.specs.Gathers.{Gathers, Fetches, FetchesNone, gathered};
 ghost use Rattle.glass_main.specs.Outside.{store};
 ghost use Rattle.glass_main.specs.Request as model;
 
@@ -153,7 +153,7 @@ fn gather_couplings<H: Shelf>(
     }
 }
 
-// Fetches the bytes of a file.
+// Fetches the bytes of a file. A fetch that failed is not tried again.
 fn gather_bytes<H: Shelf>(
     alloc: Global,
     shelf: &mut H,
@@ -164,7 +164,14 @@ fn gather_bytes<H: Shelf>(
         (Fetches role) result
         (store H.holds H.faults shelf.old) (store H.holds H.faults shelf.new) }
 {
-    match shelf.fetch(alloc, name, role.limit()) {
+    gathered(role, shelf.fetch(alloc, name, role.limit()))
+}
+
+// What is made of a fetch's answer.
+fn gathered(role: Role, fetched: Fetched) -> Result<Items<u8>, Ending>
+    ensures { result ≡ gathered role fetched }
+{
+    match fetched {
         Fetched::Held(bytes) => Ok(Items::of(bytes)),
         Fetched::Absent => Err(Ending::Refused(Refusal::Absent(role))),
         Fetched::TooLong(n) => Err(Ending::Refused(Refusal::TooLong(role, n))),

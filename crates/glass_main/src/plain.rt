@@ -27,9 +27,10 @@ pub(crate) fn plain<H: Shelf, O: Sink>(
     out: &mut O,
     order: &PlainOrder,
 ) -> Ending
-    ensures { Ends (Some (Plain (read_order order.now))) result
+    ensures ends { Ends (Some (Plain (read_order order.now))) result
         (store H.holds H.faults _shelf.old) (store H.holds H.faults _shelf.new)
         (output O.taken O.faults out.old) (output O.taken O.faults out.new) }
+    ensures untouched { _shelf.new ≡ _shelf.old }
 {
     match plain_run(
         alloc,

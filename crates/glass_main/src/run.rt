@@ -7,7 +7,7 @@ ghost use Rattle.glass_edges.specs.Contents.{appended, AppendsPrefix};
 ghost use Rattle.run_plan.specs.Amounts.{amount_refusal, row_count};
 ghost use Rattle.run_plan.specs.RunFile.{AreLawfulOrders};
 ghost use Rattle.glass_main.specs.CommandLine as commands;
-ghost use Rattle.glass_main.specs.Opened.{IsOpened, IsUnopened};
+ghost use Rattle.glass_main.specs.Opened.{IsOpened, IsUnopened, IsOfOpenRun, Reports};
 ghost use Rattle.glass_main.specs.Outside.{output, store};
 ghost use Rattle.glass_main.specs.ReadCommand.{read_run_order, IsLawfulOrder};
 ghost use Rattle.glass_main.specs.Statuses.{Ends};
@@ -57,10 +57,7 @@ pub(crate) fn run<R: Sync, H: Shelf, O: Sink, G: Gate + Sync>(
         Ok(opened) => opened,
         Err(ending) => return ending,
     };
-    match put_run(rt, out, gate, opened, order.pieces) {
-        Ok(()) => Ending::Done,
-        Err(_) => Ending::Unwritten,
-    }
+    finish_run(rt, out, gate, opened, order.pieces)
 }
 
 // The epoch at which a run ends.
@@ -110,6 +107,30 @@ fn open_planned(
     let plan = Arc::new(alloc, planned.plan)?;
     let run = open(alloc, &plan, &planned.orders, stand, until, workers, false)?;
     Ok(Opened { plan, run })
+}
+
+// Drives an open run to its end and prints its report. It is given no allocator, and does not end for
+// want of memory.
+fn finish_run<R: Sync, O: Sink, G: Gate + Sync>(
+    rt: &R,
+    out: &mut O,
+    gate: &G,
+    opened: Opened,
+    pieces: u32,
+) -> Ending
+    requires some_pieces { 1 ≤ pieces }
+    requires few_pieces { pieces ≤ 16 }
+    requires plan { arc_value opened.plan ≡ opened.run.plan }
+    ensures ending { IsOfOpenRun result }
+    ensures report { (planned : model.Planned) (until : ℕ) → AreLawfulOrders planned.orders → IsOpened planned until opened
+        → Reports (run_text planned until) result
+        (output O.taken O.faults out.old) (output O.taken O.faults out.new) }
+    ensures later { O.faults out.old ≤ O.faults out.new }
+{
+    match put_run(rt, out, gate, opened, pieces) {
+        Ok(()) => Ending::Done,
+        Err(_) => Ending::Unwritten,
+    }
 }
 
 // Drives a run to its end and prints its report.

@@ -2,9 +2,10 @@
 
 ghost use Rattle.std.specs.Prelude.{◌≡◌, ◌↔◌, None, IfSome};
 ghost use Rattle.glass_main.specs.CommandLine.{command_of};
+ghost use Rattle.glass_main.specs.Endings.{ReadsNoFile};
 ghost use Rattle.glass_main.specs.Outside.{output, store};
 ghost use Rattle.glass_main.specs.Request.{request};
-ghost use Rattle.glass_main.specs.Statuses.{Ends, Answers, Does, Completes};
+ghost use Rattle.glass_main.specs.Statuses.{Ends, Answers, Does, Completes, TellsFaults};
 ghost use Rattle.glass_main.specs.Words.{texts};
 
 use crate::check::check;
@@ -42,6 +43,13 @@ pub fn glass<R: Sync, H: Shelf, O: Sink, E: Sink, G: Gate + Sync>(
         (output O.taken O.faults out.old) (output O.taken O.faults out.new)
         (output E.taken E.faults err.old) (output E.taken E.faults err.new) }
     ensures words { (result ≡ 2) ↔ (command_of (texts words.now) ≡ None) }
+    ensures untouched { ReadsNoFile (command_of (texts words.now)) → shelf.new ≡ shelf.old }
+
+    // A fault that was counted is told by the status.
+    ensures faults { TellsFaults result
+        (store H.holds H.faults shelf.old) (store H.holds H.faults shelf.new)
+        (output O.taken O.faults out.old) (output O.taken O.faults out.new)
+        (output E.taken E.faults err.old) (output E.taken E.faults err.new) }
 
     // With status 0 the output got the text that the request asks for.
     ensures done { result ≡ 0 → IfSome (request (texts words.now) (H.holds shelf.old)) (λ asked.
@@ -71,9 +79,10 @@ fn answer<R: Sync, H: Shelf, O: Sink, G: Gate + Sync>(
     out: &mut O,
     gate: &G,
 ) -> Ending
-    ensures { Ends (command_of (texts words.now)) result
+    ensures ends { Ends (command_of (texts words.now)) result
         (store H.holds H.faults shelf.old) (store H.holds H.faults shelf.new)
         (output O.taken O.faults out.old) (output O.taken O.faults out.new) }
+    ensures untouched { ReadsNoFile (command_of (texts words.now)) → shelf.new ≡ shelf.old }
 {
     match read_words(words) {
         None => Ending::Refused(Refusal::Words),

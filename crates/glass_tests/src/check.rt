@@ -143,6 +143,21 @@ fn check_fetch_fault(rt: HostRuntime) -> Result<(), Fail> {
 }
 
 #[test]
+fn each_file_is_fetched_once(rt: HostRuntime) -> Result<(), Fail> {
+    // The words, and a call of the store that fails: the first that is not made.
+    for (line, call, status) in [
+        ("check run.toml", 3, 0),
+        ("run run.toml", 3, 0),
+        ("plain 4 1 7 0 0 0 0 0 0 0", 0, 0),
+        ("check", 0, 2),
+    ] {
+        let shelf = store_failing(&rt, RUN, DOWN, "", call)?;
+        assert_eq!(rt; call_with(&rt, line, shelf)?.status, status, "{line}");
+    }
+    Ok(())
+}
+
+#[test]
 fn check_missing_rule_table(rt: HostRuntime) -> Result<(), Fail> {
     let mut shelf = MemoryShelf::new(rt.alloc(), Vec::new(rt.alloc()));
     shelf.add("run.toml", RUN.as_bytes())?;

@@ -1,4 +1,4 @@
-use Rattle.std.proofs.Common.{rules, arith, ◌++◌, ◌∷◌, [], map, take, drop, get_or, sym, ap, ◌∙◌, subst, append_assoc}
+use Rattle.std.proofs.Common.{◌++◌, ◌∷◌, [], map, take, drop, get_or, sym, ap, ◌∙◌, subst, append_assoc}
 use Rattle.glass_edges.specs.Contents.{PutsFront, AppendsPrefix}
 use Rattle.glass_edges.proofs.Puts.{front-step, front-failed, OnErr_of}
 use Rattle.glass_main.specs.Lines.{printable}
@@ -14,7 +14,7 @@ bytes-preserved g c =
     record {
       front = subst (λ xs. PutsFront (g.E.Sink.taken c.args.err.now) (g.E.Sink.taken c.make_room.new.out) xs c.add.new.self) more
           (front-step _ _ _ _ _ _ (printable (get_or all k 0) ∷ []) _ c.bytes.invariant.front c.in_ok-make_room.ensures.front (rw (← c.printable.ensures) c.add.ensures));
-      later = search (rules, arith);
+      passed = c.in_ok-make_room.ensures.cause.passed ∙ c.bytes.invariant.passed;
     }
 
 pub returns-in_err-make_room-clause-prefix : goal.returns-in_err-make_room-clause-prefix

@@ -8,6 +8,9 @@ pub returns-in-Ok : goal.returns-in-Ok
 unfolding Says
 returns-in-Ok g c =
     let front : c.add.new.self ≡ codes "glass: unknown key " = c.add.ensures ∙ ap (λ xs. xs ++ codes "glass: unknown key ") c.new-line.ensures in
-    inl (c.in-Ok.ensures.whole
-    ∙ ap (λ xs. appended (g.E.Sink.taken c.args.err.now) (xs ++ map printable c.as_bytes.result.now ++ codes "\n")) front
-    ∙ ap (λ xs. appended (g.E.Sink.taken c.args.err.now) (codes "glass: unknown key " ++ map printable xs ++ codes "\n")) c.as_bytes.ensures.value)
+    inl (
+      c.in-Ok.ensures.whole
+          ∙ ap (λ xs. appended (g.E.Sink.taken c.args.err.now) (xs ++ map printable c.as_bytes.result.now ++ codes "\n")) front
+          ∙ ap (λ xs. appended (g.E.Sink.taken c.args.err.now) (codes "glass: unknown key " ++ map printable xs ++ codes "\n")) c.as_bytes.ensures.value,
+      c.in-Ok.ensures.cause.passed,
+    )

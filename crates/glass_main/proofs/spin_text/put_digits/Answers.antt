@@ -1,4 +1,4 @@
-use Rattle.std.proofs.Common.{rules, arith, ◌≡◌, ◌+◌, ◌*◌, ◌/◌, ◌-◌, ◌++◌, ◌∷◌, [], ℕ, length, sym, ap, ◌∙◌, subst, append-nil, append_assoc}
+use Rattle.std.proofs.Common.{rules, arith, ◌≡◌, ◌+◌, ◌*◌, ◌/◌, ◌-◌, ◌++◌, ◌∷◌, [], ℕ, length, refl, sym, ap, ◌∙◌, subst, append-nil, append_assoc}
 use Rattle.glass_edges.specs.Contents.{PutsFront, AppendsPrefix}
 use Rattle.glass_edges.proofs.Puts.{front-none, front-step, front-failed, OnErr_of}
 use Rattle.scalar_rule.specs.SpinDigits.{four_spins, spin_digits}
@@ -11,7 +11,7 @@ digits-init g c = record {
   front = subst (λ xs. PutsFront (g.O.Sink.taken c.args.out.now) (g.O.Sink.taken c.args.out.now) xs c.args.line.now)
       (sym (ap (λ xs. c.args.line.now ++ xs) (table-zero (λ k. four_spins c.args.spins.now (4 * k))) ∙ append-nil c.args.line.now))
       (front-none (g.O.Sink.taken c.args.out.now) c.args.line.now);
-  later = search (rules, arith);
+  passed = refl;
 }
 
 pub digits-preserved : goal.digits-preserved
@@ -21,7 +21,7 @@ digits-preserved g c =
       front = subst (λ xs. PutsFront (g.O.Sink.taken c.args.out.now) (g.O.Sink.taken c.make_room.new.out) xs c.add.new.self)
           (append_assoc c.args.line.now (table digit c.digits.k) (digit c.digits.k ∷ []) ∙ ap (λ xs. c.args.line.now ++ xs) (sym (table-more digit c.digits.k)))
           (front-step _ _ _ _ _ _ (digit c.digits.k ∷ []) _ c.digits.invariant.front c.in_ok-make_room.ensures.front (rw (← c.four_spins.ensures) c.add.ensures));
-      later = search (rules, arith);
+      passed = c.in_ok-make_room.ensures.cause.passed ∙ c.digits.invariant.passed;
     }
 
 pub returns-in_err-make_room-clause-prefix : goal.returns-in_err-make_room-clause-prefix
