@@ -55,7 +55,7 @@ all_ready-serial plan s e fits from =
     ap₂ (λ b n. made b n (table (λ t. ready plan (level_start plan s) e t) (slots_of plan)) (table (λ k. generators plan (level_start plan s) k e) (pairs_of plan))) (sym bit) (sym at)
     ∙ ap₂ (λ u v. made x.bit x.epoch u v) (sym slots) (sym pairs)
 
-level-record : (plan : Plan) (start : ℕ → Sample) (samples every b f t : ℕ) → (start b).bit ≡ b → (start b).epoch ≡ (start 0).epoch → (start 0).epoch ≤ f → t < slots_of plan
+pub level-record : (plan : Plan) (start : ℕ → Sample) (samples every b f t : ℕ) → (start b).bit ≡ b → (start b).epoch ≡ (start 0).epoch → (start 0).epoch ≤ f → t < slots_of plan
     → uneven_record plan (λ i. level_start plan (start i)) [] samples every b f t ≡ record_of plan (serial plan (start b) f).bit (slot_at (swept_slots plan (serial plan (start b) f)) t)
 level-record plan start samples every b f t bit same from h =
     let s = start b in

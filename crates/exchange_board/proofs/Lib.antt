@@ -1,0 +1,14 @@
+pub mod Machines
+pub mod RowPlaces
+pub mod Origins
+pub mod Keeping
+pub mod BoardReads
+pub mod Arriving
+pub mod Settling
+pub mod Cells
+pub mod Starting
+pub mod Ends
+pub mod Stages
+pub mod Stopping
+pub mod RowLists
+pub mod Resuming

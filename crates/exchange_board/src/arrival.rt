@@ -1,0 +1,216 @@
+//! The hand-back of a slot, and the exchange of a pair.
+
+ghost use Rattle.std.specs.Prelude.{◌≡◌, ℕ, ◌+◌, ◌*◌, ◌<◌, ◌≤◌, true, false, ◌==◌, ◌&&◌, if◌then◌else◌, length, slice_set, IfSome, IfNone};
+ghost use Rattle.std.specs.Arc.{arc_value};
+ghost use Rattle.scalar_rule.specs.Epoch.{has_turn, has_partner, partner};
+ghost use Rattle.exchange_board.specs.Machine.{epochs, phases, met, after, IsPhased, IsBehind};
+ghost use Rattle.exchange_board.specs.Views.{place_at, out_at, ready_at, arrived_at, placed, progress};
+
+use crate::board::{Board, Home, Slot};
+use crate::job::Swept;
+use crate::rows::record_slot;
+use crate::trading::meet;
+use scalar_rule::Plan;
+
+/// What a hand-back has done.
+#[derive(Clone, Copy, Debug, PartialEq, Eq)]
+pub enum Arrival {
+    /// The slot waits for its partner, which has not come yet.
+    Waiting,
+    /// Its partner waited: the pair was exchanged, and both are at rest at the next epoch.
+    Settled { pair: u32 },
+    /// The slot has no partner at its epoch, and is at rest at the next one.
+    Alone,
+}
+
+// Whether a slot is the colder one of its pair at an epoch.
+fn is_colder(slot: u32, epoch: u64) -> bool
+    requires few { slot < 32 }
+    requires short { epoch < 1000000000 }
+    ensures { result ≡ has_turn slot epoch }
+{
+    (slot as u64 + epoch) % 2 == 0
+}
+
+// The colder slot of a pair.
+fn colder(slot: u32, other: u32, is_low: bool) -> u32
+    ensures { result ≡ (if is_low then slot else other) }
+{
+    if is_low { slot } else { other }
+}
+
+impl Board {
+    ghost use Rattle.exchange_board.specs.Answers.{answer};
+
+    /// A slot that was swept comes back: it is recorded, and its pair is exchanged, in place, where its
+    /// partner waits. Takes no memory.
+    pub fn arrive(&mut self, plan: &Plan, swept: Swept) -> Arrival
+        requires plan { plan.now ≡ arc_value self.old.origin.plan }
+        requires same { swept.origin ≡ self.old.origin }
+        requires known { swept.slot < length self.old.places }
+        requires out { progress (place_at self.old.places swept.slot) ≡ 4 * swept.epoch + 1 }
+        ensures answer { result ≡ answer self.old.places swept.slot swept.epoch }
+        ensures moved { self.new ≡ placed self.old (after self.old.places swept.slot swept.epoch) }
+        ensures phased { IsPhased self.old.places }
+        ensures behind { IsBehind self.old.places swept.slot swept.epoch }
+    {
+        let slot = swept.slot();
+        let epoch = swept.epoch();
+        match self.partner_of(slot, epoch) {
+            None => {
+                self.alone(plan, swept);
+                Arrival::Alone
+            }
+            Some(other) => {
+                if self.waits(other, epoch) {
+                    self.settle_pair(plan, swept, other);
+                    Arrival::Settled {
+                        pair: if slot < other { slot } else { other },
+                    }
+                } else {
+                    self.wait(plan, swept);
+                    Arrival::Waiting
+                }
+            }
+        }
+    }
+
+    // Whether a slot waits at an epoch.
+    fn waits(&self, slot: u32, epoch: u64) -> bool
+        requires known { slot < length self.now.places }
+        requires short { epoch < 1000000000 }
+        ensures waits { result ≡ true → place_at self.now.places slot ≡ arrived_at epoch }
+        ensures others { result ≡ false → ((phases self.now.places slot == 2) && (epochs self.now.places slot == epoch)) ≡ false }
+    {
+        self.progress(slot) == 4 * epoch + 2
+    }
+
+    // The partner at this epoch.
+    fn partner_of(&self, slot: u32, epoch: u64) -> Option<u32>
+        requires known { slot < length self.now.places }
+        requires out { progress (place_at self.now.places slot) ≡ 4 * epoch + 1 }
+        ensures some { IfSome result (λ p. (has_partner (length self.now.places) slot epoch ≡ true) × (p ≡ partner slot epoch) × (p < length self.now.places)) }
+        ensures none { IfNone result (has_partner (length self.now.places) slot epoch ≡ false) }
+        ensures short { epoch < 1000000000 }
+        ensures out { place_at self.now.places slot ≡ out_at epoch }
+        ensures phased { IsPhased self.now.places }
+        ensures behind { IsBehind self.now.places slot epoch }
+    {
+        let n = self.slots.len() as u32;
+        if is_colder(slot, epoch) {
+            if slot + 1 < n { Some(slot + 1) } else { None }
+        } else {
+            if slot > 0 { Some(slot - 1) } else { None }
+        }
+    }
+
+    fn alone(&mut self, plan: &Plan, swept: Swept)
+        requires plan { plan.now ≡ arc_value self.old.origin.plan }
+        requires same { swept.origin ≡ self.old.origin }
+        requires known { swept.slot < length self.old.places }
+        requires out { place_at self.old.places swept.slot ≡ out_at swept.epoch }
+        requires alone { has_partner (length self.old.places) swept.slot swept.epoch ≡ false }
+        ensures { self.new ≡ placed self.old (slice_set self.old.places swept.slot (ready_at (swept.epoch + 1))) }
+    {
+        let Swept {
+            slot,
+            epoch,
+            share,
+            duo,
+            totals,
+        } = swept;
+        record_slot(
+            &mut self.records,
+            &duo,
+            &totals,
+            plan,
+            &self.origin,
+            slot,
+            epoch,
+        );
+        *self.slots.at_mut(slot as usize) = Slot {
+            epoch: epoch + 1,
+            home: Some(Home {
+                share,
+                duo,
+                totals: None,
+            }),
+        };
+    }
+
+    fn wait(&mut self, plan: &Plan, swept: Swept)
+        requires plan { plan.now ≡ arc_value self.old.origin.plan }
+        requires same { swept.origin ≡ self.old.origin }
+        requires known { swept.slot < length self.old.places }
+        requires out { place_at self.old.places swept.slot ≡ out_at swept.epoch }
+        requires partner { has_partner (length self.old.places) swept.slot swept.epoch ≡ true }
+        requires unmet { met self.old.places swept.slot swept.epoch ≡ false }
+        ensures { self.new ≡ placed self.old (slice_set self.old.places swept.slot (arrived_at swept.epoch)) }
+    {
+        let Swept {
+            slot,
+            epoch,
+            share,
+            duo,
+            totals,
+        } = swept;
+        record_slot(
+            &mut self.records,
+            &duo,
+            &totals,
+            plan,
+            &self.origin,
+            slot,
+            epoch,
+        );
+        *self.slots.at_mut(slot as usize) = Slot {
+            epoch,
+            home: Some(Home {
+                share,
+                duo,
+                totals: Some(totals),
+            }),
+        };
+    }
+
+    fn settle_pair(&mut self, plan: &Plan, swept: Swept, other: u32)
+        requires plan { plan.now ≡ arc_value self.old.origin.plan }
+        requires same { swept.origin ≡ self.old.origin }
+        requires known { swept.slot < length self.old.places }
+        requires out { place_at self.old.places swept.slot ≡ out_at swept.epoch }
+        requires partner { has_partner (length self.old.places) swept.slot swept.epoch ≡ true }
+        requires other { other ≡ partner swept.slot swept.epoch }
+        requires met { place_at self.old.places other ≡ arrived_at swept.epoch }
+        ensures { self.new ≡ placed self.old (slice_set (slice_set self.old.places other (ready_at (swept.epoch + 1))) swept.slot (ready_at (swept.epoch + 1))) }
+    {
+        let Swept {
+            slot,
+            epoch,
+            share,
+            mut duo,
+            totals,
+        } = swept;
+        record_slot(
+            &mut self.records,
+            &duo,
+            &totals,
+            plan,
+            &self.origin,
+            slot,
+            epoch,
+        );
+        let is_low = is_colder(slot, epoch);
+        let pair = colder(slot, other, is_low);
+        let wheels = self.pairs.at_mut(pair as usize);
+        let mate = self.slots.at_mut(other as usize);
+        meet(mate, &mut duo, &totals, wheels, plan, pair, is_low);
+        *self.slots.at_mut(slot as usize) = Slot {
+            epoch: epoch + 1,
+            home: Some(Home {
+                share,
+                duo,
+                totals: None,
+            }),
+        };
+    }
+}

@@ -1,0 +1,185 @@
+//! The board, and its hand-outs.
+
+ghost use Rattle.std.specs.Prelude.{◌≡◌, ◌↔◌, ℕ, ◌+◌, ◌*◌, ◌<◌, ◌≤◌, true, false, length, IfSome, IfNone, slice_set};
+ghost use Rattle.exchange_board.specs.Views.{place_at, out_at, ready_at, placed, progress};
+ghost use Rattle.exchange_board.specs.BoardKeeps.{phase_of};
+ghost use Rattle.exchange_board.specs.Content.{slots_in, row_total, taken_before, KeepsRows};
+ghost use Rattle.exchange_board.specs.Machine.{taken, IsReady, NoneReady, NoneOut, AllEnded, IsPhased, numbers};
+
+use crate::job::Job;
+use crate::origin::Origin;
+use crate::room::Room;
+use crate::totals::Totals;
+use plain_list::Items;
+use plane_sweep::{Duo, PairWheels, Place};
+use scalar_rule::Record;
+use std::alloc::Global;
+use std::marker::Model;
+use std::sync::Arc;
+
+/// A slot's content at home with a share of the origin, and its sums where it waits for its partner.
+#[derive(Drop)]
+pub(crate) struct Home {
+    pub(crate) share: Arc<Origin, Global>,
+    pub(crate) duo: Duo,
+    pub(crate) totals: Option<Totals>,
+}
+
+/// A slot's epoch, and its content unless it is in work.
+#[derive(Drop)]
+pub(crate) struct Slot {
+    pub(crate) epoch: u64,
+    pub(crate) home: Option<Home>,
+}
+
+/// The slots of a run at their places, the generators of the pairs, the records, and the room that the
+/// end needs. Contracts see the origin and the places.
+#[derive(Drop)]
+pub struct Board {
+    pub(crate) origin: Arc<Origin, Global>,
+    pub(crate) slots: Items<Slot>,
+    pub(crate) pairs: Items<PairWheels>,
+    pub(crate) records: Items<Record>,
+    pub(crate) left: u64,
+    pub(crate) duos: Items<Duo>,
+    pub(crate) pending: Room<Record>,
+    pub(crate) places: Items<Place>,
+}
+
+impl Model for Board {
+    ghost use Rattle.exchange_board.specs.Views.{BoardView};
+
+    ghost Value = { BoardView };
+
+    ghost use Rattle.exchange_board.specs.BoardKeeps.{board_view, KeepsBoard};
+
+    ghost view = { board_view };
+
+    ghost invariant = { KeepsBoard };
+}
+
+/// What a board answers when it is asked for a slot, in this order of rank: finished, stopped, nothing,
+/// a slot.
+pub enum Next {
+    /// A slot, now in work.
+    Job(Job),
+    /// No slot is at rest below until; some slot is in work.
+    Nothing,
+    /// Every slot is at rest at until.
+    Finished,
+    /// All hand-outs of the window are made; some slot has not ended.
+    Stopped,
+}
+
+impl Board {
+    ghost use Rattle.exchange_board.specs.Answers.{Nexts};
+
+    /// The progress number of a slot: four times its epoch, and its phase, 0 at rest, 1 in work and 2
+    /// waiting for its partner.
+    pub fn progress(&self, slot: u32) -> u64
+        requires { slot < length self.now.places }
+        ensures value { result ≡ progress (place_at self.now.places slot) }
+        ensures phase { (place_at self.now.places slot).phase < 3 }
+        ensures slots { length self.now.places ≡ slots_in self.now.origin }
+    {
+        let place = self.slots.at(slot as usize);
+        4 * place.epoch + phase(&place.home)
+    }
+
+    /// The records of the recorded epochs from the starting state's least completed epoch to until, in
+    /// order of epoch, sample and slot; those of epochs that a slot has not recorded are zeros.
+    pub fn records(&self) -> &[Record]
+        ensures rows { KeepsRows self.now.origin (numbers self.now.places) result.now }
+        ensures sized { length result.now ≡ row_total self.now.origin }
+    {
+        self.records.as_slice()
+    }
+
+    // Some slot that may be handed out.
+    fn ready_slot(&self) -> Option<u32>
+        ensures some { IfSome result (λ t. (t < length self.now.places) × IsReady self.now.origin.window.until self.now.places t) }
+        ensures none { IfNone result (NoneReady self.now.origin.window.until self.now.places) }
+        ensures lively { IfNone result (NoneOut self.now.places → AllEnded self.now.origin.window.until self.now.places) }
+        ensures phased { IsPhased self.now.places }
+    {
+        let until = self.origin.window.until;
+        for t in 0..self.slots.len() as u32 {
+            let number = self.progress(t);
+            if number % 4 == 0 && number < 4 * until {
+                return Some(t);
+            }
+        }
+        None
+    }
+
+    // Whether every slot is at rest at until.
+    pub(crate) fn is_ended(&self) -> bool
+        ensures { (result ≡ true) ↔ AllEnded self.now.origin.window.until self.now.places }
+    {
+        let until = self.origin.window.until;
+        for t in 0..self.slots.len() as u32 {
+            if self.progress(t) != 4 * until {
+                return false;
+            }
+        }
+        true
+    }
+
+    // Whether all hand-outs are made.
+    fn is_spent(&self) -> bool
+        ensures spent { result ≡ true → taken self.now.places ≡ taken_before self.now.origin + self.now.origin.window.takes }
+        ensures left { result ≡ false → taken self.now.places < taken_before self.now.origin + self.now.origin.window.takes }
+    {
+        self.left == 0
+    }
+
+    fn take(&mut self, slot: u32) -> Job
+        requires known { slot < length self.old.places }
+        requires ready { IsReady self.old.origin.window.until self.old.places slot }
+        requires left { taken self.old.places < taken_before self.old.origin + self.old.origin.window.takes }
+        ensures job { result ≡ record { origin = self.old.origin; slot = slot; epoch = (place_at self.old.places slot).epoch } }
+        ensures moved { self.new ≡ placed self.old (slice_set self.old.places slot (out_at (place_at self.old.places slot).epoch)) }
+    {
+        self.left -= 1;
+        let place = self.slots.at_mut(slot as usize);
+        match place.home.take() {
+            Some(home) => Job {
+                slot,
+                epoch: place.epoch,
+                share: home.share,
+                duo: home.duo,
+            },
+            None => unreachable!(),
+        }
+    }
+
+    /// A slot at rest below until, which is then in work, where there is one and hand-outs are left;
+    /// which of several is not promised. Takes no memory, and time by the number of slots.
+    pub fn next(&mut self) -> Next
+        ensures next { Nexts self.old self.new result }
+        ensures phased { IsPhased self.old.places }
+    {
+        let ready = self.ready_slot();
+        if self.is_ended() {
+            return Next::Finished;
+        }
+        if self.is_spent() {
+            return Next::Stopped;
+        }
+        match ready {
+            Some(slot) => Next::Job(self.take(slot)),
+            None => Next::Nothing,
+        }
+    }
+}
+
+/// The phase of a slot.
+pub(crate) fn phase(home: &Option<Home>) -> u64
+    ensures value { result ≡ phase_of home.now }
+    ensures small { result < 3 }
+{
+    match home {
+        None => 1,
+        Some(home) => { if home.totals.is_some() { 2 } else { 0 } }
+    }
+}

@@ -1,0 +1,25 @@
+//! The exchange schedule of a run: the slots of 64 disorder samples, each handed out for the sweeps of
+//! its epoch and handed back, with the exchange of a pair when the second of two partners is back.
+#![tactic(auto)]
+
+mod arrival;
+mod board;
+mod ended;
+mod ending;
+mod job;
+mod laws;
+mod opening;
+mod origin;
+mod room;
+mod rows;
+#[cfg(test)]
+mod tests;
+mod totals;
+mod trading;
+
+pub use arrival::Arrival;
+pub use board::{Board, Next};
+pub use ended::{Ended, RaggedEnded};
+pub use job::{Job, Swept};
+pub use laws::{resumed_records_go_on, resumed_state_goes_on};
+pub use origin::{Origin, Window};

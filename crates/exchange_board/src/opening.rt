@@ -1,0 +1,250 @@
+//! Opening a board: all its memory is taken here.
+
+ghost use Rattle.std.specs.Prelude.{◌≡◌, ℕ, ◌+◌, ◌-◌, ◌*◌, ◌/◌, ◌%◌, ◌<◌, ◌≤◌, true, false, length, replicate, IfOk, IsSomeAnd, slice_set, slice_index_or};
+ghost use Rattle.std.specs.Arc.{arc_value};
+ghost use Rattle.plane_sweep.specs.Packed.{FitsDuo, StandFits};
+ghost use Rattle.plane_sweep.specs.Uneven.{positions_of, level_stand, RaggedStandFits};
+ghost use Rattle.scalar_rule.specs.Plan.{slots_of};
+ghost use Rattle.scalar_rule.specs.Positions.{deepest_of, floor_of, cell_epoch};
+ghost use Rattle.exchange_board.specs.Content.{plan_of, slots_in, positions_in, floor_in, started, row_place, row_total, no_record, record_at, KeepsRows, IsLawfulOrigin};
+ghost use Rattle.exchange_board.specs.Kept.{kept_in, before_in, cells_in, IsFilled};
+ghost use Rattle.exchange_board.specs.Opening.{Begins, AreFirst};
+
+use crate::board::{Board, Home, Slot};
+use crate::origin::{Origin, Window};
+use crate::room::Room;
+use crate::rows::rows_of;
+use crate::totals::totals_of;
+use glass_edges::NoMemory;
+use plain_list::Items;
+use plane_sweep::{Duo, Place, RaggedStand, Replica, Stand, cell_at, deepest, has_record};
+use scalar_rule::{Plan, Record};
+use std::alloc::Global;
+use std::sync::Arc;
+
+// So many records of zeros.
+fn no_records(alloc: Global, count: usize) -> Result<Items<Record>, NoMemory>
+    ensures { IfOk result (λ rows. rows ≡ replicate count no_record) }
+{
+    let mut rows = Vec::with_capacity(alloc, count)?;
+    'rows: for k in 0..count {
+        rows.push(Record {
+            first_energy: 0,
+            second_energy: 0,
+            overlap: 0,
+            first_replica: 0,
+            second_replica: 0,
+        })?;
+    }
+    Ok(Items::of(rows))
+}
+
+// One place of the table: where it has a record that is kept, that record goes to its row.
+fn fill_cell(
+    records: &mut Items<Record>,
+    origin: &Origin,
+    floor: u64,
+    index: usize,
+    next: usize,
+) -> usize
+    requires lawful { IsLawfulOrigin origin.now }
+    requires floor { floor ≡ floor_in origin.now }
+    requires index { index < cells_in origin.now }
+    requires next { next ≡ before_in origin.now index }
+    requires sized { length records.old ≡ row_total origin.now }
+    ensures kept { kept_in origin.now index ≡ true → (result ≡ next + 1) × (records.new ≡ slice_set records.old
+        (row_place origin.now (cell_epoch floor origin.now.window.samples (length (positions_in origin.now)) index)
+        (index / length (positions_in origin.now) % origin.now.window.samples) (index % length (positions_in origin.now)))
+        (record_at origin.now.base.pending next)) }
+    ensures passed { kept_in origin.now index ≡ false → (result ≡ next) × (records.new ≡ records.old) }
+{
+    let window = origin.window;
+    let cell = cell_at(index, floor, window.samples, origin.plan.slots());
+    if has_record(&cell, &origin.base.places, window.every) {
+        let rows = rows_of(origin, cell.slot, cell.epoch);
+        *records.at_mut(rows.place(cell.sample)) = *origin.base.pending.at(next);
+        next + 1
+    } else {
+        next
+    }
+}
+
+// The records that are kept from the start go to their rows.
+fn fill_records(records: &mut Items<Record>, origin: &Origin, floor: u64)
+    requires lawful { IsLawfulOrigin origin.now }
+    requires floor { floor ≡ floor_in origin.now }
+    requires records { records.old ≡ replicate (row_total origin.now) no_record }
+    ensures filled { IsFilled origin.now (cells_in origin.now) records.new }
+{
+    let ahead = deepest(&origin.base.places) - floor;
+    let cells = ahead as usize * origin.window.samples as usize * origin.plan.slots() as usize;
+    let mut next = 0usize;
+    'cells: for index in 0..cells {
+        next = fill_cell(records, origin, floor, index, next);
+    }
+}
+
+// The rows of a board that begins.
+fn opening_records(alloc: Global, origin: &Origin) -> Result<Items<Record>, NoMemory>
+    requires { IsLawfulOrigin origin.now }
+    ensures sized { IfOk result (λ rows. length rows ≡ row_total origin.now) }
+    ensures rows { IfOk result (KeepsRows origin.now (started origin.now)) }
+{
+    let window = origin.window;
+    let floor = origin.base.floor();
+    let epochs = window.until / window.every - floor / window.every;
+    let count = epochs as usize * window.samples as usize * origin.plan.slots() as usize;
+    let mut rows = no_records(alloc, count)?;
+    fill_records(&mut rows, origin, floor);
+    Ok(rows)
+}
+
+// A slot at the place where it begins.
+fn opened_slot(share: Arc<Origin, Global>, plan: &Plan, place: Place, duo: Duo) -> Slot
+    requires plan { plan.now ≡ arc_value (arc_value share).plan }
+    requires duo { FitsDuo plan.now.size duo }
+    ensures epoch { result.epoch ≡ place.epoch }
+    ensures home { IsSomeAnd result.home (Begins (arc_value share) place duo) }
+{
+    let totals = if place.arrived {
+        Some(totals_of(&duo, plan))
+    } else {
+        None
+    };
+    Slot {
+        epoch: place.epoch,
+        home: Some(Home { share, duo, totals }),
+    }
+}
+
+// A slot without planes.
+fn no_duo(alloc: Global) -> Duo {
+    Duo {
+        first: no_replica(alloc),
+        second: no_replica(alloc),
+    }
+}
+
+fn no_replica(alloc: Global) -> Replica {
+    Replica {
+        planes: Items::of(Vec::new(alloc)),
+        labels: [0; 64],
+    }
+}
+
+// So many slots without planes.
+fn no_duos(alloc: Global, count: usize) -> Result<Items<Duo>, NoMemory>
+    ensures { IfOk result (λ duos. length duos ≡ count) }
+{
+    let mut duos = Vec::with_capacity(alloc, count)?;
+    'duos: for t in 0..count {
+        duos.push(no_duo(alloc))?;
+    }
+    Ok(Items::of(duos))
+}
+
+// The slots at the places where they begin; their contents are moved.
+fn opening_slots(
+    alloc: Global,
+    origin: &Arc<Origin, Global>,
+    contents: Items<Duo>,
+) -> Result<Items<Slot>, NoMemory>
+    requires lawful { IsLawfulOrigin (arc_value origin.now) }
+    requires contents { contents ≡ (arc_value origin.now).base.slots }
+    ensures { IfOk result (AreFirst (arc_value origin.now)) }
+{
+    let mut contents = contents;
+    let mut slots = Vec::with_capacity(alloc, contents.len())?;
+    'slots: for t in 0..contents.len() {
+        let share = Arc::try_clone(origin)?;
+        let duo = std::mem::replace(contents.at_mut(t), no_duo(alloc));
+        let place = *origin.base.places.at(t);
+        slots.push(opened_slot(share, &origin.plan, place, duo))?;
+    }
+    Ok(Items::of(slots))
+}
+
+impl Board {
+    ghost use Rattle.exchange_board.specs.Answers.{Opened};
+
+    /// A board at the places of a state whose slots may stand at different epochs. All memory that the
+    /// board needs is taken here.
+    ///
+    /// # Errors
+    ///
+    /// Refuses only for want of memory; the state is then dropped.
+    pub fn open_ragged(
+        alloc: Global,
+        plan: &Arc<Plan, Global>,
+        base: RaggedStand,
+        window: Window,
+    ) -> Result<Board, NoMemory>
+        requires base { RaggedStandFits (arc_value plan.now) window.samples window.every base }
+        requires until { window.until ≤ 1000000000 }
+        requires every { window.every ≤ 1000000000 }
+        requires takes { window.takes ≤ 32000000000 }
+        requires reach { deepest_of (positions_of base) ≤ window.until }
+        requires rows { (window.until / window.every - floor_of (positions_of base) / window.every) * window.samples
+            * slots_of (arc_value plan.now) ≤ 4194304 }
+        ensures { IfOk result (Opened (arc_value plan.now) base window) }
+    {
+        let slots = plan.slots() as usize;
+        let RaggedStand {
+            places,
+            slots: contents,
+            pairs,
+            pending: _,
+        } = base.copy(alloc)?;
+        let share = Arc::try_clone(plan)?;
+        let origin = Arc::new(
+            alloc,
+            Origin {
+                plan: share,
+                base,
+                window,
+            },
+        )?;
+        let records = opening_records(alloc, &origin)?;
+        let duos = no_duos(alloc, slots)?;
+        let pending = Room::reserve(alloc, window.samples as usize * slots * slots)?;
+        let slots = opening_slots(alloc, &origin, contents)?;
+        Ok(Board {
+            origin,
+            slots,
+            pairs,
+            records,
+            left: window.takes,
+            duos,
+            pending,
+            places,
+        })
+    }
+
+    /// A board at a state whose slots are all at rest at one epoch.
+    ///
+    /// # Errors
+    ///
+    /// Refuses only for want of memory; the state is then dropped.
+    pub fn open(
+        alloc: Global,
+        plan: &Arc<Plan, Global>,
+        stand: Stand,
+        window: Window,
+    ) -> Result<Board, NoMemory>
+        requires stand { StandFits (arc_value plan.now) stand }
+        requires epoch { stand.epoch ≤ window.until }
+        requires until { window.until ≤ 1000000000 }
+        requires some_every { 1 ≤ window.every }
+        requires every { window.every ≤ 1000000000 }
+        requires some_samples { 1 ≤ window.samples }
+        requires samples { window.samples ≤ 64 }
+        requires takes { window.takes ≤ 32000000000 }
+        requires rows { (window.until / window.every - stand.epoch / window.every) * window.samples
+            * slots_of (arc_value plan.now) ≤ 4194304 }
+        ensures { IfOk result (Opened (arc_value plan.now) (level_stand stand) window) }
+    {
+        let _ = plan.slots();
+        let base = RaggedStand::level(alloc, stand)?;
+        Board::open_ragged(alloc, plan, base, window)
+    }
+}

@@ -1,0 +1,106 @@
+//! The places of a slot's records at an epoch.
+
+ghost use Rattle.std.specs.Prelude.{◌≡◌, ℕ, ◌+◌, ◌*◌, ◌<◌, ◌≤◌, true, length};
+ghost use Rattle.plane_sweep.specs.Packed.{part_slot, FitsDuo};
+ghost use Rattle.scalar_rule.specs.Epoch as model;
+ghost use Rattle.scalar_rule.specs.Records as rule;
+ghost use Rattle.exchange_board.specs.Content.{slots_in, floor_in, row_total, IsLawfulOrigin};
+ghost use Rattle.exchange_board.specs.Meeting.{AreRowsOf, RowsAfter, RecordsAfter};
+ghost use Rattle.exchange_board.specs.Totals.{AreTotals};
+
+use crate::origin::Origin;
+use crate::totals::{Totals, record_of};
+use plain_list::Items;
+use plane_sweep::Duo;
+use scalar_rule::{Plan, Record};
+
+/// Where the records of a slot at an epoch go, where the epoch is recorded: `at` is the number of
+/// recorded epochs before it, times the samples.
+#[derive(Clone, Copy)]
+pub(crate) struct Rows {
+    pub(crate) is_recorded: bool,
+    pub(crate) at: usize,
+    pub(crate) samples: u32,
+    pub(crate) slots: usize,
+    pub(crate) slot: usize,
+}
+
+impl Rows {
+    /// Where the record of a sample goes: in order of epoch, sample and slot.
+    pub(crate) fn place(&self, sample: u32) -> usize
+        requires sample { sample < self.now.samples }
+        requires slot { self.now.slot < self.now.slots }
+        requires few { (self.now.at + self.now.samples) * self.now.slots ≤ 4194304 }
+        ensures { result ≡ (self.now.at + sample) * self.now.slots + self.now.slot }
+    {
+        (self.at + sample as usize) * self.slots + self.slot
+    }
+}
+
+// Whether an epoch is recorded: the last of each `every`.
+fn is_recorded(epoch: u64, every: u64) -> bool
+    requires { 1 ≤ every }
+    ensures { result ≡ rule.is_recorded every epoch }
+{
+    epoch % every == every - 1
+}
+
+/// The places of the records of a slot at an epoch.
+pub(crate) fn rows_of(origin: &Origin, slot: u32, epoch: u64) -> Rows
+    requires lawful { IsLawfulOrigin origin.now }
+    requires slot { slot < slots_in origin.now }
+    requires from { floor_in origin.now ≤ epoch }
+    requires below { epoch < origin.now.window.until }
+    ensures rows { AreRowsOf origin.now slot epoch result }
+    ensures room { result.is_recorded ≡ true → (result.at + result.samples) * result.slots ≤ row_total origin.now }
+{
+    let every = origin.window.every;
+    let before = epoch / every - origin.base.floor() / every;
+    Rows {
+        is_recorded: is_recorded(epoch, every),
+        at: before as usize * origin.window.samples as usize,
+        samples: origin.window.samples,
+        slots: origin.base.slots.len(),
+        slot: slot as usize,
+    }
+}
+
+// The record of a slot in each printed sample, where its epoch is recorded.
+fn write_rows(records: &mut Items<Record>, duo: &Duo, totals: &Totals, plan: &Plan, rows: &Rows)
+    requires duo { FitsDuo plan.now.size duo.now }
+    requires totals { AreTotals plan.now duo.now totals.now }
+    requires samples { rows.now.samples ≤ 64 }
+    requires slot { rows.now.slot < rows.now.slots }
+    requires few { length records.old ≤ 4194304 }
+    requires room { rows.now.is_recorded ≡ true → (rows.now.at + rows.now.samples) * rows.now.slots ≤ length records.old }
+    ensures { RowsAfter rows.now (λ i. model.record_of plan.now i (part_slot plan.now.size i duo.now)) records.old records.new }
+{
+    if rows.is_recorded {
+        'samples: for i in 0..rows.samples {
+            *records.at_mut(rows.place(i)) = record_of(duo, totals, plan, i);
+        }
+    }
+}
+
+/// Writes the records of a slot that is swept at an epoch, where it is recorded.
+pub(crate) fn record_slot(
+    records: &mut Items<Record>,
+    duo: &Duo,
+    totals: &Totals,
+    plan: &Plan,
+    origin: &Origin,
+    slot: u32,
+    epoch: u64,
+)
+    requires lawful { IsLawfulOrigin origin.now }
+    requires slot { slot < slots_in origin.now }
+    requires from { floor_in origin.now ≤ epoch }
+    requires below { epoch < origin.now.window.until }
+    requires duo { FitsDuo plan.now.size duo.now }
+    requires totals { AreTotals plan.now duo.now totals.now }
+    requires sized { length records.old ≡ row_total origin.now }
+    ensures { RecordsAfter origin.now slot epoch (λ i. model.record_of plan.now i (part_slot plan.now.size i duo.now)) records.old records.new }
+{
+    let rows = rows_of(origin, slot, epoch);
+    write_rows(records, duo, totals, plan, &rows);
+}

@@ -1,0 +1,275 @@
+//! Plans, boards, and ways to work on them.
+
+ghost use Rattle.std.specs.Prelude.{◌≡◌, ◌+◌, ◌*◌, ◌<◌, length, IfOk};
+ghost use Rattle.std.specs.Arc.{arc_value};
+ghost use Rattle.exchange_board.specs.declared.board.Next.TheVariants as nexts;
+ghost use Rattle.plane_sweep.specs.Packed.{StandFits};
+ghost use Rattle.scalar_rule.specs.Plan.{slots_of};
+
+use crate::{Arrival, Board, Ended, Job, Next};
+use coupling_set::Couplings;
+use lattice_geometry::Lattice;
+use plane_sweep::Stand;
+use scalar_rule::{Plan, Record, Start};
+use std::alloc::Global;
+use std::process::Abort;
+use std::sync::Arc;
+use std::test::Fail;
+use threshold_table::{RuleKind, RuleRow, RuleTable, SwapTable};
+
+const ALWAYS: u64 = 4294967296;
+
+// Heat bath that keeps every spin +1.
+const UP: RuleRow = RuleRow {
+    values: [0, 0, 0, 0, 0, 0, ALWAYS],
+};
+
+// Heat bath against the field: every bond ends unsatisfied.
+const AGAINST: RuleRow = RuleRow {
+    values: [ALWAYS, ALWAYS, ALWAYS, 0, 0, 0, 0],
+};
+
+// Heat bath at three temperatures, the coldest first: thresholds at 0 to 6 aligned neighbours.
+const HEAT: [RuleRow; 3] = [
+    RuleRow {
+        values: [
+            0, 200000000, 900000000, 2147483648, 3400000000, 4100000000, ALWAYS,
+        ],
+    },
+    RuleRow {
+        values: [
+            100000000, 500000000, 1200000000, 2147483648, 3000000000, 3700000000, 4200000000,
+        ],
+    },
+    RuleRow {
+        values: [
+            700000000, 1100000000, 1600000000, 2147483648, 2600000000, 3100000000, 3500000000,
+        ],
+    },
+];
+
+// Metropolis at three temperatures: thresholds at 4 to 6 satisfied bonds.
+const METROPOLIS: [RuleRow; 3] = [
+    RuleRow {
+        values: [1500000000, 500000000, 100000000, 0, 0, 0, 0],
+    },
+    RuleRow {
+        values: [2500000000, 1200000000, 600000000, 0, 0, 0, 0],
+    },
+    RuleRow {
+        values: [3300000000, 2400000000, 1700000000, 0, 0, 0, 0],
+    },
+];
+
+// Two slots of the ferromagnet, of which the colder one is always the higher.
+pub(super) fn two_slots(alloc: Global) -> Result<Arc<Plan, Global>, Fail>
+    ensures { IfOk result (λ plan. slots_of (arc_value plan) ≡ 2) }
+{
+    let lattice = Lattice::of(4)?;
+    let rules = RuleTable::from_rows(alloc, RuleKind::Heat, &[AGAINST, UP])?;
+    if rules.slots() != 2 {
+        return Err("two slots".into());
+    }
+    let swaps = SwapTable::from_rows(alloc, &[[0]])?;
+    let couplings = Couplings::plus(alloc, lattice)?;
+    let plan = Plan::new(lattice, rules, swaps, couplings, 1, 7);
+    Ok(Arc::new(alloc, plan)?)
+}
+
+// Three slots of the ferromagnet that are alike.
+pub(super) fn three_slots(alloc: Global) -> Result<Arc<Plan, Global>, Fail>
+    ensures { IfOk result (λ plan. slots_of (arc_value plan) ≡ 3) }
+{
+    let lattice = Lattice::of(4)?;
+    let rules = RuleTable::from_rows(alloc, RuleKind::Heat, &[UP, UP, UP])?;
+    if rules.slots() != 3 {
+        return Err("three slots".into());
+    }
+    let swaps = SwapTable::from_rows(alloc, &[[0], [0]])?;
+    let couplings = Couplings::plus(alloc, lattice)?;
+    let plan = Plan::new(lattice, rules, swaps, couplings, 1, 7);
+    Ok(Arc::new(alloc, plan)?)
+}
+
+// Three temperatures with random couplings; an exchange is made half the times where it costs energy.
+pub(super) fn random_slots(
+    alloc: Global,
+    size: u32,
+    kind: RuleKind,
+) -> Result<Arc<Plan, Global>, Fail>
+    ensures { IfOk result (λ plan. slots_of (arc_value plan) ≡ 3) }
+{
+    let lattice = Lattice::of(size)?;
+    let rules = match kind {
+        RuleKind::Heat => RuleTable::from_rows(alloc, kind, HEAT.as_slice())?,
+        RuleKind::Metropolis => RuleTable::from_rows(alloc, kind, METROPOLIS.as_slice())?,
+    };
+    if rules.slots() != 3 {
+        return Err("three slots".into());
+    }
+    let swaps = SwapTable::from_rows(alloc, &[[2147483648; 8], [2147483648; 8]])?;
+    let couplings = Couplings::random(alloc, lattice, 11)?;
+    let plan = Plan::new(lattice, rules, swaps, couplings, 1, 11);
+    Ok(Arc::new(alloc, plan)?)
+}
+
+// The state at epoch 0.
+pub(super) fn opening(alloc: Global, plan: &Plan, start: Start) -> Result<Stand, Fail>
+    ensures fits { IfOk result (StandFits plan.now) }
+    ensures begun { IfOk result (λ stand. stand.epoch ≡ 0) }
+{
+    let stand = Stand::opening(alloc, plan, start)?;
+    if stand.epoch != 0 {
+        return Err("begun".into());
+    }
+    Ok(stand)
+}
+
+// A record whose replicas are equal, of 64 sites.
+pub(super) fn record(energy: i32, label: u8) -> Record {
+    Record {
+        first_energy: energy,
+        second_energy: energy,
+        overlap: 64,
+        first_replica: label,
+        second_replica: label,
+    }
+}
+
+// An answer of a board that hands nothing out.
+#[derive(Clone, Copy, Debug, PartialEq, Eq)]
+pub(super) enum Pause {
+    Nothing,
+    Finished,
+    Stopped,
+}
+
+// A board is asked for a slot and hands none out.
+pub(super) fn pause_of<R: Abort>(rt: &R, board: &mut Board) -> Pause
+    ensures { board.new.origin ≡ board.old.origin }
+{
+    match board.next() {
+        Next::Job(_job) => panic!(rt; "a slot was handed out"),
+        Next::Nothing => Pause::Nothing,
+        Next::Finished => Pause::Finished,
+        Next::Stopped => Pause::Stopped,
+    }
+}
+
+pub(super) fn job_of<R: Abort>(rt: &R, next: Next) -> Job
+    ensures { next ≡ nexts.Job result }
+{
+    match next {
+        Next::Job(job) => job,
+        Next::Nothing | Next::Finished | Next::Stopped => panic!(rt; "no job"),
+    }
+}
+
+// The number of slots.
+pub(super) fn count(board: &Board) -> u32
+    ensures { result ≡ length board.now.places }
+{
+    board.slots.len() as u32
+}
+
+// A slot is swept and handed back.
+pub(super) fn bring<R: Abort + Sync>(rt: &R, board: &mut Board, plan: &Plan, job: Job) -> Arrival
+    requires plan { plan.now ≡ arc_value board.old.origin.plan }
+    requires same { job.origin ≡ board.old.origin }
+    ensures { board.new.origin ≡ board.old.origin }
+{
+    let (slot, epoch) = (job.slot(), job.epoch());
+    assert!(rt; slot < count(board));
+    assert!(rt; epoch < 1000);
+    assert_eq!(rt; board.progress(slot), 4 * epoch + 1);
+    let swept = job.sweep(rt, plan, 1);
+    board.arrive(plan, swept)
+}
+
+// How slots are handed out and back.
+#[derive(Clone, Copy, Debug)]
+pub(super) enum Order {
+    // Each is back before the next one goes out.
+    OneByOne,
+    // Two are out; the first one comes back first.
+    FirstBackFirst,
+    // Two are out; the last one comes back first.
+    LastBackFirst,
+}
+
+// A slot that is out is handed back, by the order with the next one.
+fn go_on<R: Abort + Sync>(rt: &R, board: &mut Board, plan: &Plan, job: Job, order: Order)
+    requires plan { plan.now ≡ arc_value board.old.origin.plan }
+    requires same { job.origin ≡ board.old.origin }
+    ensures { board.new.origin ≡ board.old.origin }
+{
+    match order {
+        Order::OneByOne => {
+            let _ = bring(rt, board, plan, job);
+        }
+        Order::FirstBackFirst | Order::LastBackFirst => match board.next() {
+            Next::Job(other) => match order {
+                Order::LastBackFirst => two_back(rt, board, plan, other, job),
+                Order::OneByOne | Order::FirstBackFirst => two_back(rt, board, plan, job, other),
+            },
+            Next::Nothing | Next::Finished | Next::Stopped => {
+                let _ = bring(rt, board, plan, job);
+            }
+        },
+    }
+}
+
+fn two_back<R: Abort + Sync>(rt: &R, board: &mut Board, plan: &Plan, first: Job, last: Job)
+    requires plan { plan.now ≡ arc_value board.old.origin.plan }
+    requires first { first.origin ≡ board.old.origin }
+    requires last { last.origin ≡ board.old.origin }
+    ensures { board.new.origin ≡ board.old.origin }
+{
+    let _ = bring(rt, board, plan, first);
+    let _ = bring(rt, board, plan, last);
+}
+
+// Whether a slot was handed out; it is then back.
+fn turn<R: Abort + Sync>(rt: &R, board: &mut Board, plan: &Plan, order: Order) -> bool
+    requires { plan.now ≡ arc_value board.old.origin.plan }
+    ensures { board.new.origin ≡ board.old.origin }
+{
+    match board.next() {
+        Next::Job(job) => {
+            go_on(rt, board, plan, job, order);
+            true
+        }
+        Next::Nothing | Next::Finished | Next::Stopped => false,
+    }
+}
+
+// Hand-outs and hand-backs until nothing is handed out.
+pub(super) fn work<R: Abort + Sync>(rt: &R, board: &mut Board, plan: &Plan, order: Order) -> Pause
+    requires { plan.now ≡ arc_value board.old.origin.plan }
+    ensures { board.new.origin ≡ board.old.origin }
+{
+    'turns: for _ in 0..1000 {
+        if !turn(rt, board, plan, order) {
+            break;
+        }
+    }
+    pause_of(rt, board)
+}
+
+// The state of a board at its end, and its records.
+pub(super) fn end_of(board: Board, plan: &Plan) -> Result<(Stand, Vec<Record>), Fail>
+    requires { plan.now ≡ arc_value board.origin.plan }
+    ensures { IfOk result (λ end. StandFits plan.now end.0) }
+{
+    match board.into_stand() {
+        Ok(ended) => {
+            let Ended {
+                origin: _,
+                stand,
+                records,
+            } = ended;
+            Ok((stand, records.into_vec()))
+        }
+        Err(_) => Err("not at its end".into()),
+    }
+}

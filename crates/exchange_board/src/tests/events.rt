@@ -1,0 +1,272 @@
+//! Two and three slots, hand-out by hand-out.
+
+ghost use Rattle.std.specs.Prelude.{◌≡◌, ◌<◌};
+ghost use Rattle.std.specs.Arc.{arc_value};
+
+use super::boards::{
+    Order, Pause, bring, count, end_of, job_of, opening, pause_of, record, three_slots, two_slots,
+    work,
+};
+use crate::{Arrival, Board, Job, Window};
+use scalar_rule::{Plan, Start};
+use std::alloc::Global;
+use std::process::Abort;
+use std::test::Fail;
+
+// Every epoch of sample 0 is recorded, and hand-outs do not end.
+fn window(until: u64) -> Window
+    ensures { result ≡ record { until = until; every = 1; samples = 1; takes = 32000000000 } }
+{
+    Window {
+        until,
+        every: 1,
+        samples: 1,
+        takes: 32000000000,
+    }
+}
+
+// Two slots of a board in the order of their numbers.
+fn two_jobs<R: Abort>(rt: &R, board: &mut Board) -> (Job, Job)
+    ensures first { result.0.origin ≡ board.old.origin }
+    ensures second { result.1.origin ≡ board.old.origin }
+    ensures origin { board.new.origin ≡ board.old.origin }
+{
+    let a = job_of(rt, board.next());
+    let b = job_of(rt, board.next());
+    if a.slot() < b.slot() { (a, b) } else { (b, a) }
+}
+
+// A slot comes back, with this answer.
+fn comes_back<R: Abort + Sync>(rt: &R, board: &mut Board, plan: &Plan, job: Job, answer: Arrival)
+    requires plan { plan.now ≡ arc_value board.old.origin.plan }
+    requires same { job.origin ≡ board.old.origin }
+    ensures { board.new.origin ≡ board.old.origin }
+{
+    let (slot, epoch) = (job.slot(), job.epoch());
+    let given = bring(rt, board, plan, job);
+    assert_eq!(rt; given, answer, "slot {slot} at epoch {epoch}");
+}
+
+// The next slot that is handed out is this one.
+fn next_is<R: Abort>(rt: &R, board: &mut Board, slot: u32, epoch: u64) -> Job
+    ensures job { result.origin ≡ board.old.origin }
+    ensures origin { board.new.origin ≡ board.old.origin }
+{
+    let job = job_of(rt, board.next());
+    assert_eq!(rt; (job.slot(), job.epoch()), (slot, epoch));
+    job
+}
+
+// Slots 0 and 1 at epoch 0, whose pair has its turn: one waits, and then the two are exchanged.
+fn first_epoch<R: Abort + Sync>(
+    rt: &R,
+    board: &mut Board,
+    plan: &Plan,
+    warmer_first: bool,
+    jobs: (Job, Job),
+)
+    requires plan { plan.now ≡ arc_value board.old.origin.plan }
+    requires colder { jobs.0.origin ≡ board.old.origin }
+    requires warmer { jobs.1.origin ≡ board.old.origin }
+    ensures { board.new.origin ≡ board.old.origin }
+{
+    let (colder, warmer) = jobs;
+    let (first, last) = if warmer_first {
+        (warmer, colder)
+    } else {
+        (colder, warmer)
+    };
+    comes_back(rt, board, plan, first, Arrival::Waiting);
+    comes_back(rt, board, plan, last, Arrival::Settled { pair: 0 });
+}
+
+// Slot 0 at epoch 1, where it has no partner, and at epoch 2, where it waits for slot 1.
+fn colder_goes_on<R: Abort + Sync>(rt: &R, board: &mut Board, plan: &Plan, colder: Job)
+    requires plan { plan.now ≡ arc_value board.old.origin.plan }
+    requires same { colder.origin ≡ board.old.origin }
+    ensures { board.new.origin ≡ board.old.origin }
+{
+    comes_back(rt, board, plan, colder, Arrival::Alone);
+    let again = next_is(rt, board, 0, 2);
+    comes_back(rt, board, plan, again, Arrival::Waiting);
+}
+
+// The same, and slot 1 comes back at epoch 1 while slot 0 is in work at epoch 2.
+fn both_go_on<R: Abort + Sync>(rt: &R, board: &mut Board, plan: &Plan, colder: Job, warmer: Job)
+    requires plan { plan.now ≡ arc_value board.old.origin.plan }
+    requires colder { colder.origin ≡ board.old.origin }
+    requires warmer { warmer.origin ≡ board.old.origin }
+    ensures { board.new.origin ≡ board.old.origin }
+{
+    comes_back(rt, board, plan, colder, Arrival::Alone);
+    let again = next_is(rt, board, 0, 2);
+    comes_back(rt, board, plan, warmer, Arrival::Waiting);
+    comes_back(rt, board, plan, again, Arrival::Waiting);
+}
+
+// When slot 1 comes back at epoch 1: before slot 0 does, or while slot 0 is in work at epoch 2, or
+// after it.
+#[derive(Clone, Copy)]
+enum Moment {
+    Before,
+    Between,
+    After,
+}
+
+// Slots 0 and 1 go on as far as they can while slot 2 is in work at epoch 0.
+fn later_epochs<R: Abort + Sync>(rt: &R, board: &mut Board, plan: &Plan, moment: Moment)
+    requires { plan.now ≡ arc_value board.old.origin.plan }
+    ensures { board.new.origin ≡ board.old.origin }
+{
+    let (colder, warmer) = two_jobs(rt, board);
+    match moment {
+        Moment::Before => {
+            comes_back(rt, board, plan, warmer, Arrival::Waiting);
+            colder_goes_on(rt, board, plan, colder);
+        }
+        Moment::Between => both_go_on(rt, board, plan, colder, warmer),
+        Moment::After => {
+            colder_goes_on(rt, board, plan, colder);
+            comes_back(rt, board, plan, warmer, Arrival::Waiting);
+        }
+    }
+    assert_eq!(rt; pause_of(rt, board), Pause::Nothing);
+}
+
+// Slot 2, which was in work at epoch 0 all the while, comes back, and is the only one that can go on.
+fn last_slot<R: Abort + Sync>(rt: &R, board: &mut Board, plan: &Plan, last: Job)
+    requires plan { plan.now ≡ arc_value board.old.origin.plan }
+    requires same { last.origin ≡ board.old.origin }
+    ensures { board.new.origin ≡ board.old.origin }
+{
+    comes_back(rt, board, plan, last, Arrival::Alone);
+    assert!(rt; count(board) == 3);
+    let numbers = (board.progress(0), board.progress(1), board.progress(2));
+    assert_eq!(rt; numbers, (10, 6, 4));
+    let again = next_is(rt, board, 2, 1);
+    comes_back(rt, board, plan, again, Arrival::Settled { pair: 1 });
+}
+
+// Three jobs of a board, each slot's own: those of the slots 0 and 1, and that of slot 2.
+fn three_jobs<R: Abort>(rt: &R, board: &mut Board) -> ((Job, Job), Job)
+    ensures first { result.0.0.origin ≡ board.old.origin }
+    ensures second { result.0.1.origin ≡ board.old.origin }
+    ensures third { result.1.origin ≡ board.old.origin }
+    ensures origin { board.new.origin ≡ board.old.origin }
+{
+    let (a, b) = two_jobs(rt, board);
+    let c = job_of(rt, board.next());
+    if c.slot() < a.slot() {
+        ((c, a), b)
+    } else if c.slot() < b.slot() {
+        ((a, c), b)
+    } else {
+        ((a, b), c)
+    }
+}
+
+fn three_slot_events<R: Abort + Sync>(
+    rt: &R,
+    alloc: Global,
+    warmer_first: bool,
+    moment: Moment,
+) -> Result<(), Fail> {
+    let plan = three_slots(alloc)?;
+    let stand = opening(alloc, &plan, Start::Up)?;
+    let mut board = Board::open(alloc, &plan, stand, window(3))?;
+    let (pair, last) = three_jobs(rt, &mut board);
+    first_epoch(rt, &mut board, &plan, warmer_first, pair);
+    later_epochs(rt, &mut board, &plan, moment);
+    last_slot(rt, &mut board, &plan, last);
+    assert_eq!(rt;
+        work(rt, &mut board, &plan, Order::OneByOne),
+        Pause::Finished
+    );
+    Ok(())
+}
+
+#[test]
+fn three_slots_each_order_of_events(rt: HostRuntime) -> Result<(), Fail> {
+    for warmer_first in [false, true] {
+        for moment in [Moment::Before, Moment::Between, Moment::After] {
+            three_slot_events(&rt, rt.alloc(), warmer_first, moment)?;
+        }
+    }
+    Ok(())
+}
+
+// A board between two arrivals is handed back.
+fn handed_back<R: Abort>(rt: &R, board: Board) -> Board
+    ensures { result ≡ board }
+{
+    match board.into_stand() {
+        Ok(_) => panic!(rt; "a slot is in work"),
+        Err(board) => board,
+    }
+}
+
+// While a slot is in work nothing is handed out, and a board between two arrivals is handed back.
+fn in_work<R: Abort + Sync>(rt: &R, board: Board, plan: &Plan, jobs: (Job, Job)) -> Board
+    requires plan { plan.now ≡ arc_value board.origin.plan }
+    requires colder { jobs.0.origin ≡ board.origin }
+    requires warmer { jobs.1.origin ≡ board.origin }
+    ensures { result.origin ≡ board.origin }
+{
+    let mut board = board;
+    let (colder, warmer) = jobs;
+    assert_eq!(rt; pause_of(rt, &mut board), Pause::Nothing);
+    comes_back(rt, &mut board, plan, colder, Arrival::Waiting);
+    assert_eq!(rt; pause_of(rt, &mut board), Pause::Nothing);
+    let mut board = handed_back(rt, board);
+    comes_back(rt, &mut board, plan, warmer, Arrival::Settled { pair: 0 });
+    board
+}
+
+#[test]
+fn two_slots_in_work_hand_out_nothing(rt: HostRuntime) -> Result<(), Fail> {
+    let alloc = rt.alloc();
+    let plan = two_slots(alloc)?;
+    let stand = opening(alloc, &plan, Start::Up)?;
+    let mut board = Board::open(alloc, &plan, stand, window(1))?;
+    let jobs = two_jobs(&rt, &mut board);
+    let mut board = in_work(&rt, board, &plan, jobs);
+    assert_eq!(rt; pause_of(&rt, &mut board), Pause::Finished);
+    let (_, records) = end_of(board, &plan)?;
+    let rows = [record(192, 0), record(-192, 1)];
+    assert_eq!(rt; records.as_slice(), rows.as_slice());
+    Ok(())
+}
+
+#[test]
+fn two_slot_schedule_to_its_end(rt: HostRuntime) -> Result<(), Fail> {
+    let alloc = rt.alloc();
+    let plan = two_slots(alloc)?;
+    let stand = opening(alloc, &plan, Start::Up)?;
+    let mut board = Board::open(alloc, &plan, stand, window(2))?;
+    assert_eq!(rt;
+        work(&rt, &mut board, &plan, Order::OneByOne),
+        Pause::Finished
+    );
+    let (stand, records) = end_of(board, &plan)?;
+    let rows = [
+        record(192, 0),
+        record(-192, 1),
+        record(192, 1),
+        record(-192, 0),
+    ];
+    assert_eq!(rt; records.as_slice(), rows.as_slice());
+    assert_eq!(rt; stand.epoch, 2);
+    Ok(())
+}
+
+#[test]
+fn a_board_opened_at_its_end_is_finished(rt: HostRuntime) -> Result<(), Fail> {
+    let alloc = rt.alloc();
+    let plan = two_slots(alloc)?;
+    let stand = opening(alloc, &plan, Start::Up)?;
+    let mut board = Board::open(alloc, &plan, stand, window(0))?;
+    assert_eq!(rt; pause_of(&rt, &mut board), Pause::Finished);
+    let (_, records) = end_of(board, &plan)?;
+    assert!(rt; records.is_empty());
+    Ok(())
+}

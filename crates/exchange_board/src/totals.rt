@@ -1,0 +1,76 @@
+//! The sweeps of an epoch in all 64 samples, and the sums after them.
+
+ghost use Rattle.std.specs.Prelude.{◌≡◌, ℕ, ◌+◌, ◌*◌, ◌<◌, ◌≤◌, ◌-ℤ◌, pos};
+ghost use Rattle.exchange_board.specs.Totals.{AreTotals};
+ghost use Rattle.plane_sweep.specs.Packed.{part_copy, part_slot, FitsDuo, FitsReplica};
+ghost use Rattle.scalar_rule.specs.Epoch as model;
+ghost use Rattle.scalar_rule.specs.Plan.{slots_of};
+
+use bit_totals::{agreeing, unsatisfied};
+use multispin_word::Planes;
+use plane_sweep::{Duo, sweep_often};
+use scalar_rule::{Plan, Record};
+
+/// The sums of a slot after its sweeps, as twenty bit planes of 64 samples: the unsatisfied bonds of
+/// both replicas, 0 to 3V for V sites, and the sites at which they agree, 0 to V.
+#[derive(Drop)]
+pub struct Totals {
+    pub first: Planes<20>,
+    pub second: Planes<20>,
+    pub agreeing: Planes<20>,
+}
+
+/// The sums of a slot.
+pub(crate) fn totals_of(duo: &Duo, plan: &Plan) -> Totals
+    requires { FitsDuo plan.now.size duo.now }
+    ensures { AreTotals plan.now duo.now result }
+{
+    let _ = plan.lattice();
+    Totals {
+        first: unsatisfied(&duo.first, plan),
+        second: unsatisfied(&duo.second, plan),
+        agreeing: agreeing(&duo.first, &duo.second),
+    }
+}
+
+/// The sweeps of an epoch of both replicas of a slot.
+#[tactic(auto, unfolding(scalar_rule::specs::Epoch::swept_slot))]
+pub(crate) fn sweep_slot<R: Sync>(rt: &R, duo: &mut Duo, plan: &Plan, slot: u32, pieces: u32)
+    requires duo { FitsDuo plan.now.size duo.old }
+    requires slot { slot < slots_of plan.now }
+    requires some_pieces { 1 ≤ pieces }
+    requires few_pieces { pieces ≤ 16 }
+    ensures swept { (b : ℕ) → b < 64 → part_slot plan.now.size b duo.new
+        ≡ model.swept_slot plan.now b slot (part_slot plan.now.size b duo.old) }
+    ensures fits { FitsDuo plan.now.size duo.new }
+{
+    let count = plan.sweeps();
+    sweep_often(rt, &mut duo.first, plan, slot, pieces, count);
+    sweep_often(rt, &mut duo.second, plan, slot, pieces, count);
+}
+
+// Twice a part, less the whole.
+fn excess(part: u32, whole: u32) -> i32
+    requires part { part ≤ whole }
+    requires whole { whole ≤ 786432 }
+    ensures { result ≡ pos (2 * part) -ℤ pos whole }
+{
+    (2 * part) as i32 - whole as i32
+}
+
+/// What is measured of a slot in one sample.
+pub(crate) fn record_of(duo: &Duo, totals: &Totals, plan: &Plan, sample: u32) -> Record
+    requires duo { FitsDuo plan.now.size duo.now }
+    requires totals { AreTotals plan.now duo.now totals.now }
+    requires sample { sample < 64 }
+    ensures { result ≡ model.record_of plan.now sample (part_slot plan.now.size sample duo.now) }
+{
+    let sites = plan.lattice().sites();
+    Record {
+        first_energy: excess(totals.first.number_at(sample), 3 * sites),
+        second_energy: excess(totals.second.number_at(sample), 3 * sites),
+        overlap: excess(totals.agreeing.number_at(sample), sites),
+        first_replica: duo.first.labels[sample as usize],
+        second_replica: duo.second.labels[sample as usize],
+    }
+}
