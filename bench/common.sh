@@ -37,6 +37,8 @@ read_words() {
             --limit) limit=${2-} ;;
             --passes) passes=$(number --passes "${2-}") ;;
             --turns) turns=$(number --turns "${2-}") ;;
+            --sweeps) [ -n "${sweeps-}" ] || fail "unknown word '$1' (see --help)"
+                sweeps=$(number --sweeps "${2-}") ;;
             --sizes) [ -n "${sizes-}" ] || fail "unknown word '$1' (see --help)"; sizes=${2-} ;;
             *) fail "unknown word '$1' (see --help)" ;;
         esac
@@ -45,15 +47,38 @@ read_words() {
     check_words
 }
 
-# Builds bench/$1.c and the crate $2 into $build, for the same processor.
-build_sides() {
+# The sizes for which the C side has code of its own.
+check_sizes() {
+    for size in $sizes; do
+        case "$size" in
+            8 | 16 | 32 | 64) ;;
+            *) fail "--sizes takes 8, 16, 32 and 64, not '$size'" ;;
+        esac
+    done
+}
+
+# Goes to the repository's folder, where $build is.
+begin_build() {
     cd "$(dirname "$0")/.."
     build=bench/build
     mkdir -p "$build"
+}
+
+# Builds the program crate $1 into $build by a run with the words that follow.
+build_crate() {
+    local crate=$1
+    shift
+    [ $# -eq 0 ] || set -- -- "$@"
+    (cd "crates/$crate" && rt run "--cpu=$cpu" "$@") > "$build/$crate.log" 2>&1 \
+        || fail "rt run failed: see $build/$crate.log"
+    cp "crates/$crate/out/$crate" "$build/$crate"
+}
+
+# Builds bench/$1.c and the crate $2 into $build, for the same processor.
+build_sides() {
+    begin_build
     gcc -O3 "-march=$cpu" "bench/$1.c" -o "$build/$1_c" || fail "gcc failed"
-    (cd "crates/$2" && rt run "--cpu=$cpu") > "$build/$2.log" 2>&1 \
-        || fail "rt run failed: see $build/$2.log"
-    cp "crates/$2/out/$2" "$build/$2"
+    build_crate "$2"
 }
 
 # Reads lines of a side (C or Rattle), a name of one or more words, a time, and what was left. Prints for

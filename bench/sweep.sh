@@ -26,12 +26,7 @@ limit=1.4
 sizes="8 16 32 64"
 . "$(dirname "$0")/common.sh"
 read_words "$@"
-for size in $sizes; do
-    case "$size" in
-        8 | 16 | 32 | 64) ;;
-        *) fail "--sizes takes 8, 16, 32 and 64, not '$size'" ;;
-    esac
-done
+check_sizes
 build_sides sweep bench_sweep
 
 # One run of a side, in picoseconds.

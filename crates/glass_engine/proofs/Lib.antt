@@ -1,9 +1,9 @@
+pub mod Steps
+pub mod Driven
+pub mod WholeRuns
 pub mod Joined
-mod Putting
-mod Parts
-mod Pieces
+pub mod Pieces
+pub mod Putting
+pub mod Adding
 pub mod Reporting
-mod Advancing
-mod Epochs
-mod Ending
-mod OpeningRun
+pub mod LevelReports

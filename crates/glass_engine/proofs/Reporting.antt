@@ -1,37 +1,163 @@
 -- The report by its four parts.
-use Rattle.std.proofs.Common.{◌≡◌, ℕ, ◌<◌, ◌≤◌, Bool, true, false, cond, List, [], ◌++◌, Option, ap, sym, ◌∙◌, subst, append-nil, arith, lit<}
+use Rattle.std.proofs.Common.{arith, ◌≡◌, inl, inr, ℕ, suc, ◌+◌, ◌-◌, ◌*◌, ◌/◌, ◌<◌, ◌≤◌, Bool, true, false, cond, not, List, [], ◌∷◌, ◌++◌, length, Option, refl, sym, ap, ap₂, ◌∙◌, subst, append-nil}
+use Rattle.std.specs.Prelude.{◌==◌, ◌&&◌}
+use Rattle.std.proofs.Math.Nat.{mul-le-mul_right}
+use Rattle.std.proofs.lemmas.Bool.{cases_Bool, and_parts, eqb-true, eq-eqb, true_from_ne_false, true≢false, false≢true}
+use Rattle.std.proofs.lemmas.List.{length-map}
+use Rattle.std.proofs.lemmas.List.Folds.{list_all_at}
 use Rattle.glass_edges.specs.Contents.{appended, AppendsPrefix}
 use Rattle.glass_edges.proofs.Puts.{appended-appended, prefix_front, prefix_past}
 use Rattle.report_text.specs.Lines.{header_line, end_line}
-use Rattle.run_plan.specs.declared.run_file.Orders.{Orders}
-use Rattle.scalar_rule.specs.Epoch.{epoch_records}
 use Rattle.scalar_rule.specs.Plan.{Plan}
-use Rattle.scalar_rule.specs.Records.{measured_from}
-use Rattle.scalar_rule.specs.Serial.{serial}
-use Rattle.scalar_rule.specs.declared.sample.Sample.{Sample}
-use Rattle.glass_engine.specs.Report.{report, rows_in_order, all_spins, sample_spins}
+use Rattle.scalar_rule.specs.Positions.{position_in, done, floor_of}
+use Rattle.scalar_rule.specs.Ragged.{Position, all_ready}
+use Rattle.scalar_rule.specs.declared.sample.PlainSlot.{PlainSlot}
+use Rattle.scalar_rule.proofs.Extremes.{least-at, least-some}
+use Rattle.plane_sweep.specs.Uneven.{place_at, position_of, positions_of, uneven_part}
+use Rattle.exchange_board.specs.declared.origin.Origin.{Origin}
+use Rattle.exchange_board.specs.Answers.{start_place, stages_of}
+use Rattle.exchange_board.specs.Content as board
+use Rattle.exchange_board.specs.Content.{plan_of, slots_in, floor_in, rows_before, row_total, IsLawfulOrigin}
+use Rattle.exchange_board.specs.Machine.{numbers, begun, AllEnded}
+use Rattle.exchange_board.specs.Stops.{IsStop}
+use Rattle.exchange_board.specs.Views.{RaggedEndedView}
+use Rattle.exchange_board.proofs.Cells.{floor-deep}
+use Rattle.exchange_board.proofs.Origins.{place-short, done-reach}
+use Rattle.exchange_board.proofs.RowPlaces.{quotient-upto}
+use Rattle.exchange_board.proofs.Starting.{begun-at}
+use Rattle.glass_engine.specs.Report.{uneven_report, rows_in_order, all_rest, all_spins, sample_spins}
+use Rattle.glass_engine.specs.RecordPieces.{measured, stopped_report}
+use Rattle.exchange_board.specs.Answers.{stages_of}
 use Rattle.glass_engine.proofs.Joined.{joined-same}
-use Rattle.glass_engine.proofs.Pieces.{rows-same}
+use Rattle.glass_engine.proofs.WholeRuns.{later, later-lawful, full-ended, rest-at, whole-slots}
 
--- the spins of the same states
-pub spins-same : (plan : Plan) (samples : ℕ) (s t : ℕ → Sample) → ((b : ℕ) → b < samples → s b ≡ t b) → all_spins plan samples s ≡ all_spins plan samples t
+-- ---- what the parts ask for
+
+pub rows-within : (o : Origin) (from to slots : ℕ) → IsLawfulOrigin o → from ≡ floor_in o → to ≤ o.window.until → slots ≡ slots_in o
+    → (to / o.window.every - from / o.window.every) * o.window.samples * slots ≤ row_total o
+rows-within o from to slots l from_is below slots_is =
+    let q = quotient-upto o.window.every to o.window.until (omega (arith, l.base.some_every)) below in
+    let c : from / o.window.every ≡ floor_in o / o.window.every = ap (λ n. n / o.window.every) from_is in
+    let a : to / o.window.every - from / o.window.every ≤ rows_before o o.window.until = omega arith in
+    let b = mul-le-mul_right o.window.samples a in
+    let d = mul-le-mul_right slots b in
+    let e : rows_before o o.window.until * o.window.samples * slots ≡ row_total o = ap (λ n. rows_before o o.window.until * o.window.samples * n) slots_is in
+    omega arith
+
+pub stop-short : (o : Origin) (d : RaggedEndedView) (t : ℕ) → IsLawfulOrigin o → IsStop o d → t < length d.stand.places → (place_at d.stand.places t).epoch ≤ 1000000000
+stop-short o d t l s h = place-short (later o d.stand) t (later-lawful o d l s) h
+
+pub stop-floor : (o : Origin) (d : RaggedEndedView) → IsLawfulOrigin o → IsStop o d → floor_of (positions_of d.stand) ≤ o.window.until
+stop-floor o d l s = (floor-deep (later o d.stand) (later-lawful o d l s)).1
+
+-- ---- where every slot is at rest at until
+
+not-waits : (a : Bool) → not a ≡ true → a ≡ false
+not-waits true h = absurd (false≢true h)
+not-waits false h = refl
+
+abbrev rests : ℕ → Position → Bool
+rests e p = not p.waits && p.epoch == e
+
+rests-is : (e : ℕ) (p : Position) → rests e p ≡ true → (let q : Position = record { epoch = e; waits = false } in p ≡ q)
+rests-is e p h =
+    let z = and_parts (not p.waits) (p.epoch == e) h in
+    let make : ℕ → Bool → Position = λ k w. record { epoch = k; waits = w } in
+    ap₂ make (eqb-true p.epoch e z.1) (not-waits p.waits z.0)
+
+rest-told : (e : ℕ) (ends : List Position) → all_rest e ends ≡ true → (t : ℕ) → t < length ends → (let q : Position = record { epoch = e; waits = false } in position_in ends t ≡ q)
+rest-told e ends all t h =
+    rests-is e (position_in ends t) (true_from_ne_false (rests e (position_in ends t)) (λ z. true≢false (sym all ∙ list_all_at (rests e) ends t _ h z)))
+
+rest-tests : (e : ℕ) → (let q : Position = record { epoch = e; waits = false } in rests e q ≡ true)
+rest-tests e = eq-eqb e e refl
+
+all-rest : (e : ℕ) (ends : List Position) → ((t : ℕ) → t < length ends → (let q : Position = record { epoch = e; waits = false } in position_in ends t ≡ q)) → all_rest e ends ≡ true
+all-rest e [] each = refl
+all-rest e (p ∷ ends) each =
+    let here : rests e p ≡ true = ap (rests e) (each 0 (omega arith)) ∙ rest-tests e in
+    let rest : all_rest e ends ≡ true = all-rest e ends (λ t h. each (suc t) (omega arith)) in
+    ap₂ (λ a b. a && b) here rest
+
+begun-done : (e : ℕ) (a : Bool) → (4 * e + cond a 2 0 + 3) / 4 ≡ e + cond a 1 0
+begun-done e true = omega arith
+begun-done e false = omega arith
+
+-- the least recorded epoch is until
+floor-ended : (o : Origin) (d : RaggedEndedView) → IsLawfulOrigin o → IsStop o d → floor_of (positions_of d.stand) ≡ o.window.until → AllEnded o.window.until (stages_of d.stand)
+floor-ended o d l s is =
+    let x = later o d.stand in
+    let lx = later-lawful o d l s in
+    let ps = positions_of d.stand in
+    let long : length ps ≡ slots_in o = length-map d.stand.places position_of ∙ s.fits.places in
+    full-ended o d l s (λ t h.
+    let b = begun-at x t in
+    let p = position_in ps t in
+    let number : numbers (stages_of d.stand) t ≡ 4 * p.epoch + cond p.waits 2 0 = ap₂ (λ u v. 4 * u + v) b.0 b.1 in
+    let past : begun (numbers (stages_of d.stand) t) ≡ p.epoch + cond p.waits 1 0 = ap begun number ∙ begun-done p.epoch p.waits in
+    let low = least-at (λ k. done (position_in ps k)) (length ps) t (omega arith) in
+    let high = done-reach x t lx h in
+    omega arith)
+
+pub floor-tells : (o : Origin) (d : RaggedEndedView) → IsLawfulOrigin o → IsStop o d → (floor_of (positions_of d.stand) == o.window.until) ≡ all_rest o.window.until (positions_of d.stand)
+floor-tells o d l s =
+    let ps = positions_of d.stand in
+    let until = o.window.until in
+    let long : length ps ≡ slots_in o = length-map d.stand.places position_of ∙ s.fits.places in
+    let stages : length (stages_of d.stand) ≡ slots_in o = length-map d.stand.places start_place ∙ s.fits.places in
+    elim (cases_Bool (floor_of ps == until)) [
+      | inl full ↦
+          let ended = floor-ended o d l s (eqb-true (floor_of ps) until full) in
+          full ∙ sym (all-rest until ps (λ t h. rest-at d.stand.places t until (omega (arith, s.fits.places)) (ended t (omega arith))))
+      | inr short ↦ elim (cases_Bool (all_rest until ps)) [
+        | inr off ↦ short ∙ sym off
+        | inl on ↦
+            let low = least-some (λ t. done (position_in ps t)) (length ps) (let z = l.plan.rules.some in omega arith) in
+            let at : done (position_in ps low.0) ≡ until + 0 = ap done (rest-told until ps on low.0 low.1) in
+            let is = low.2 in
+            let same : floor_of ps ≡ until = omega arith in
+            absurd (true≢false (sym (eq-eqb (floor_of ps) until same) ∙ short))
+      ]
+    ]
+
+-- the spins of the same contents
+pub spins-same : (plan : Plan) (samples : ℕ) (s t : ℕ → List PlainSlot) → ((b : ℕ) → b < samples → s b ≡ t b) → all_spins plan samples s ≡ all_spins plan samples t
 spins-same plan samples s t same = joined-same (λ b. sample_spins plan b (s b)) (λ b. sample_spins plan b (t b)) (λ b. b) samples (λ b below. ap (sample_spins plan b) (same b below))
 
--- the rows, and the spins that are printed
-abbrev pub rows_of : Plan → (ℕ → Sample) → Orders → ℕ → ℕ → List ℕ
-rows_of plan start orders c e = rows_in_order (measured_from plan start) orders.samples orders.every c e
+spins-where : (printed : Bool) (xs ys : List ℕ) → (printed ≡ true → xs ≡ ys) → cond printed xs [] ≡ cond printed ys []
+spins-where true xs ys same = same refl
+spins-where false xs ys same = refl
 
-abbrev pub spins_if : Plan → (ℕ → Sample) → Orders → List ℕ
-spins_if plan states orders = cond orders.spins (all_spins plan orders.samples states) []
+-- the parts of the report of a stopped run
+abbrev pub head_of : Origin → ℕ → ℕ → List ℕ
+head_of o from to = header_line (plan_of o) o.window.samples from to
 
--- from the epoch of the first sample, and with the states at the end
-pub report-is : (plan : Plan) (start states : ℕ → Sample) (orders : Orders) (c e : ℕ) → (start 0).epoch ≡ c → ((b : ℕ) → b < orders.samples → states b ≡ serial plan (start b) e)
-    → report plan start orders e ≡ header_line plan orders.samples c e ++ rows_of plan start orders c e ++ end_line e ++ spins_if plan states orders
-unfolding report
-report-is plan start states orders c e from same =
-    let spins = λ (xs : List ℕ). header_line plan orders.samples c e ++ rows_of plan start orders c e ++ end_line e ++ cond orders.spins xs [] in
-    ap (λ k. header_line plan orders.samples k e ++ rows_of plan start orders k e ++ end_line e ++ spins_if plan (λ b. serial plan (start b) e) orders) from
-    ∙ ap spins (sym (spins-same plan orders.samples states (λ b. serial plan (start b) e) same))
+abbrev pub rows_of : Origin → ℕ → ℕ → List ℕ
+rows_of o from to = rows_in_order (measured o) o.window.samples o.window.every from to
+
+abbrev pub spins_if : Origin → Bool → RaggedEndedView → List ℕ
+spins_if o printed d = cond printed (all_spins (plan_of o) o.window.samples (λ b. (uneven_part (plan_of o).size b d.stand).slots)) []
+
+pub report-is : (o : Origin) (d : RaggedEndedView) (spins printed : Bool) (from to : ℕ) → IsLawfulOrigin o → IsStop o d
+    → from ≡ floor_in o → to ≡ floor_of (positions_of d.stand) → printed ≡ (spins && (to == o.window.until))
+    → stopped_report o spins (positions_of d.stand) ≡ head_of o from to ++ rows_of o from to ++ end_line to ++ spins_if o printed d
+unfolding uneven_report
+report-is o d spins printed from to l s from_is to_is printed_is =
+    let p = plan_of o in
+    let ps = positions_of d.stand in
+    let until = o.window.until in
+    let tells = floor-tells o d l s in
+    let there : (to == until) ≡ all_rest until ps = ap (λ n. n == until) to_is ∙ tells in
+    let prints : printed ≡ (spins && all_rest until ps) = printed_is ∙ ap (λ a. spins && a) there in
+    let ready = all_spins p o.window.samples (λ b. (all_ready p (board.starts o b) until).slots) in
+    let here = all_spins p o.window.samples (λ b. (uneven_part p.size b d.stand).slots) in
+    let parts : ℕ → ℕ → List ℕ → List ℕ = λ a b xs. head_of o a b ++ rows_of o a b ++ end_line b ++ xs in
+    let same : cond (spins && all_rest until ps) ready [] ≡ cond printed here [] =
+    ap (λ a. cond a ready []) (sym prints) ∙ spins-where printed ready here (λ on.
+    let ended : AllEnded until (stages_of d.stand) =
+    floor-ended o d l s (sym to_is ∙ eqb-true to until (and_parts spins (to == until) (sym printed_is ∙ on)).1) in
+    spins-same p o.window.samples _ _ (λ b h. sym (whole-slots o d b s ended (let z = s.fits.few_samples in omega arith)))) in
+    ap₂ (λ a b. parts a b (cond (spins && all_rest until ps) ready [])) (sym from_is) (sym to_is) ∙ ap (parts from to) same
 
 -- ---- four texts put one after another: where each fails, and the whole
 
@@ -72,15 +198,3 @@ report-without false a b c xs off = append-nil (a ++ b ++ c)
 -- where they are, they are all of the fourth
 pub spins-printed : (spins : Bool) (xs : List ℕ) → spins ≡ true → cond spins xs [] ≡ xs
 spins-printed spins xs on = ap (λ b. cond b xs []) on
-
--- states that agree on the samples of a bank have one report
-pub report-same : (plan : Plan) (s t : ℕ → Sample) (orders : Orders) (e : ℕ) → orders.samples ≤ 64 → ((b : ℕ) → b < 64 → s b ≡ t b) → report plan s orders e ≡ report plan t orders e
-unfolding report
-report-same plan s t orders e few same =
-    let c : (s 0).epoch ≡ (t 0).epoch = ap (λ (x : Sample). x.epoch) (same 0 (lit< tt)) in
-    let rows = rows-same (measured_from plan s) (measured_from plan t) orders.samples orders.every (t 0).epoch e
-    (λ b f below. ap (λ x. epoch_records plan (serial plan x f)) (same b (omega arith))) in
-    let spins = spins-same plan orders.samples (λ b. serial plan (s b) e) (λ b. serial plan (t b) e) (λ b below. ap (λ x. serial plan x e) (same b (omega arith))) in
-    ap (λ k. header_line plan orders.samples k e ++ rows_of plan s orders k e ++ end_line e ++ spins_if plan (λ b. serial plan (s b) e) orders) c
-    ∙ ap (λ xs. header_line plan orders.samples (t 0).epoch e ++ xs ++ end_line e ++ spins_if plan (λ b. serial plan (s b) e) orders) rows
-    ∙ ap (λ xs. header_line plan orders.samples (t 0).epoch e ++ rows_of plan t orders (t 0).epoch e ++ end_line e ++ cond orders.spins xs []) spins

@@ -1,22 +1,27 @@
 -- A run before and after it is driven.
-use Rattle.std.specs.Prelude.{◌≡◌, ℕ, ◌≤◌, Bool, List}
+use Rattle.std.specs.Prelude.{◌≡◌, ℕ, ◌+◌, ◌≤◌, ◌⊎◌}
 use Rattle.scalar_rule.specs.Plan.{Plan}
-use Rattle.scalar_rule.specs.Records.{records_until}
-use Rattle.scalar_rule.specs.Serial.{serial}
-use Rattle.scalar_rule.specs.declared.sample.Record.{Record}
-use Rattle.scalar_rule.specs.declared.sample.Sample.{Sample}
+use Rattle.scalar_rule.specs.Ragged.{UnevenState}
 use Rattle.run_plan.specs.declared.run_file.Orders.{Orders}
-use Rattle.plane_sweep.specs.Packed.{part, StandFits, StandsFor}
-use Rattle.plane_sweep.specs.declared.stand.Stand.{Stand}
+use Rattle.plane_sweep.specs.Uneven.{uneven_part}
+use Rattle.plane_sweep.specs.declared.uneven.RaggedStand.{RaggedStand}
+use Rattle.exchange_board.specs.declared.origin.Origin.{Origin}
+use Rattle.exchange_board.specs.Answers.{stages_of}
+use Rattle.exchange_board.specs.Content.{plan_of, taken_before, IsLawfulOrigin}
+use Rattle.exchange_board.specs.Machine.{taken, AllEnded}
+use Rattle.exchange_board.specs.Stops.{IsStop}
+use Rattle.exchange_board.specs.Views.{RaggedEndedView}
+use Rattle.glass_engine.specs.declared.run.SaveKind.{SaveKind}
 
--- what a run was opened with: the plan, the state that it starts from, the orders, the epoch at which it ends, and whether
--- a checkpoint is to be saved
+-- what a run was opened with: the plan, the state that it starts from, the orders, the epoch at which it ends, how many
+-- times it hands out a slot at most, and which checkpoint is to be saved
 pub record RunView : Type 0 where
   pub plan : Plan
-  pub base : Stand
+  pub base : RaggedStand
   pub orders : Orders
   pub until : ℕ
-  pub saves : Bool
+  pub takes : ℕ
+  pub saves : SaveKind
 
 -- the orders that a run can have: 1 to 64 printed samples, and of each 1 to 1000000000 epochs the last is recorded; the
 -- epoch at which a run ends is given beside its orders
@@ -26,22 +31,28 @@ pub record AreRunOrders (orders : Orders) : Type 0 where
   pub some_every : 1 ≤ orders.every
   pub every : orders.every ≤ 1000000000
 
--- a run at its end: what it was opened with, the state there, and the records
+-- the states that the samples start with
+abbrev pub starts : RunView → ℕ → UnevenState
+starts run b = uneven_part run.plan.size b run.base
+
+-- a run at its end: what it was opened with, and what its board ended with
 pub record DoneView : Type 0 where
   pub run : RunView
-  pub stand : Stand
-  pub records : List Record
+  pub ended : RaggedEndedView
 
--- the states that the samples start with
-abbrev pub starts : RunView → ℕ → Sample
-starts run b = part run.plan.size b run.base
+-- a board's origin is what a run was opened with
+pub record IsOriginOf (run : RunView) (o : Origin) : Type 0 where
+  pub plan_is : plan_of o ≡ run.plan
+  pub base_is : o.base ≡ run.base
+  pub until_is : o.window.until ≡ run.until
+  pub every_is : o.window.every ≡ run.orders.every
+  pub samples_is : o.window.samples ≡ run.orders.samples
+  pub takes_is : o.window.takes ≡ run.takes
 
--- the states at the end, by the serial dynamics
-abbrev pub ends : RunView → ℕ → Sample
-ends run b = serial run.plan (starts run b) run.until
-
--- the state at the end stands for those of the serial dynamics, and the records are what it measures
-pub record IsEnd (done : DoneView) : Type 0 where
-  pub fits : StandFits done.run.plan done.stand
-  pub stand : StandsFor done.run.plan (ends done.run) done.stand
-  pub records : done.records ≡ records_until done.run.plan (starts done.run) done.run.orders.samples done.run.orders.every done.run.until
+-- the board was opened with what the run was opened with, which is lawful; it ended with each slot's content and the records of the rule at
+-- its places; and every slot is at rest at until, or all hand-outs are made
+pub record IsEnd (run : RunView) (d : RaggedEndedView) : Type 0 where
+  pub origin : IsOriginOf run d.origin
+  pub lawful : IsLawfulOrigin d.origin
+  pub stop : IsStop d.origin d
+  pub finished : AllEnded run.until (stages_of d.stand) ⊎ (taken (stages_of d.stand) ≡ taken_before d.origin + run.takes)

@@ -1,19 +1,19 @@
 //! The engine of a run: it is opened with all its memory, driven to its end, and reported.
-//!
-//! The samples are run one after another, one spin at a time.
 #![tactic(auto)]
 
 mod done;
 mod driving;
+mod laws;
 mod opening;
-mod record_room;
 mod report;
+mod rows;
 mod run;
 #[cfg(test)]
 mod tests;
 
 pub use done::Done;
 pub use driving::drive;
+pub use laws::{level_report_is_serial, level_run_is_serial, unstopped_run_is_whole};
 pub use opening::open;
 pub use report::write_report;
-pub use run::Run;
+pub use run::{Run, SaveKind};

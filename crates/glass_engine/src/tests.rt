@@ -1,15 +1,21 @@
-ghost use Rattle.std.specs.Prelude.{◌≡◌, ◌+◌, ◌≤◌, length};
+ghost use Rattle.std.specs.Prelude.{◌≡◌, ◌+◌, ◌≤◌, length, IfOk};
+ghost use Rattle.std.specs.Arc.{arc_value};
+ghost use Rattle.glass_engine.specs.Runs.{AreRunOrders};
+ghost use Rattle.plane_sweep.specs.Packed.{StandFits};
+ghost use Rattle.run_plan.specs.Amounts.{row_count};
 ghost use Rattle.run_plan.specs.RunFile.{AreLawfulOrders};
+ghost use Rattle.scalar_rule.specs.Plan.{slots_of};
 
 use super::*;
 use coupling_set::Couplings;
-use glass_edges::{MemorySink, NoMemory, OpenGate};
+use glass_edges::{Gate, MemorySink, NoMemory, OpenGate};
 use lattice_geometry::Lattice;
-use plane_sweep::Stand;
+use plane_sweep::{RaggedStand, Stand};
 use run_plan::{Orders, check_amount};
 use scalar_rule::{Plan, Start};
 use std::alloc::Global;
 use std::sync::Arc;
+use std::sync::atomic::{AtomicU64, Ordering};
 use std::test::Fail;
 use threshold_table::{RuleKind, RuleRow, RuleTable, SwapTable};
 
@@ -35,18 +41,58 @@ const ORDERS: Orders = Orders {
     spins: true,
 };
 
+/// A run from a state at one epoch.
+fn begun(
+    alloc: Global,
+    plan: &Arc<Plan, Global>,
+    orders: &Orders,
+    stand: Stand,
+    until: u64,
+    takes: u64,
+) -> Result<Run, NoMemory>
+    requires orders { AreRunOrders orders.now }
+    requires some { 1 ≤ slots_of (arc_value plan.now) }
+    requires stand { StandFits (arc_value plan.now) stand }
+    requires window { stand.epoch ≤ until }
+    requires until { until ≤ 1000000000 }
+    requires takes { takes ≤ 32000000000 }
+    requires rows { row_count (arc_value plan.now) orders.now stand.epoch until ≤ 4194304 }
+    ensures { IfOk result (λ run. run.plan ≡ arc_value plan.now) }
+{
+    let base = RaggedStand::level(alloc, stand)?;
+    open(alloc, plan, orders, base, until, takes, 2, SaveKind::Never)
+}
+
+/// A hook that adds 1 at the bit of the slot and the epoch, eight slots an epoch.
+#[derive(Drop)]
+struct Entries {
+    entered: AtomicU64,
+}
+
+impl Gate for Entries {
+    fn enter(&self, slot: u32, epoch: u64) {
+        if slot < 8 && epoch < 8 {
+            self.entered
+                .fetch_add(1u64 << (8 * epoch + slot as u64), Ordering::SeqCst);
+        }
+    }
+}
+
 /// What a run of the ferromagnet on the lattice of size 4 puts.
-fn reported<R: Sync>(
+fn reported<R: Sync, G: Gate + Sync>(
     rt: &R,
+    gate: &G,
     alloc: Global,
     rules: RuleTable,
     swaps: SwapTable,
     orders: &Orders,
     until: u64,
+    takes: u64,
 ) -> Result<MemorySink, NoMemory>
     requires pairs { length swaps + 1 ≡ length rules.rows }
     requires orders { AreLawfulOrders orders.now }
     requires until { until ≤ 1000000000 }
+    requires takes { takes ≤ 32000000000 }
 {
     let mut out = MemorySink::new(alloc, 5000, 300, Vec::new(alloc))?;
     let Ok(lattice) = Lattice::of(4) else {
@@ -59,8 +105,8 @@ fn reported<R: Sync>(
         return Ok(out);
     }
     let plan = Arc::new(alloc, plan)?;
-    let run = open(alloc, &plan, orders, stand, until, 2, false)?;
-    let done = drive(rt, run, &plan, 3, &OpenGate);
+    let run = begun(alloc, &plan, orders, stand, until, takes)?;
+    let done = drive(rt, run, &plan, 3, gate);
     let _ = write_report(&done, &plan, &mut out);
     Ok(out)
 }
@@ -70,7 +116,7 @@ fn report_of_all_down(rt: HostRuntime) -> Result<(), Fail> {
     let alloc = rt.alloc();
     let rules = RuleTable::from_rows(alloc, RuleKind::Heat, &[DOWN])?;
     let swaps = SwapTable::from_rows::<1>(alloc, &[])?;
-    let out = reported(&rt, alloc, rules, swaps, &ORDERS, 1)?;
+    let out = reported(&rt, &OpenGate, alloc, rules, swaps, &ORDERS, 1, 32000000000)?;
     assert_eq!(rt;
         out.taken(),
         b"glass 1 size=4 slots=1 samples=1 rule=heat from=0 to=1
@@ -89,7 +135,7 @@ fn report_of_two_slots_that_swap(rt: HostRuntime) -> Result<(), Fail> {
     let alloc = rt.alloc();
     let rules = RuleTable::from_rows(alloc, RuleKind::Heat, &[AGAINST, UP])?;
     let swaps = SwapTable::from_rows(alloc, &[[ALL]])?;
-    let out = reported(&rt, alloc, rules, swaps, &ORDERS, 2)?;
+    let out = reported(&rt, &OpenGate, alloc, rules, swaps, &ORDERS, 2, 32000000000)?;
     assert_eq!(rt;
         out.taken(),
         b"glass 1 size=4 slots=2 samples=1 rule=heat from=0 to=2
@@ -114,7 +160,7 @@ fn report_that_ends_with_a_swap(rt: HostRuntime) -> Result<(), Fail> {
     let alloc = rt.alloc();
     let rules = RuleTable::from_rows(alloc, RuleKind::Heat, &[AGAINST, UP])?;
     let swaps = SwapTable::from_rows(alloc, &[[ALL]])?;
-    let out = reported(&rt, alloc, rules, swaps, &ORDERS, 1)?;
+    let out = reported(&rt, &OpenGate, alloc, rules, swaps, &ORDERS, 1, 32000000000)?;
     assert_eq!(rt;
         out.taken(),
         b"glass 1 size=4 slots=2 samples=1 rule=heat from=0 to=1
@@ -128,5 +174,37 @@ spin,0,1,1,5a5aa5a55a5aa5a5
 "
             .as_slice()
     );
+    Ok(())
+}
+
+// The second slot did not begin its last epoch.
+#[test]
+fn report_of_a_run_that_stops(rt: HostRuntime) -> Result<(), Fail> {
+    let alloc = rt.alloc();
+    let rules = RuleTable::from_rows(alloc, RuleKind::Heat, &[AGAINST, UP])?;
+    let swaps = SwapTable::from_rows(alloc, &[[ALL]])?;
+    let out = reported(&rt, &OpenGate, alloc, rules, swaps, &ORDERS, 2, 3)?;
+    assert_eq!(rt;
+        out.taken(),
+        b"glass 1 size=4 slots=2 samples=1 rule=heat from=0 to=1
+row,0,0,0,192,192,64,0,0
+row,0,0,1,-192,-192,64,1,1
+end,1
+"
+            .as_slice()
+    );
+    Ok(())
+}
+
+#[test]
+fn hook_is_entered_once_for_each_slot_and_epoch(rt: HostRuntime) -> Result<(), Fail> {
+    let alloc = rt.alloc();
+    let rules = RuleTable::from_rows(alloc, RuleKind::Heat, &[AGAINST, UP])?;
+    let swaps = SwapTable::from_rows(alloc, &[[ALL]])?;
+    let gate = Entries {
+        entered: AtomicU64::new(0),
+    };
+    reported(&rt, &gate, alloc, rules, swaps, &ORDERS, 2, 32000000000)?;
+    assert_eq!(rt; gate.entered.load(Ordering::SeqCst), 0x0303);
     Ok(())
 }

@@ -4,7 +4,9 @@ use Rattle.std.specs.Arc.{arc_value}
 use Rattle.glass_edges.specs.Causes.{Rose}
 use Rattle.glass_edges.specs.Contents.{appended, AppendsPrefix}
 use Rattle.scalar_rule.specs.Opening.{opening}
-use Rattle.plane_sweep.specs.Packed.{StandsFor}
+use Rattle.plane_sweep.specs.Packed.{StandFits, StandsFor}
+use Rattle.plane_sweep.specs.Uneven.{level_stand}
+use Rattle.plane_sweep.specs.declared.stand.Stand.{Stand}
 use Rattle.glass_main.specs.Endings.{IsOfAmount}
 use Rattle.glass_main.specs.Outside.{Output}
 use Rattle.glass_main.specs.Request.{run_work}
@@ -14,13 +16,18 @@ use Rattle.glass_main.specs.declared.ending.Ending.TheVariants.{Done, Refused, U
 use Rattle.glass_main.specs.declared.planned.Planned.{Planned}
 use Rattle.glass_main.specs.declared.run.Opened.{Opened}
 
--- the run has the plan, the orders and the epoch that it is to have, and starts from the opening states of its samples
+-- the run has the plan, the orders and the epoch that it is to have, makes every hand-out, and starts from a packed state at
+-- one epoch that stands for the opening states of its samples
 pub record IsOpened (planned : Planned) (e : ℕ) (opened : Opened) : Type 0 where
   pub share : arc_value opened.plan ≡ planned.plan
   pub plan : opened.run.plan ≡ planned.plan
   pub orders : opened.run.orders ≡ planned.orders
   pub until : opened.run.until ≡ e
-  pub base : StandsFor planned.plan (opening planned.plan planned.orders.start 0) opened.run.base
+  pub takes : opened.run.takes ≡ 32000000000
+  pub stand : Stand
+  pub base : opened.run.base ≡ level_stand stand
+  pub fits : StandFits planned.plan stand
+  pub stands : StandsFor planned.plan (opening planned.plan planned.orders.start 0) stand
 
 -- the ending of a run that isn't opened: it is refused for its amount, or there was not enough memory
 abbrev pub IsUnopened : Planned → ℕ → Ending → Type 0

@@ -20,12 +20,15 @@ use crate::planned::Planned;
 use crate::refusal::Refusal;
 use crate::run_words::RunOrder;
 use glass_edges::{Fault, Gate, NoMemory, Shelf, Sink};
-use glass_engine::{Run, drive, open, write_report};
-use plane_sweep::Stand;
+use glass_engine::{Run, SaveKind, drive, level_report_is_serial, open, write_report};
+use plane_sweep::{RaggedStand, Stand};
 use run_plan::{Orders, check_amount};
 use scalar_rule::Plan;
 use std::alloc::Global;
 use std::sync::Arc;
+
+/// So many hand-outs of a slot stop no run.
+const EVERY_TAKE: u64 = 32000000000;
 
 /// A run that was opened, and its plan.
 #[derive(Drop)]
@@ -103,9 +106,20 @@ fn open_planned(
     requires few_workers { workers ≤ 64 }
     ensures { IfOk result (IsOpened planned until) }
 {
+    let _ = planned.plan.slots();
     let stand = Stand::opening(alloc, &planned.plan, planned.orders.start)?;
+    let base = RaggedStand::level(alloc, stand)?;
     let plan = Arc::new(alloc, planned.plan)?;
-    let run = open(alloc, &plan, &planned.orders, stand, until, workers, false)?;
+    let run = open(
+        alloc,
+        &plan,
+        &planned.orders,
+        base,
+        until,
+        EVERY_TAKE,
+        workers,
+        SaveKind::Never,
+    )?;
     Ok(Opened { plan, run })
 }
 
@@ -152,5 +166,7 @@ fn put_run<R: Sync, O: Sink, G: Gate + Sync>(
 {
     let Opened { plan, run } = opened;
     let done = drive(rt, run, &plan, pieces, gate);
+    // From an opening state the report of such a run is that of the serial dynamics.
+    level_report_is_serial();
     write_report(&done, &plan, out)
 }

@@ -1,6 +1,6 @@
-//! The first and the last sample of a run, each against the same sample run by itself.
+//! Samples of runs with random couplings from a random start, each against the same sample run by itself.
 
-ghost use Rattle.std.specs.Prelude.{◌≡◌, ◌+◌, ◌<◌, length, IfOk, OnOk};
+ghost use Rattle.std.specs.Prelude.{◌≡◌, ◌+◌, ◌<◌, ◌≤◌, length, IfOk, OnOk};
 ghost use Rattle.scalar_rule.specs.Shape.{Fits};
 
 use crate::called::call_with;
@@ -12,21 +12,12 @@ use std::alloc::Global;
 use std::test::Fail;
 use threshold_table::{RuleKind, read_rule, read_swap};
 
-const RUN: &str = "size = 4
-rule = \"metropolis\"
-rules = \"rules.csv\"
-swaps = \"swaps.csv\"
-couplings = \"random\"
-sweeps = 2
-seed = 20240611
-samples = 64
-epochs = 6
-every = 2
-start = \"random\"
-spins = false
+const HEAT: &str = "214748364,429496729,1073741824,2147483648,3221225472,3865470566,4080218931
+644245094,1073741824,1610612736,2147483648,2684354560,3221225472,3650722201
+1288490188,1503238553,1825361100,2147483648,2469606195,2791728742,3006477107
 ";
 
-const RULES: &str = "858993459,171798691,34359738
+const METROPOLIS: &str = "858993459,171798691,34359738
 1171354717,319460377,87125557
 1431655765,477218588,159072862
 ";
@@ -35,16 +26,42 @@ const SWAPS: &str = "3149642683,2309737966,1693807841
 3435973836,2748779069
 ";
 
-// The plan of these files, at which no text is read but the tables'.
-fn plan(alloc: Global) -> Result<Plan, Fail> {
-    let rules = read_rule(alloc, RULES.as_bytes(), RuleKind::Metropolis)?;
+/// The least seed, and how many there are.
+const FIRST_SEED: u64 = 611;
+
+const SEEDS: u64 = 5;
+
+// The rule tables of three slots.
+fn rules_of(kind: RuleKind) -> &'static str {
+    match kind {
+        RuleKind::Heat => HEAT,
+        RuleKind::Metropolis => METROPOLIS,
+    }
+}
+
+// The run file of a size, a rule and a seed.
+fn run_file(alloc: Global, size: u32, kind: RuleKind, seed: u64) -> Result<String, Fail> {
+    let rule = match kind {
+        RuleKind::Heat => "heat",
+        RuleKind::Metropolis => "metropolis",
+    };
+    Ok(format!(in alloc;
+        "size = {size}\nrule = \"{rule}\"\nrules = \"rules.csv\"\nswaps = \"swaps.csv\"\ncouplings = \"random\"\nsweeps = 2\nseed = {seed}\nsamples = 64\nepochs = 4\nevery = 2\nstart = \"random\"\nspins = false\n"
+    )?)
+}
+
+// The plan of that run, at which no text is read but the tables'.
+fn plan_of(alloc: Global, size: u32, kind: RuleKind, seed: u64) -> Result<Plan, Fail>
+    requires { seed ≤ 1000000 }
+{
+    let rules = read_rule(alloc, rules_of(kind).as_bytes(), kind)?;
     let swaps = read_swap(alloc, SWAPS.as_bytes(), rules.slots())?;
     if swaps.pairs() + 1 != rules.slots() {
         return Err("a pair for each two neighbouring slots".into());
     }
-    let lattice = Lattice::of(4)?;
-    let couplings = Couplings::random(alloc, lattice, 20240611)?;
-    Ok(Plan::new(lattice, rules, swaps, couplings, 2, 20240611))
+    let lattice = Lattice::of(size)?;
+    let couplings = Couplings::random(alloc, lattice, seed)?;
+    Ok(Plan::new(lattice, rules, swaps, couplings, 2, seed))
 }
 
 // The rows of a sample at an epoch.
@@ -92,7 +109,6 @@ fn rows_alone(alloc: Global, plan: &Plan, bit: u32) -> Result<String, Fail>
     let mut sample = Sample::opening(alloc, plan, bit, Start::Random)?;
     let mut text = two_epochs(alloc, plan, &mut sample)?;
     text.push_str(two_epochs(alloc, plan, &mut sample)?.as_str())?;
-    text.push_str(two_epochs(alloc, plan, &mut sample)?.as_str())?;
     Ok(text)
 }
 
@@ -109,18 +125,50 @@ fn rows_printed(alloc: Global, report: &str, sample: &str) -> Result<String, Fai
     Ok(text)
 }
 
-#[test]
-fn rows_of_samples_0_and_63_are_those_of_samples_run_alone(rt: HostRuntime) -> Result<(), Fail> {
+// Compares the rows of four samples of a run with those of each of them run by itself.
+fn compare(rt: &HostRuntime, size: u32, kind: RuleKind, seed: u64) -> Result<(), Fail>
+    requires { seed ≤ 1000000 }
+{
     let alloc = rt.alloc();
-    let called = call_with(&rt, "run run.toml", store(&rt, RUN, RULES, SWAPS)?)?;
+    let run = run_file(alloc, size, kind, seed)?;
+    let called = call_with(rt, "run run.toml", store(rt, run.as_str(), rules_of(kind), SWAPS)?)?;
     assert_eq!(rt; called.status, 0);
     let report = std::str::from_utf8(called.out.taken())?;
-    let plan = plan(alloc)?;
-    for (bit, name) in [(0, "0"), (63, "63")] {
+    let plan = plan_of(alloc, size, kind, seed)?;
+    for (bit, name) in [(0, "0"), (31, "31"), (32, "32"), (63, "63")] {
         let printed = rows_printed(alloc, report, name)?;
         let alone = rows_alone(alloc, &plan, bit)?;
-        assert_eq!(rt; printed.as_str(), alone.as_str(), "sample {bit}");
-        assert_eq!(rt; printed.as_str().split('\n').count(), 10, "sample {bit}");
+        assert_eq!(rt; printed.as_str(), alone.as_str(), "size {size}, seed {seed}, sample {bit}");
+        assert_eq!(rt; printed.as_str().split('\n').count(), 7, "sample {bit}");
     }
     Ok(())
+}
+
+// Compares the runs of a size by both rules and with several seeds.
+fn compare_all(rt: &HostRuntime, size: u32) -> Result<(), Fail> {
+    for seed in 0..SEEDS {
+        compare(rt, size, RuleKind::Heat, FIRST_SEED + seed)?;
+        compare(rt, size, RuleKind::Metropolis, FIRST_SEED + seed)?;
+    }
+    Ok(())
+}
+
+#[test]
+fn rows_of_samples_run_alone_at_size_4(rt: HostRuntime) -> Result<(), Fail> {
+    compare_all(&rt, 4)
+}
+
+#[test]
+fn rows_of_samples_run_alone_at_size_6(rt: HostRuntime) -> Result<(), Fail> {
+    compare_all(&rt, 6)
+}
+
+#[test]
+fn rows_of_samples_run_alone_at_size_8(rt: HostRuntime) -> Result<(), Fail> {
+    compare_all(&rt, 8)
+}
+
+#[test]
+fn rows_of_samples_run_alone_at_size_16(rt: HostRuntime) -> Result<(), Fail> {
+    compare_all(&rt, 16)
 }

@@ -8,5 +8,5 @@ mod spin_line;
 mod tests;
 
 pub use digits::spin_digit;
-pub use lines::{end, header, row};
+pub use lines::{add_row, end, header, row};
 pub use spin_line::spins;

@@ -2,7 +2,7 @@
 
 ghost use Rattle.std.specs.Prelude.{◌≡◌, ◌+◌, ◌≤◌, [], ◌++◌, length, OnOk, OnErr};
 ghost use Rattle.glass_edges.specs.Causes.{HasCause};
-ghost use Rattle.glass_edges.specs.Contents.{appended, AppendsPrefix};
+ghost use Rattle.glass_edges.specs.Contents.{appended, AppendsPrefix, PutsFront};
 ghost use Rattle.report_text.specs.Lines.{end_line, header_line, kind_text, row_line};
 
 use glass_edges::{Fault, Line, Sink};
@@ -71,7 +71,6 @@ fn add_rule(line: &mut Line, plan: &Plan)
 /// # Errors
 ///
 /// Where the output failed; it has then taken a prefix of the line.
-#[tactic(auto, unfolding(crate::specs::Lines::row_line))]
 pub fn row<O: Sink>(
     out: &mut O,
     epoch: u64,
@@ -86,6 +85,41 @@ pub fn row<O: Sink>(
     ensures cause { HasCause (O.faults out.old) (O.faults out.new) result }
 {
     let mut line = Line::new();
+    fill_row(&mut line, epoch, sample, slot, values);
+    line.put(out)
+}
+
+/// Adds the same behind a text that is still to be put; what does not fit goes out in full buffers, and
+/// the rest stays.
+///
+/// # Errors
+///
+/// Where the output failed; it has then taken a prefix of the text and the line.
+pub fn add_row<O: Sink>(
+    out: &mut O,
+    text: &mut Line,
+    epoch: u64,
+    sample: u32,
+    slot: u32,
+    values: &Record,
+) -> Result<(), Fault>
+    ensures front { OnOk result (PutsFront (O.taken out.old) (O.taken out.new)
+        (text.old ++ row_line epoch sample slot values.now) text.new) }
+    ensures prefix { OnErr result (AppendsPrefix (O.taken out.old) (O.taken out.new)
+        (text.old ++ row_line epoch sample slot values.now)) }
+    ensures cause { HasCause (O.faults out.old) (O.faults out.new) result }
+{
+    let mut line = Line::new();
+    fill_row(&mut line, epoch, sample, slot, values);
+    text.extend(out, line.as_slice())
+}
+
+// Fills an empty line with a row.
+#[tactic(auto, unfolding(crate::specs::Lines::row_line))]
+fn fill_row(line: &mut Line, epoch: u64, sample: u32, slot: u32, values: &Record)
+    requires { line.old ≡ [] }
+    ensures { line.new ≡ row_line epoch sample slot values.now }
+{
     line.add(b"row,");
     line.number(epoch);
     line.add(b",");
@@ -103,7 +137,6 @@ pub fn row<O: Sink>(
     line.add(b",");
     line.number(values.second_replica as u64);
     line.add(b"\n");
-    line.put(out)
 }
 
 /// Puts the line that says at which epoch a run ended.

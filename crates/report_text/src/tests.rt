@@ -4,7 +4,7 @@ ghost use Rattle.plane_sweep.specs.Packed.{FitsPlane, FitsReplica};
 
 use super::*;
 use coupling_set::Couplings;
-use glass_edges::{MemorySink, NoMemory};
+use glass_edges::{Line, MemorySink, NoMemory};
 use lattice_geometry::Lattice;
 use plain_list::Items;
 use plane_sweep::{Plane, Replica};
@@ -30,6 +30,29 @@ fn ferromagnet(
 {
     let couplings = Couplings::plus(alloc, lattice)?;
     Ok(Plan::new(lattice, rules, swaps, couplings, 1, 7))
+}
+
+#[test]
+fn a_row_waits_behind_the_text_before_it(rt: HostRuntime) -> Result<(), Fail> {
+    let alloc = rt.alloc();
+    let values = Record {
+        first_energy: -60,
+        second_energy: -48,
+        overlap: 22,
+        first_replica: 1,
+        second_replica: 0,
+    };
+    let mut out = output(alloc, 1000)?;
+    let mut text = Line::new();
+    add_row(&mut out, &mut text, 9, 63, 0, &values)?;
+    add_row(&mut out, &mut text, 9, 63, 1, &values)?;
+    assert!(rt; out.taken().is_empty());
+    text.put(&mut out)?;
+    assert_eq!(rt;
+        out.taken(),
+        b"row,9,63,0,-60,-48,22,1,0\nrow,9,63,1,-60,-48,22,1,0\n".as_slice()
+    );
+    Ok(())
 }
 
 #[test]

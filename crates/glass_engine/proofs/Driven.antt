@@ -1,0 +1,77 @@
+-- A turn of a run, and its end.
+use Rattle.std.proofs.Common.{arith, ◌≡◌, ◌⊎◌, inl, inr, ℕ, ◌+◌, ◌-◌, ◌<◌, List, set, refl, sym, ap, ◌∙◌, subst}
+use Rattle.exchange_board.specs.declared.origin.Origin.{Origin}
+use Rattle.exchange_board.specs.Answers.{stages_of, Takes, IsSpent}
+use Rattle.exchange_board.specs.Content.{taken_before, IsLawfulOrigin}
+use Rattle.exchange_board.specs.Machine.{taken, after, AllEnded, NoneOut}
+use Rattle.exchange_board.specs.Stops.{IsStop}
+use Rattle.exchange_board.specs.Views.{Stage, BoardView, JobView, RaggedEndedView, out_at, placed}
+use Rattle.glass_engine.specs.KeptRun.{run_view, KeepsRun, done_view, KeepsDone}
+use Rattle.glass_engine.specs.Runs.{RunView, IsOriginOf, IsEnd}
+use Rattle.glass_engine.specs.declared.run.Run.TheInside as run
+use Rattle.glass_engine.specs.declared.done.Done.TheInside as done
+use Rattle.glass_engine.proofs.Steps.{turned-none, turned-taken}
+
+-- a hand-out and its hand-back
+pub turn : (b m d : BoardView) (j : JobView) → Takes b m j → d ≡ placed m (after m.places j.slot j.epoch)
+    → d ≡ placed b (after (set b.places j.slot (out_at j.epoch)) j.slot j.epoch)
+turn b m d j t is = is ∙ ap (λ (x : BoardView). placed x (after x.places j.slot j.epoch)) t.after
+
+pub turn-origin : (b m d : BoardView) (j : JobView) → Takes b m j → d ≡ placed m (after m.places j.slot j.epoch) → d.origin ≡ b.origin
+turn-origin b m d j t is = ap (λ (x : BoardView). x.origin) (turn b m d j t is)
+
+pub turn-home : (b m d : BoardView) (j : JobView) → Takes b m j → d ≡ placed m (after m.places j.slot j.epoch) → NoneOut b.places → NoneOut d.places
+turn-home b m d j t is none =
+    let P : BoardView → Type 0 = λ x. NoneOut x.places in
+    subst P (sym (turn b m d j t is)) (turned-none b.places j.slot j.epoch t.known none)
+
+pub turn-smaller : (b m d : BoardView) (j : JobView) → Takes b m j → d ≡ placed m (after m.places j.slot j.epoch)
+    → taken_before d.origin + d.origin.window.takes - taken d.places < taken_before b.origin + b.origin.window.takes - taken b.places
+turn-smaller b m d j t is =
+    let same : taken_before d.origin + d.origin.window.takes ≡ taken_before b.origin + b.origin.window.takes = ap (λ (o : Origin). taken_before o + o.window.takes) (turn-origin b m d j t is) in
+    let more : taken d.places ≡ taken b.places + 1 = ap (λ (x : BoardView). taken x.places) (turn b m d j t is) ∙ turned-taken b.places j.slot j.epoch t.known t.ready in
+    omega (arith, same, more, t.left)
+
+-- a board that stopped with no more to do
+pub record HasEnded (b : BoardView) (d : RaggedEndedView) : Type 0 where
+  pub finished : AllEnded b.origin.window.until b.places ⊎ IsSpent b
+  pub places : stages_of d.stand ≡ b.places
+  pub stop : IsStop b.origin d
+
+pub end-of : (run : RunView) (b : BoardView) (d : RaggedEndedView) → IsOriginOf run d.origin → IsLawfulOrigin d.origin → HasEnded b d → IsEnd run d
+end-of run b d origin lawful h =
+    let same : d.origin ≡ b.origin = h.stop.same in
+    let S : Origin → Type 0 = λ o. IsStop o d in
+    let until : run.until ≡ b.origin.window.until = sym origin.until_is ∙ ap (λ (o : Origin). o.window.until) same in
+    let takes : taken_before d.origin + run.takes ≡ taken_before b.origin + b.origin.window.takes = ap (λ n. taken_before d.origin + n) (sym origin.takes_is) ∙ ap (λ (o : Origin). taken_before o + o.window.takes) same in
+    record {
+      origin = origin;
+      stop = subst S (sym same) h.stop;
+      lawful = lawful;
+      finished = elim h.finished [
+        | inl all ↦
+            let A : List Stage → Type 0 = λ ps. AllEnded run.until ps in
+            let U : ℕ → Type 0 = λ n. AllEnded n b.places in
+            inl (subst A (sym h.places) (subst U (sym until) all))
+        | inr is ↦ inr (ap taken h.places ∙ (is ∙ sym takes))
+      ];
+    }
+
+pub run-ends : (r : run.Inside) (b : BoardView) (d : RaggedEndedView) → KeepsRun r → b.origin ≡ r.board.origin → HasEnded b d → IsEnd (run_view r) d
+run-ends r b d keeps same h =
+    let P : Origin → Type 0 = λ o. IsOriginOf (run_view r) o in
+    let L : Origin → Type 0 = λ o. IsLawfulOrigin o in
+    end-of (run_view r) b d (subst P (sym (h.stop.same ∙ same)) keeps.origin) (subst L (sym (h.stop.same ∙ same)) keeps.lawful) h
+
+pub done-keeps : (r : run.Inside) (b : BoardView) (d : RaggedEndedView) → KeepsRun r → b.origin ≡ r.board.origin → HasEnded b d
+    → KeepsDone (record { ended = d; orders = r.orders; save = r.save })
+done-keeps r b d keeps same h =
+    let there : d.origin ≡ r.board.origin = h.stop.same ∙ same in
+    let x : done.Inside = record { ended = d; orders = r.orders; save = r.save } in
+    let every = ap (λ (o : Origin). o.window.every) there ∙ keeps.origin.every_is in
+    let samples = ap (λ (o : Origin). o.window.samples) there ∙ keeps.origin.samples_is in
+    let L : Origin → Type 0 = λ o. IsLawfulOrigin o in
+    record {
+      orders = keeps.orders;
+      ended = end-of (done_view x).run b d (record { plan_is = refl; base_is = refl; until_is = refl; every_is = every; samples_is = samples; takes_is = refl }) (subst L (sym there) keeps.lawful) h;
+    }

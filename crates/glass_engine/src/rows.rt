@@ -1,0 +1,149 @@
+//! The rows of a report, which go to the output in full buffers.
+
+ghost use Rattle.std.specs.Prelude.{◌≡◌, ◌+◌, ◌-◌, ◌*◌, ◌^◌, ◌<◌, ◌≤◌, ◌++◌, [], if◌then◌else◌, length, IfOk, OnOk, OnErr};
+ghost use Rattle.glass_edges.specs.Causes.{HasCause};
+ghost use Rattle.glass_edges.specs.Contents.{appended, AppendsPrefix, PutsFront};
+ghost use Rattle.exchange_board.specs.Content as board;
+ghost use Rattle.scalar_rule.specs.Records.{in_order, is_recorded};
+ghost use Rattle.glass_engine.specs.RecordPieces.{piece_rows, measured};
+ghost use Rattle.glass_engine.specs.Report as text;
+
+use exchange_board::Origin;
+use glass_edges::{Fault, Line, Sink};
+use report_text::add_row;
+use scalar_rule::Record;
+
+/// Puts the rows of a run between two epochs, whose records are these.
+pub(crate) fn write_rows<O: Sink>(
+    out: &mut O,
+    origin: &Origin,
+    slots: usize,
+    from: u64,
+    to: u64,
+    records: &[Record],
+) -> Result<(), Fault>
+    requires lawful { board.IsLawfulOrigin origin.now }
+    requires slots { slots ≡ board.slots_in origin.now }
+    requires window { from ≤ to }
+    requires to { to ≤ 1000000000 }
+    requires records { records.now ≡ in_order (measured origin.now)
+        origin.now.window.samples origin.now.window.every from to }
+    ensures whole { OnOk result (O.taken out.new ≡ appended (O.taken out.old)
+        (text.rows_in_order (measured origin.now) origin.now.window.samples origin.now.window.every from to)) }
+    ensures prefix { OnErr result (AppendsPrefix (O.taken out.old) (O.taken out.new)
+        (text.rows_in_order (measured origin.now) origin.now.window.samples origin.now.window.every from to)) }
+    ensures cause { HasCause (O.faults out.old) (O.faults out.new) result }
+{
+    let mut line = Line::new();
+    add_rows(out, &mut line, origin, slots, from, to, records)?;
+    line.put(out)
+}
+
+// Adds the rows between two epochs behind a text that is still to be put.
+fn add_rows<O: Sink>(
+    out: &mut O,
+    line: &mut Line,
+    origin: &Origin,
+    slots: usize,
+    from: u64,
+    to: u64,
+    records: &[Record],
+) -> Result<(), Fault>
+    requires lawful { board.IsLawfulOrigin origin.now }
+    requires slots { slots ≡ board.slots_in origin.now }
+    requires window { from ≤ to }
+    requires to { to ≤ 1000000000 }
+    requires records { records.now ≡ in_order (measured origin.now)
+        origin.now.window.samples origin.now.window.every from to }
+    ensures front { OnOk result (PutsFront (O.taken out.old) (O.taken out.new) (line.old
+        ++ text.rows_in_order (measured origin.now) origin.now.window.samples origin.now.window.every from to)
+        line.new) }
+    ensures prefix { OnErr result (AppendsPrefix (O.taken out.old) (O.taken out.new) (line.old
+        ++ text.rows_in_order (measured origin.now) origin.now.window.samples origin.now.window.every from to)) }
+    ensures cause { HasCause (O.faults out.old) (O.faults out.new) result }
+{
+    let window = origin.window;
+    let mut rest = records;
+    'epochs: for epoch in from..to {
+        let count = add_recorded(out, line, window.samples, window.every, slots, epoch, rest)?;
+        rest = &rest[count..];
+    }
+    Ok(())
+}
+
+// Adds the rows of an epoch if it is recorded, whose records are the first of these, and answers how
+// many they are.
+fn add_recorded<O: Sink>(
+    out: &mut O,
+    line: &mut Line,
+    samples: u32,
+    every: u64,
+    slots: usize,
+    epoch: u64,
+    records: &[Record],
+) -> Result<usize, Fault>
+    requires samples { samples ≤ 64 }
+    requires every { 1 ≤ every }
+    requires slots { slots ≤ 32 }
+    requires records { (if is_recorded every epoch then samples * slots else 0) ≤ length records.now }
+    ensures count { IfOk result (λ count. count ≡ (if is_recorded every epoch then samples * slots else 0)) }
+    ensures within { IfOk result (λ count. count ≤ length records.now) }
+    ensures few { IfOk result (λ count. count ≤ 2048) }
+    ensures front { OnOk result (PutsFront (O.taken out.old) (O.taken out.new)
+        (line.old ++ (if is_recorded every epoch then piece_rows epoch samples slots records.now else [])) line.new) }
+    ensures prefix { OnErr result (AppendsPrefix (O.taken out.old) (O.taken out.new)
+        (line.old ++ (if is_recorded every epoch then piece_rows epoch samples slots records.now else []))) }
+    ensures cause { HasCause (O.faults out.old) (O.faults out.new) result }
+{
+    if epoch % every != every - 1 {
+        return Ok(0);
+    }
+    add_epoch(out, line, epoch, samples, slots, records)?;
+    Ok(samples as usize * slots)
+}
+
+// Adds the rows of one epoch, whose records are the first of these.
+fn add_epoch<O: Sink>(
+    out: &mut O,
+    line: &mut Line,
+    epoch: u64,
+    samples: u32,
+    slots: usize,
+    records: &[Record],
+) -> Result<(), Fault>
+    requires records { samples * slots ≤ length records.now }
+    requires slots { slots ≤ 32 }
+    ensures front { OnOk result (PutsFront (O.taken out.old) (O.taken out.new)
+        (line.old ++ piece_rows epoch samples slots records.now) line.new) }
+    ensures prefix { OnErr result (AppendsPrefix (O.taken out.old) (O.taken out.new)
+        (line.old ++ piece_rows epoch samples slots records.now)) }
+    ensures cause { HasCause (O.faults out.old) (O.faults out.new) result }
+{
+    let mut rest = records;
+    'samples: for b in 0..samples {
+        add_sample(out, line, epoch, b, &rest[..slots])?;
+        rest = &rest[slots..];
+    }
+    Ok(())
+}
+
+// Adds the rows of one sample at one epoch.
+fn add_sample<O: Sink>(
+    out: &mut O,
+    line: &mut Line,
+    epoch: u64,
+    sample: u32,
+    records: &[Record],
+) -> Result<(), Fault>
+    requires { length records.now < 2 ^ 32 }
+    ensures front { OnOk result (PutsFront (O.taken out.old) (O.taken out.new)
+        (line.old ++ text.sample_rows epoch sample records.now) line.new) }
+    ensures prefix { OnErr result (AppendsPrefix (O.taken out.old) (O.taken out.new)
+        (line.old ++ text.sample_rows epoch sample records.now)) }
+    ensures cause { HasCause (O.faults out.old) (O.faults out.new) result }
+{
+    'slots: for slot in 0..records.len() {
+        add_row(out, line, epoch, sample, slot as u32, &records[slot])?;
+    }
+    Ok(())
+}
