@@ -1,0 +1,15 @@
+pub mod Numerals
+pub mod LineLaws
+pub mod Lines
+pub mod Steps
+pub mod StepLaws
+pub mod Agains
+pub mod HeaderTests
+pub mod Completing
+pub mod Progress
+pub mod WrongLine
+pub mod Powers
+pub mod Tallying
+pub mod Fitting
+pub mod Slots
+pub mod Pieces

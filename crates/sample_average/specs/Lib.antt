@@ -1,0 +1,5 @@
+pub mod Averages
+pub mod Following
+pub mod LawfulReport
+pub mod LineReading
+pub mod Tallies
