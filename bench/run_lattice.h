@@ -256,7 +256,7 @@ INL void six(const PlaneAt &r, size_t row, i64 up, i64 dn, int j, int HV, bool p
         n[5] = V::x(a4, j4);
     }
 }
-// Calls f(row, up, dn, parity) at each row of a plane; P0 is the parity of x in row 0.
+// Calls f(row, up, dn, parity) at each row of a plane; P0 is the parity of x in the first row.
 template <bool P0, class F> INL void each_row(int H, int L, F f) {
     i64 h = H, last = i64(L - 1) * H;
     f(size_t(0), h, last, P0);

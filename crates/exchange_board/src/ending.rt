@@ -16,7 +16,9 @@ use crate::origin::Origin;
 use crate::room::Room;
 use crate::rows::rows_of;
 use plain_list::Items;
-use plane_sweep::{Duo, Place, RaggedStand, Stand, cell_at, deepest, has_record, shallowest};
+use plane_sweep::{
+    Duo, Place, RaggedStand, Stand, cell_at, deepest, has_record, record_in_range, shallowest,
+};
 use scalar_rule::Record;
 
 // The contents of slots that are all at home; they are moved.
@@ -107,46 +109,6 @@ fn stops(slots: &Items<Slot>, places: Items<Place>) -> Items<Place>
     places
 }
 
-// A record of these numbers, which lie in the ranges of their types.
-fn record_with(
-    first_energy: i32,
-    second_energy: i32,
-    overlap: i32,
-    first_replica: u8,
-    second_replica: u8,
-) -> Record
-    ensures first_energy { result.first_energy ≡ first_energy }
-    ensures second_energy { result.second_energy ≡ second_energy }
-    ensures overlap { result.overlap ≡ overlap }
-    ensures first_replica { result.first_replica ≡ first_replica }
-    ensures second_replica { result.second_replica ≡ second_replica }
-    ensures fits { FitsRecord result }
-{
-    Record {
-        first_energy,
-        second_energy,
-        overlap,
-        first_replica,
-        second_replica,
-    }
-}
-
-// Puts down a record.
-fn put_record(room: &mut Room<Record>, row: &Record)
-    requires { 0 < room.old.spare }
-    ensures items { room.new.items ≡ room.old.items ++ row.now ∷ [] }
-    ensures spare { room.new.spare + 1 ≡ room.old.spare }
-    ensures fits { FitsRecord row.now }
-{
-    room.put(record_with(
-        row.first_energy,
-        row.second_energy,
-        row.overlap,
-        row.first_replica,
-        row.second_replica,
-    ));
-}
-
 // One place of the table: where it has a record that is to be kept, that record is put down.
 fn keep_cell(
     room: &mut Room<Record>,
@@ -174,7 +136,8 @@ fn keep_cell(
     let cell = cell_at(index, floor, window.samples, places.len() as u32);
     if has_record(&cell, places, window.every) {
         let rows = rows_of(origin, cell.slot, cell.epoch);
-        put_record(room, records.at(rows.place(cell.sample)));
+        let row = *records.at(rows.place(cell.sample));
+        room.put(record_in_range(row));
     }
 }
 

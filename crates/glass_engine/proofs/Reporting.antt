@@ -83,7 +83,7 @@ begun-done : (e : ℕ) (a : Bool) → (4 * e + cond a 2 0 + 3) / 4 ≡ e + cond 
 begun-done e true = omega arith
 begun-done e false = omega arith
 
--- the least recorded epoch is until
+-- the least completed epoch is until
 floor-ended : (o : Origin) (d : RaggedEndedView) → IsLawfulOrigin o → IsStop o d → floor_of (positions_of d.stand) ≡ o.window.until → AllEnded o.window.until (stages_of d.stand)
 floor-ended o d l s is =
     let x = later o d.stand in

@@ -131,14 +131,22 @@ fn compare(rt: &HostRuntime, size: u32, kind: RuleKind, seed: u64) -> Result<(),
 {
     let alloc = rt.alloc();
     let run = run_file(alloc, size, kind, seed)?;
-    let called = call_with(rt, "run run.toml", store(rt, run.as_str(), rules_of(kind), SWAPS)?)?;
+    let called = call_with(
+        rt,
+        "run run.toml",
+        store(rt, run.as_str(), rules_of(kind), SWAPS)?,
+    )?;
     assert_eq!(rt; called.status, 0);
     let report = std::str::from_utf8(called.out.taken())?;
     let plan = plan_of(alloc, size, kind, seed)?;
     for (bit, name) in [(0, "0"), (31, "31"), (32, "32"), (63, "63")] {
         let printed = rows_printed(alloc, report, name)?;
         let alone = rows_alone(alloc, &plan, bit)?;
-        assert_eq!(rt; printed.as_str(), alone.as_str(), "size {size}, seed {seed}, sample {bit}");
+        assert_eq!(rt;
+            printed.as_str(),
+            alone.as_str(),
+            "size {size}, seed {seed}, sample {bit}"
+        );
         assert_eq!(rt; printed.as_str().split('\n').count(), 7, "sample {bit}");
     }
     Ok(())

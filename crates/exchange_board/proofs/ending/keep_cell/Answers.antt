@@ -54,8 +54,8 @@ place-requires-clause-few c =
     let room = c.rows_of-rows.ensures.room (are.recorded ∙ cell.printed) in
     omega (arith, room, c.requires.lawful.rows)
 
-pub at-requires : goal.at-requires
-at-requires c =
+pub at-row-requires : goal.at-row-requires
+at-row-requires c =
     let o = c.args.origin.now in
     let ps = map position_of c.args.places.now in
     let is = ahead-is o ps c.args.floor c.len.result c.args.index c.cell_at-cell.result c.requires.floor (c.len.ensures ∙ sym (length-map c.args.places.now position_of)) c.cell_at-cell.ensures in
@@ -74,10 +74,10 @@ returns-then-has_record-clause-kept c = λ on.
     let cell = ahead-cell o ps c.args.index c.cell_at-cell.result c.requires.lawful c.requires.ahead kept is in
     let row = kept-row o c.cell_at-cell.result c.rows_of-rows.result c.requires.lawful cell.cell_is c.rows_of-rows.ensures.rows in
     let within : (c.rows_of-rows.result.at + c.cell_at-cell.result.sample) * c.rows_of-rows.result.slots + c.rows_of-rows.result.slot < length c.args.records.now = omega (arith, row.within, c.requires.sized) in
-    let value = c.at.ensures ∙ (ap (λ j. get_or c.args.records.now j c.at.result.now) c.place.ensures ∙ (get_or_default c.args.records.now _ _ no_record within ∙ ahead-value o ps c.args.floor (length c.args.places.now) c.args.index c.cell_at-cell.result c.args.records.now _ c.requires.floor (length-map c.args.places.now position_of) is cell row.place c.requires.rows)) in
-    c.put_record.ensures.items ∙ ap (λ (x : Record). c.args.room.now.items ++ x ∷ []) value
+    let value = c.at-row.ensures ∙ (ap (λ j. get_or c.args.records.now j c.at-row.result.now) c.place.ensures ∙ (get_or_default c.args.records.now _ _ no_record within ∙ ahead-value o ps c.args.floor (length c.args.places.now) c.args.index c.cell_at-cell.result c.args.records.now _ c.requires.floor (length-map c.args.places.now position_of) is cell row.place c.requires.rows)) in
+    c.put.ensures.items ∙ ap (λ (x : Record). c.args.room.now.items ++ x ∷ []) (c.record_in_range.ensures.same ∙ value)
 
 pub returns-then-has_record-clause-fits : goal.returns-then-has_record-clause-fits
 returns-then-has_record-clause-fits c = λ each.
     let A : List Record → Type 0 = λ rows. All FitsRecord rows in
-    subst A (sym c.put_record.ensures.items) (all-push c.args.room.now.items _ each c.put_record.ensures.fits)
+    subst A (sym c.put.ensures.items) (all-push c.args.room.now.items _ each c.record_in_range.ensures.fits)
