@@ -125,8 +125,8 @@ fn rows_printed(alloc: Global, report: &str, sample: &str) -> Result<String, Fai
     Ok(text)
 }
 
-// Compares the rows of four samples of a run with those of each of them run by itself.
-fn compare(rt: &HostRuntime, size: u32, kind: RuleKind, seed: u64) -> Result<(), Fail>
+// Whether four samples of a run have the rows of each of them run by itself.
+fn agree(rt: &HostRuntime, size: u32, kind: RuleKind, seed: u64) -> Result<bool, Fail>
     requires { seed ≤ 1000000 }
 {
     let alloc = rt.alloc();
@@ -136,47 +136,60 @@ fn compare(rt: &HostRuntime, size: u32, kind: RuleKind, seed: u64) -> Result<(),
         "run run.toml",
         store(rt, run.as_str(), rules_of(kind), SWAPS)?,
     )?;
-    assert_eq!(rt; called.status, 0);
     let report = std::str::from_utf8(called.out.taken())?;
     let plan = plan_of(alloc, size, kind, seed)?;
+    let mut agreed = called.status == 0;
     for (bit, name) in [(0, "0"), (31, "31"), (32, "32"), (63, "63")] {
         let printed = rows_printed(alloc, report, name)?;
         let alone = rows_alone(alloc, &plan, bit)?;
-        assert_eq!(rt;
-            printed.as_str(),
-            alone.as_str(),
-            "size {size}, seed {seed}, sample {bit}"
-        );
-        assert_eq!(rt; printed.as_str().split('\n').count(), 7, "sample {bit}");
+        // Two recorded epochs of three slots.
+        agreed = agreed
+            && printed.as_str() == alone.as_str()
+            && printed.as_str().split('\n').count() == 7;
     }
-    Ok(())
+    Ok(agreed)
 }
 
-// Compares the runs of a size by both rules and with several seeds.
-fn compare_all(rt: &HostRuntime, size: u32) -> Result<(), Fail> {
+// Whether they have in runs of a size and a rule with several seeds.
+fn seeds_agree(rt: &HostRuntime, size: u32, kind: RuleKind) -> Result<bool, Fail> {
+    let mut agreed = true;
     for seed in 0..SEEDS {
-        compare(rt, size, RuleKind::Heat, FIRST_SEED + seed)?;
-        compare(rt, size, RuleKind::Metropolis, FIRST_SEED + seed)?;
+        agreed = agreed && agree(rt, size, kind, FIRST_SEED + seed)?;
     }
-    Ok(())
+    Ok(agreed)
+}
+
+// Whether they have by both rules.
+fn all_agree(rt: &HostRuntime, size: u32) -> Result<bool, Fail> {
+    Ok(seeds_agree(rt, size, RuleKind::Heat)? && seeds_agree(rt, size, RuleKind::Metropolis)?)
 }
 
 #[test]
 fn rows_of_samples_run_alone_at_size_4(rt: HostRuntime) -> Result<(), Fail> {
-    compare_all(&rt, 4)
+    assert!(rt; all_agree(&rt, 4)?);
+    Ok(())
 }
 
 #[test]
 fn rows_of_samples_run_alone_at_size_6(rt: HostRuntime) -> Result<(), Fail> {
-    compare_all(&rt, 6)
+    assert!(rt; all_agree(&rt, 6)?);
+    Ok(())
 }
 
 #[test]
 fn rows_of_samples_run_alone_at_size_8(rt: HostRuntime) -> Result<(), Fail> {
-    compare_all(&rt, 8)
+    assert!(rt; all_agree(&rt, 8)?);
+    Ok(())
 }
 
 #[test]
-fn rows_of_samples_run_alone_at_size_16(rt: HostRuntime) -> Result<(), Fail> {
-    compare_all(&rt, 16)
+fn rows_of_samples_run_alone_at_size_16_by_heat_bath(rt: HostRuntime) -> Result<(), Fail> {
+    assert!(rt; seeds_agree(&rt, 16, RuleKind::Heat)?);
+    Ok(())
+}
+
+#[test]
+fn rows_of_samples_run_alone_at_size_16_by_metropolis(rt: HostRuntime) -> Result<(), Fail> {
+    assert!(rt; seeds_agree(&rt, 16, RuleKind::Metropolis)?);
+    Ok(())
 }
