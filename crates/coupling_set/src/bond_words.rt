@@ -5,6 +5,7 @@ ghost use Rattle.std.specs.Prelude.{◌≡◌, ◌≢◌, ℕ, ◌+◌, ◌*◌,
 ghost use Rattle.coupling_set.specs.CouplingWords.{bonds_of, place_of, KeepsOthers};
 ghost use Rattle.coupling_set.specs.KeptWords.{free_words, head_words, kept_place, kept_count, kept_on, plane_number};
 ghost use Rattle.spin_model.specs.Lattice.{volume, bond_count, half_plane, IsLawfulSize};
+ghost use Rattle.spin_model.specs.Words.{is_set};
 
 use lattice_geometry::Lattice;
 use multispin_word::with_bit;
@@ -57,6 +58,17 @@ pub(crate) fn place(lattice: &Lattice, site: u32, d: u32) -> usize
     let (x, y, z) = lattice.coordinates(site);
     let start = plane_start(size, lattice.colour(site), z, d);
     (start + (y * (size / 2) + x / 2)) as usize
+}
+
+/// Writes the word of one bond: J of sample b is -1 where bit b is set.
+pub(crate) fn write_word(words: &mut [u64], lattice: &Lattice, bond: u32, word: u64)
+    requires sized { length words.old ≡ kept_count lattice.now }
+    requires bond { bond < bond_count lattice.now }
+    ensures written { (b : ℕ) → bonds_of (kept_on lattice.now words.new) b bond ≡ is_set word b }
+    ensures others { (b n : ℕ) → n < bond_count lattice.now → n ≢ bond
+        → bonds_of (kept_on lattice.now words.new) b n ≡ bonds_of (kept_on lattice.now words.old) b n }
+{
+    words[place(lattice, bond / 3, bond % 3)] = word;
 }
 
 /// Writes one coupling of one sample: `negative` where J is -1.

@@ -1,6 +1,7 @@
 //! The couplings of 64 disorder samples.
 
 ghost use Rattle.std.specs.Prelude.{◌≡◌, ℕ, ◌+◌, ◌*◌, ◌^◌, ◌<◌, ◌≤◌, IfOk, length, slice_index};
+ghost use Rattle.coupling_set.specs.BondsAsWords.{bank_of};
 ghost use Rattle.coupling_set.specs.CouplingWords.{bond_word, HasBonds, AreCouplings};
 ghost use Rattle.coupling_set.specs.KeptWords.{kept_count, kept_on};
 ghost use Rattle.spin_model.specs.Couplings.{plus, random};
@@ -62,6 +63,25 @@ impl Couplings {
         Couplings::random_from(alloc, lattice, seed, 0)
     }
 
+    /// The random couplings of a bank of 64 samples: those of sample 64 bank + m are in bit m. There
+    /// are four banks.
+    ///
+    /// # Errors
+    ///
+    /// Refuses only for want of memory.
+    pub fn random_bank(
+        alloc: Global,
+        lattice: Lattice,
+        seed: u64,
+        bank: u32,
+    ) -> Result<Couplings, NoMemory>
+        requires { bank < 4 }
+        ensures size { IfOk result (λ couplings. couplings.size ≡ lattice) }
+        ensures bonds { IfOk result (λ couplings. HasBonds couplings (bank_of bank (random seed))) }
+    {
+        Couplings::random_from(alloc, lattice, seed, 64 * bank)
+    }
+
     // The random couplings of 64 samples, of which sample 0 has this number.
     fn random_from(
         alloc: Global,
@@ -79,7 +99,7 @@ impl Couplings {
     }
 
     // The couplings in these words.
-    fn of(lattice: Lattice, words: Vec<u64>) -> Couplings
+    pub(crate) fn of(lattice: Lattice, words: Vec<u64>) -> Couplings
         requires { length words.items ≡ kept_count lattice }
         ensures { result ≡ kept_on lattice words.items }
     {

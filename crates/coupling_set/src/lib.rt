@@ -1,10 +1,19 @@
-//! The couplings of 64 disorder samples: the ferromagnet, and random ones.
+//! The couplings of 64 disorder samples: the ferromagnet, random ones, and those of a file.
 #![tactic(auto)]
 
 mod bond_words;
 mod couplings;
+mod couplings_file;
 mod drawing;
+mod file_checks;
+mod file_reading;
+#[cfg(test)]
+mod file_tests;
+mod file_writing;
+mod refused;
 #[cfg(test)]
 mod tests;
 
 pub use couplings::Couplings;
+pub use couplings_file::couplings_are_their_bonds;
+pub use refused::CouplingsRefused;

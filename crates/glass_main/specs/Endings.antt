@@ -1,17 +1,19 @@
 -- Which endings words may have, over any store: what holds also where no file is observable.
 use Rattle.std.specs.Prelude.{◌≡◌, ◌⊎◌, ℕ, ◌<◌, List, Option, Some, None, option_map, IfSome, Err}
 use Rattle.glass_edges.specs.Contents.{Files}
-use Rattle.threshold_table.specs.Tables.{rule_table, swap_table}
+use Rattle.coupling_set.specs.CouplingsFile.{couplings_in}
+use Rattle.coupling_set.specs.declared.refused.CouplingsRefused.{CouplingsRefused}
+use Rattle.coupling_set.specs.declared.refused.CouplingsRefused.TheVariants as couplings
+use Rattle.threshold_table.specs.Tables.{RuleView, rule_table, swap_table}
 use Rattle.threshold_table.specs.declared.refused.TableRefused.{TableRefused}
 use Rattle.threshold_table.specs.declared.refused.TableRefused.TheVariants as table
 use Rattle.threshold_table.specs.declared.rule_table.RuleKind.{RuleKind}
-use Rattle.run_plan.specs.PlanOf.{couplings_of}
 use Rattle.run_plan.specs.RunFile.{run_file}
 use Rattle.run_plan.specs.declared.refused.PlanRefused.{PlanRefused}
 use Rattle.run_plan.specs.declared.refused.PlanRefused.TheVariants as plan
 use Rattle.run_plan.specs.declared.run_file.RunFile.{RunFile}
 use Rattle.glass_main.specs.CommandLine.{Command, Plain, Check, Run}
-use Rattle.glass_main.specs.Request.{limit_of, and_then, IsAccepted, run_file_at, rules_at}
+use Rattle.glass_main.specs.Request.{limit_of, and_then, IsAccepted, run_file_at, rules_at, swaps_at, tables_at}
 use Rattle.glass_main.specs.declared.role.Role.{Role}
 use Rattle.glass_main.specs.declared.role.Role.TheVariants as roles
 use Rattle.glass_main.specs.declared.refusal.Refusal.{Refusal}
@@ -21,10 +23,10 @@ use Rattle.glass_main.specs.declared.ending.Ending.TheVariants.{Done, Refused, U
 
 -- ---- refusals
 
--- some run file is refused so, by its bytes or for its couplings; a reader's want of memory is no refusal
+-- some run file is refused so; a reader's want of memory is no refusal
 pub record IsOfRunFile (e : PlanRefused) : Type 0 where
   pub refusal : ¬ (e ≡ plan.NoMemory)
-  pub cause : ((bytes : List ℕ) × (run_file bytes ≡ Err e)) ⊎ ((file : RunFile) × (couplings_of file ≡ Err e))
+  pub cause : (bytes : List ℕ) × (run_file bytes ≡ Err e)
 
 -- some rule table is refused so
 pub record IsOfRules (e : TableRefused) : Type 0 where
@@ -36,6 +38,11 @@ pub record IsOfSwaps (e : TableRefused) : Type 0 where
   pub refusal : ¬ (e ≡ table.NoMemory)
   pub cause : (slots : ℕ) × (bytes : List ℕ) × (swap_table slots bytes ≡ Err e)
 
+-- some couplings file is refused so
+pub record IsOfCouplings (e : CouplingsRefused) : Type 0 where
+  pub refusal : ¬ (e ≡ couplings.NoMemory)
+  pub cause : (size : ℕ) × (bytes : List ℕ) × (couplings_in size 0 bytes ≡ Err e)
+
 -- a refusal of what was read, and not of the words; of a file that is too long a length above its limit is told
 abbrev pub IsOfFile : Refusal → Type 0
 IsOfFile refused.Words = ⊥
@@ -44,6 +51,7 @@ IsOfFile (refused.TooLong role n) = limit_of role < n
 IsOfFile (refused.Plan e) = IsOfRunFile e
 IsOfFile (refused.Rules e) = IsOfRules e
 IsOfFile (refused.Swaps e) = IsOfSwaps e
+IsOfFile (refused.Couplings e) = IsOfCouplings e
 
 -- a refusal of what a run prints; the amount that is told is above its limit
 abbrev pub IsOfAmount : Refusal → Type 0
@@ -53,11 +61,20 @@ IsOfAmount told = ⊥
 
 -- ---- files that are fetched
 
--- which tables of a run file: no step before the one that fetches the table refuses, as far as the files are observable
+-- which files after the rule table: no step before the one that fetches the file refuses, as far as the files are
+-- observable
+abbrev pub IsReachedAfterRules : RunFile → RuleView → Option Files → Role → Type 0
+IsReachedAfterRules file rules held roles.RunFile = ⊥
+IsReachedAfterRules file rules held roles.RuleTable = ⊥
+IsReachedAfterRules file rules held roles.SwapTable = Unit {0}
+IsReachedAfterRules file rules held roles.Couplings = IfSome (option_map (swaps_at file rules) held) IsAccepted
+
+-- which tables and couplings of a run file
 abbrev pub IsReachedAfter : RunFile → Option Files → Role → Type 0
 IsReachedAfter file held roles.RunFile = ⊥
 IsReachedAfter file held roles.RuleTable = Unit {0}
 IsReachedAfter file held roles.SwapTable = IfSome (option_map (rules_at file) held) IsAccepted
+IsReachedAfter file held roles.Couplings = IfSome (option_map (tables_at file) held) IsAccepted
 
 -- which files from a run file's name on
 abbrev pub IsReached : List ℕ → Option Files → Role → Type 0
@@ -65,6 +82,8 @@ IsReached name held roles.RunFile = Unit {0}
 IsReached name held roles.RuleTable = IfSome (option_map (run_file_at name) held) IsAccepted
 IsReached name held roles.SwapTable =
     IfSome (option_map (λ files. and_then (run_file_at name files) (λ file. rules_at file files)) held) IsAccepted
+IsReached name held roles.Couplings =
+    IfSome (option_map (λ files. and_then (run_file_at name files) (λ file. tables_at file files)) held) IsAccepted
 
 -- ---- commands
 

@@ -12,12 +12,9 @@ use Rattle.glass_main.specs.declared.refusal.Refusal.TheVariants.{Absent, TooLon
 use Rattle.glass_main.specs.declared.ending.Ending.{Ending}
 use Rattle.glass_main.specs.declared.ending.Ending.TheVariants.{Done, Refused, Unread, Unwritten, NoMemory}
 
--- a step that fetches one file, or none
+-- a step that fetches at most one file
 abbrev pub Fetches : Role → Role → Type 0
 Fetches fetched role = role ≡ fetched
-
-abbrev pub FetchesNone : Role → Type 0
-FetchesNone role = ⊥
 
 -- what is made of a fetch's answer: the bytes, or the ending that tells of it; a length is told as it was answered
 abbrev pub gathered : Role → Fetched → Result (List ℕ) Ending

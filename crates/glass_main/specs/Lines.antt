@@ -4,12 +4,15 @@ use Rattle.std.specs.Fmt.{signed_decimal}
 use Rattle.run_plan.specs.RunFile.{name_of}
 use Rattle.run_plan.specs.declared.refused.PlanRefused.{PlanRefused}
 use Rattle.run_plan.specs.declared.refused.PlanRefused.TheVariants as plan
+use Rattle.hex.specs.Hex.{encode_lower}
+use Rattle.coupling_set.specs.declared.refused.CouplingsRefused.{CouplingsRefused}
+use Rattle.coupling_set.specs.declared.refused.CouplingsRefused.TheVariants as couplings
 use Rattle.threshold_table.specs.declared.refused.TableRefused.{TableRefused}
 use Rattle.threshold_table.specs.declared.refused.TableRefused.TheVariants as table
 use Rattle.glass_main.specs.declared.role.Role.{Role}
 use Rattle.glass_main.specs.declared.role.Role.TheVariants as roles
 use Rattle.glass_main.specs.declared.refusal.Refusal.{Refusal}
-use Rattle.glass_main.specs.declared.refusal.Refusal.TheVariants.{Words, Absent, TooLong, Plan, Rules, Swaps}
+use Rattle.glass_main.specs.declared.refusal.Refusal.TheVariants.{Words, Absent, TooLong, Plan, Rules, Swaps, Couplings}
 use Rattle.glass_main.specs.declared.ending.Ending.{Ending}
 use Rattle.glass_main.specs.declared.ending.Ending.TheVariants.{Done, Refused, Unread, Unwritten, NoMemory}
 
@@ -18,6 +21,7 @@ unfoldable pub role_name : Role → List ℕ
 role_name roles.RunFile = codes "run file"
 role_name roles.RuleTable = codes "rule table"
 role_name roles.SwapTable = codes "swap table"
+role_name roles.Couplings = codes "couplings file"
 
 unfoldable pub memory_line : List ℕ
 memory_line = codes "glass: no memory\n"
@@ -59,6 +63,18 @@ table_line role (table.Records found wanted) =
     file_front role ++ codes " has " ++ decimal found ++ codes " records, not " ++ decimal wanted ++ codes "\n"
 table_line role table.NoMemory = memory_line
 
+-- why a couplings file was refused
+unfoldable pub couplings_line : CouplingsRefused → List ℕ
+couplings_line (couplings.Short len) = file_front roles.Couplings ++ codes " is too short: " ++ decimal len ++ codes " bytes\n"
+couplings_line couplings.Magic = file_front roles.Couplings ++ codes " is of another kind\n"
+couplings_line (couplings.Size found) = file_front roles.Couplings ++ codes " has size " ++ decimal found ++ codes "\n"
+couplings_line (couplings.Samples found) = file_front roles.Couplings ++ codes " has " ++ decimal found ++ codes " samples\n"
+couplings_line (couplings.Length found wanted) =
+    file_front roles.Couplings ++ codes " has " ++ decimal found ++ codes " bytes, not " ++ decimal wanted ++ codes "\n"
+couplings_line (couplings.Digest stored computed) =
+    file_front roles.Couplings ++ codes " is damaged: " ++ encode_lower stored ++ codes " stored, " ++ encode_lower computed ++ codes " computed\n"
+couplings_line couplings.NoMemory = memory_line
+
 -- the line of a refusal
 unfoldable pub refusal_line : Refusal → List ℕ
 refusal_line Words = codes "glass: the command line is not understood\n"
@@ -66,6 +82,7 @@ refusal_line (TooLong role n) = file_front role ++ codes " is too long: " ++ dec
 refusal_line (Plan refused) = plan_line refused
 refusal_line (Rules refused) = table_line roles.RuleTable refused
 refusal_line (Swaps refused) = table_line roles.SwapTable refused
+refusal_line (Couplings refused) = couplings_line refused
 refusal_line (Absent role) = file_front role ++ codes " is not held\n"
 
 -- the line of an ending

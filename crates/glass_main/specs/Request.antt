@@ -4,11 +4,16 @@ use Rattle.std.specs.FinMap as map
 use Rattle.glass_edges.specs.Contents.{Files}
 use Rattle.glass_edges.specs.Refusals.{unless}
 use Rattle.threshold_table.specs.Tables.{RuleView, rule_table, swap_table}
+use Rattle.spin_model.specs.Couplings.{plus, random}
+use Rattle.coupling_set.specs.BondsAsWords.{couplings_with}
 use Rattle.coupling_set.specs.CouplingWords.{CouplingsView}
+use Rattle.coupling_set.specs.CouplingsFile.{couplings_in}
 use Rattle.run_plan.specs.declared.run_file.RunFile.{RunFile}
 use Rattle.run_plan.specs.RunFile.{run_file}
 use Rattle.run_plan.specs.Amounts.{amount_refusal}
-use Rattle.run_plan.specs.PlanOf.{couplings_of, plan_with}
+use Rattle.run_plan.specs.declared.run_file.CouplingSource.{CouplingSource}
+use Rattle.run_plan.specs.declared.run_file.CouplingSource.TheVariants as sources
+use Rattle.run_plan.specs.PlanOf.{plan_with}
 use Rattle.glass_main.specs.CommandLine.{PlainOrder, RunOrder, Command, Plain, Check, Run, command_of}
 use Rattle.glass_main.specs.Texts.{plain_text, check_text, run_text}
 use Rattle.glass_main.specs.declared.planned.Planned.{Planned}
@@ -53,6 +58,7 @@ abbrev pub limit_of : Role → ℕ
 limit_of roles.RunFile = 1048576
 limit_of roles.RuleTable = 65536
 limit_of roles.SwapTable = 4194304
+limit_of roles.Couplings = 25165872
 
 -- the bytes of a file, unless the name isn't held or they are too many
 abbrev pub bytes_in : Role → Option (List ℕ) → Result (List ℕ) Refusal
@@ -75,9 +81,24 @@ unfoldable pub swaps_at : RunFile → RuleView → Files → Result (List (List 
 swaps_at file rules files =
     and_then (bytes_at roles.SwapTable file.swaps files) (λ bytes. told_as refused.Swaps (swap_table (length rules.rows) bytes))
 
--- its couplings
-unfoldable pub couplings_at : RunFile → Files → Result CouplingsView Refusal
-couplings_at file files = told_as refused.Plan (couplings_of file)
+-- the couplings of a file
+abbrev pub couplings_file_at : ℕ → List ℕ → Files → Result CouplingsView Refusal
+couplings_file_at size name files =
+    and_then (bytes_at roles.Couplings name files) (λ bytes. told_as refused.Couplings (couplings_in size 0 bytes))
+
+-- the couplings that a source gives: those of its kind, or of the couplings file that it names
+unfoldable pub couplings_from : CouplingSource → ℕ → ℕ → Files → Result CouplingsView Refusal
+couplings_from sources.Plus size seed files = Ok (couplings_with size plus)
+couplings_from sources.Random size seed files = Ok (couplings_with size (random seed))
+couplings_from (sources.File name) size seed files = couplings_file_at size name files
+
+-- the couplings of a run file
+abbrev pub couplings_at : RunFile → Files → Result CouplingsView Refusal
+couplings_at file files = couplings_from file.couplings file.lattice file.seed files
+
+-- both tables of a run file
+abbrev pub tables_at : RunFile → Files → Result (List (List ℕ)) Refusal
+tables_at file files = and_then (rules_at file files) (λ rules. swaps_at file rules files)
 
 -- the plan of a run file whose rule table is read
 unfoldable pub plan_after_rules : RunFile → RuleView → Files → Result Planned Refusal

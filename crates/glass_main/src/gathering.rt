@@ -1,10 +1,12 @@
 //! Reading what a run file names, step by step.
 
 ghost use Rattle.std.specs.Prelude.{◌≡◌, ◌≤◌, ◌+◌, length, option_map, IfOk};
+ghost use Rattle.coupling_set.specs.BondsAsWords.{couplings_with};
+ghost use Rattle.spin_model.specs.Couplings.{plus, random};
 ghost use Rattle.run_plan.specs.RunFile.{IsLawfulRunFile, AreLawfulOrders};
 ghost use Rattle.run_plan.specs.PlanOf.{plan_with};
-ghost use Rattle.glass_main.specs.Endings.{IsReached, IsReachedAfter};
-ghost use Rattle.glass_main.specs.Gathers.{Gathers, Fetches, FetchesNone, gathered};
+ghost use Rattle.glass_main.specs.Endings.{IsReached, IsReachedAfter, IsReachedAfterRules};
+ghost use Rattle.glass_main.specs.Gathers.{Gathers, Fetches, gathered};
 ghost use Rattle.glass_main.specs.Outside.{store};
 ghost use Rattle.glass_main.specs.Request as model;
 
@@ -12,15 +14,16 @@ use crate::ending::Ending;
 use crate::planned::Planned;
 use crate::refusal::Refusal;
 use crate::role::Role;
-use coupling_set::Couplings;
-use glass_edges::{Fetched, Shelf};
+use coupling_set::{Couplings, CouplingsRefused, couplings_are_their_bonds};
+use glass_edges::{Fetched, NoMemory, Shelf};
+use lattice_geometry::Lattice;
 use plain_list::Items;
-use run_plan::{PlanRefused, RunFile, read_plan};
+use run_plan::{CouplingSource, PlanRefused, RunFile, read_plan};
 use scalar_rule::Plan;
 use std::alloc::Global;
 use threshold_table::{RuleTable, SwapTable, TableRefused, read_rule, read_swap};
 
-/// Reads the run file of a name, then the tables that it names, and makes its couplings.
+/// Reads the run file of a name, then the tables and couplings that it names.
 #[tactic(auto, unfolding(crate::specs::Request::plan_at))]
 pub(crate) fn gather_plan<H: Shelf>(
     alloc: Global,
@@ -36,7 +39,7 @@ pub(crate) fn gather_plan<H: Shelf>(
     gather_after_file(alloc, shelf, &file)
 }
 
-// Reads the tables of a run file, and makes its couplings.
+// Reads the tables and couplings of a run file.
 #[tactic(auto, unfolding(crate::specs::Request::plan_after_file))]
 fn gather_after_file<H: Shelf>(
     alloc: Global,
@@ -53,7 +56,7 @@ fn gather_after_file<H: Shelf>(
     gather_after_rules(alloc, shelf, file, rules)
 }
 
-// Reads the swap table of a run file whose rule table is read, and makes its couplings.
+// Reads the swap table and the couplings of a run file whose rule table is read.
 #[tactic(auto, unfolding(crate::specs::Request::plan_after_rules))]
 fn gather_after_rules<H: Shelf>(
     alloc: Global,
@@ -63,7 +66,7 @@ fn gather_after_rules<H: Shelf>(
 ) -> Result<Planned, Ending>
     requires { IsLawfulRunFile file.now }
     ensures asked { Gathers (option_map (model.plan_after_rules file.now rules) (H.holds shelf.old))
-        (Fetches Role.SwapTable) result
+        (IsReachedAfterRules file.now rules (H.holds shelf.old)) result
         (store H.holds H.faults shelf.old) (store H.holds H.faults shelf.new) }
     ensures orders { IfOk result (λ planned. AreLawfulOrders planned.orders) }
 {
@@ -134,23 +137,69 @@ fn gather_swaps<H: Shelf>(
     }
 }
 
-// Makes the couplings of a run file.
-#[tactic(auto, unfolding(crate::specs::Request::couplings_at))]
+// Makes the couplings of a run file, or reads them from the file that it names.
+#[tactic(auto, unfolding(crate::specs::Request::couplings_from))]
 fn gather_couplings<H: Shelf>(
     alloc: Global,
-    _shelf: &mut H,
+    shelf: &mut H,
     file: &RunFile,
 ) -> Result<Couplings, Ending>
-    ensures asked { Gathers (option_map (model.couplings_at file.now) (H.holds _shelf.old))
-        FetchesNone result
-        (store H.holds H.faults _shelf.old) (store H.holds H.faults _shelf.new) }
+    ensures asked { Gathers (option_map (model.couplings_at file.now) (H.holds shelf.old))
+        (Fetches Role.Couplings) result
+        (store H.holds H.faults shelf.old) (store H.holds H.faults shelf.new) }
     ensures size { IfOk result (λ couplings. couplings.size ≡ file.now.lattice) }
 {
-    match file.make_couplings(alloc) {
+    let made = match &file.couplings {
+        CouplingSource::Plus => make_plus(alloc, file.lattice),
+        CouplingSource::Random => make_random(alloc, file.lattice, file.seed),
+        CouplingSource::File(name) => {
+            return gather_couplings_file(alloc, shelf, file.lattice, name.as_str());
+        }
+    };
+    match made {
         Ok(couplings) => Ok(couplings),
-        Err(PlanRefused::NoMemory) => Err(Ending::NoMemory),
-        Err(refused) => Err(Ending::Refused(Refusal::Plan(refused))),
+        Err(NoMemory) => Err(Ending::NoMemory),
     }
+}
+
+// Reads the couplings file of a name.
+fn gather_couplings_file<H: Shelf>(
+    alloc: Global,
+    shelf: &mut H,
+    lattice: Lattice,
+    name: &str,
+) -> Result<Couplings, Ending>
+    ensures asked { Gathers (option_map (model.couplings_file_at lattice name.now) (H.holds shelf.old))
+        (Fetches Role.Couplings) result
+        (store H.holds H.faults shelf.old) (store H.holds H.faults shelf.new) }
+    ensures size { IfOk result (λ couplings. couplings.size ≡ lattice) }
+{
+    let bytes = gather_bytes(alloc, shelf, Role::Couplings, name)?;
+    match Couplings::read(alloc, lattice, bytes.as_slice()) {
+        Ok(couplings) => Ok(couplings),
+        Err(CouplingsRefused::NoMemory) => Err(Ending::NoMemory),
+        Err(refused) => Err(Ending::Refused(Refusal::Couplings(refused))),
+    }
+}
+
+// The ferromagnet.
+fn make_plus(alloc: Global, lattice: Lattice) -> Result<Couplings, NoMemory>
+    ensures made { IfOk result (λ couplings. couplings ≡ couplings_with lattice plus) }
+    ensures size { IfOk result (λ couplings. couplings.size ≡ lattice) }
+{
+    let couplings = Couplings::plus(alloc, lattice)?;
+    couplings_are_their_bonds(&couplings);
+    Ok(couplings)
+}
+
+// Random couplings of a seed.
+fn make_random(alloc: Global, lattice: Lattice, seed: u64) -> Result<Couplings, NoMemory>
+    ensures made { IfOk result (λ couplings. couplings ≡ couplings_with lattice (random seed)) }
+    ensures size { IfOk result (λ couplings. couplings.size ≡ lattice) }
+{
+    let couplings = Couplings::random(alloc, lattice, seed)?;
+    couplings_are_their_bonds(&couplings);
+    Ok(couplings)
 }
 
 // Fetches the bytes of a file. A fetch that failed is not tried again.

@@ -3,6 +3,7 @@
 
 mod check;
 mod command_line;
+mod couplings_lines;
 mod ending;
 mod gathering;
 mod lines;

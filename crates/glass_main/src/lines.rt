@@ -5,6 +5,7 @@ ghost use Rattle.glass_main.specs.Lines.{role_name, file_front, line_of, refusal
 ghost use Rattle.glass_main.specs.Outside.{output};
 ghost use Rattle.glass_main.specs.Statuses.{status_of, Says, Told};
 
+use crate::couplings_lines::say_couplings;
 use crate::ending::{Ending, status};
 use crate::plan_lines::say_plan;
 use crate::refusal::Refusal;
@@ -44,10 +45,11 @@ fn say_refusal<E: Sink>(err: &mut E, refusal: &Refusal)
     match refusal {
         Refusal::Words => say(err, b"glass: the command line is not understood\n"),
         Refusal::Absent(role) => say_end(err, *role, b" is not held\n"),
-        Refusal::TooLong(role, n) => say_length(err, *role, *n),
+        Refusal::TooLong(role, n) => say_file_number(err, *role, b" is too long: ", *n, b" bytes\n"),
         Refusal::Plan(refused) => say_plan(err, refused),
         Refusal::Rules(refused) => say_table(err, Role::RuleTable, refused),
         Refusal::Swaps(refused) => say_table(err, Role::SwapTable, refused),
+        Refusal::Couplings(refused) => say_couplings(err, refused),
     }
 }
 
@@ -69,7 +71,7 @@ fn say_role<E: Sink>(err: &mut E, before: &[u8], role: Role, after: &[u8])
 pub(crate) fn add_file(line: &mut Line, role: Role)
     requires { line.old ≡ [] }
     ensures text { line.new ≡ file_front role }
-    ensures short { length line.new ≤ 21 }
+    ensures short { length line.new ≤ 25 }
 {
     line.add(b"glass: the ");
     line.add(role.name());
@@ -87,14 +89,21 @@ pub(crate) fn say_end<E: Sink>(err: &mut E, role: Role, end: &[u8])
     say(err, line.as_slice());
 }
 
-// The line of a file that is too long.
-fn say_length<E: Sink>(err: &mut E, role: Role, length: u64)
-    ensures { Says (file_front role ++ codes " is too long: " ++ decimal length ++ codes " bytes\n")
+/// Writes a line on a file with a number in it.
+pub(crate) fn say_file_number<E: Sink>(
+    err: &mut E,
+    role: Role,
+    before: &[u8],
+    number: u64,
+    after: &[u8],
+)
+    requires { length before.now + length after.now ≤ 100 }
+    ensures { Says (file_front role ++ before.now ++ decimal number ++ after.now)
         (output E.taken E.faults err.old) (output E.taken E.faults err.new) }
 {
     let mut line = Line::new();
     add_file(&mut line, role);
-    say_number(err, &mut line, b" is too long: ", length, b" bytes\n");
+    say_number(err, &mut line, before, number, after);
 }
 
 /// Writes what the buffer has, and behind it a number between two texts.

@@ -4,6 +4,7 @@ ghost use Rattle.std.specs.Prelude.{◌≡◌};
 ghost use Rattle.glass_main.specs.Statuses.{role_status, refusal_status};
 
 use crate::role::Role;
+use coupling_set::CouplingsRefused;
 use run_plan::PlanRefused;
 use threshold_table::TableRefused;
 
@@ -22,6 +23,8 @@ pub enum Refusal {
     Rules(TableRefused),
     /// The swap table is refused.
     Swaps(TableRefused),
+    /// The couplings file is refused.
+    Couplings(CouplingsRefused),
 }
 
 /// The exit status of a refusal.
@@ -35,6 +38,7 @@ pub(crate) fn refusal_status(refusal: &Refusal) -> u8
         Refusal::Plan(_) => 3,
         Refusal::Rules(_) => 4,
         Refusal::Swaps(_) => 4,
+        Refusal::Couplings(_) => 5,
     }
 }
 
@@ -45,5 +49,6 @@ fn role_status(role: Role) -> u8
         Role::RunFile => 3,
         Role::RuleTable => 4,
         Role::SwapTable => 4,
+        Role::Couplings => 5,
     }
 }

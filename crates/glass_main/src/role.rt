@@ -10,6 +10,7 @@ pub enum Role {
     RunFile,
     RuleTable,
     SwapTable,
+    Couplings,
 }
 
 impl Role {
@@ -17,12 +18,13 @@ impl Role {
     #[tactic(auto, unfolding(crate::specs::Lines::role_name))]
     pub(crate) fn name(self) -> &'static [u8]
         ensures name { result.now ≡ role_name self }
-        ensures short { length result.now ≤ 10 }
+        ensures short { length result.now ≤ 14 }
     {
         match self {
             Role::RunFile => b"run file",
             Role::RuleTable => b"rule table",
             Role::SwapTable => b"swap table",
+            Role::Couplings => b"couplings file",
         }
     }
 
@@ -34,6 +36,7 @@ impl Role {
             Role::RunFile => 1048576,
             Role::RuleTable => 65536,
             Role::SwapTable => 4194304,
+            Role::Couplings => 25165872,
         }
     }
 }

@@ -1,4 +1,3 @@
 pub mod Rows
 pub mod Messages
 pub mod Lengths
-pub mod CouplingWords

@@ -1,6 +1,6 @@
 -- What holds of the value at a key that isn't refused.
-use Rattle.std.proofs.Common.{◌≡◌, ℕ, ◌≤◌, ◌+◌, Bool, true, false, cond, ◌&&◌, ℤ, pos, negsuc, List, [], ◌∷◌, length, Option, Some, None, Result, Ok, Err, refl, sym, ap, ◌∙◌}
-use Rattle.std.specs.Prelude.{is_some, unwrap_or, option_and_then, int_le, nat_le, IfErr, ◌%◌, ◌==◌}
+use Rattle.std.proofs.Common.{◌≡◌, ℕ, ◌≤◌, ◌+◌, Bool, true, false, cond, ◌&&◌, ◌||◌, ℤ, pos, negsuc, List, [], ◌∷◌, length, Option, Some, None, Result, Ok, Err, refl, sym, ap, ◌∙◌}
+use Rattle.std.specs.Prelude.{codes, is_some, unwrap_or, option_and_then, int_le, nat_le, IfErr, ◌%◌, ◌==◌}
 use Rattle.std.specs.Result.{IsOk}
 use Rattle.std.proofs.lemmas.Bool.{false≢true, and_parts, leb-true, eqb-true}
 use Rattle.toml.specs.Data.{Data, Members, as_integer, as_str}
@@ -9,7 +9,7 @@ use Rattle.spin_model.specs.Lattice.{IsLawfulSize}
 use Rattle.run_plan.specs.declared.key.Key.{Key}
 use Rattle.run_plan.specs.declared.key.Key.TheVariants.{Size, Rule, Rules, Swaps, Couplings, Sweeps, Seed, Samples, Epochs, Every, Start as StartKey, Spins}
 use Rattle.run_plan.specs.declared.refused.PlanRefused.{PlanRefused}
-use Rattle.run_plan.specs.RunFile.{integer, size, name, keys, row_of, is_between, is_size, is_name, natural, value_refusal, found_refusal, integer_refusal, text_refusal, key_refusal, value_at, number_at, text_at, values_of, IsLawfulRunFile}
+use Rattle.run_plan.specs.RunFile.{integer, size, name, source, keys, row_of, is_between, is_size, is_name, is_either, is_source, names_file, natural, value_refusal, found_refusal, integer_refusal, text_refusal, key_refusal, value_at, number_at, text_at, values_of, IsLawfulRunFile}
 
 not-none : {E C : Type 0} (e : E) → Some e ≡ None → C
 not-none e h = absurd (false≢true (sym (ap is_some h)))
@@ -79,6 +79,22 @@ name-found key (Some d) h = name-in key (as_str d) h
 pub name-sized : (members : Members) (key : Key) → row_of key ≡ name → key_refusal members key ≡ None → (1 ≤ length (text_at key members)) × (length (text_at key members) ≤ 255)
 unfolding key_refusal text_at
 name-sized members key row h = name-found key (value_at key members) (ap (λ r. found_refusal key r (value_at key members)) (sym row) ∙ h)
+
+-- where couplings come from that are neither of the two words
+source-in : (key : Key) (text : Option (List ℕ)) → text_refusal key is_source text ≡ None → is_either (codes "plus") (codes "random") (unwrap_or text []) ≡ false → names_file (unwrap_or text []) ≡ true
+source-in key None h other = not-none _ h
+source-in key (Some text) h other =
+    ap (λ t. t || names_file text) (sym other) ∙ passes (is_source text) _ h
+
+source-found : (key : Key) (o : Option Data) → found_refusal key source o ≡ None → is_either (codes "plus") (codes "random") (unwrap_or (option_and_then as_str o) []) ≡ false → names_file (unwrap_or (option_and_then as_str o) []) ≡ true
+unfolding value_refusal
+source-found key None h other = not-none _ h
+source-found key (Some d) h other = source-in key (as_str d) h other
+
+-- name a couplings file
+pub source-named : (members : Members) → key_refusal members Couplings ≡ None → is_either (codes "plus") (codes "random") (text_at Couplings members) ≡ false → names_file (text_at Couplings members) ≡ true
+unfolding key_refusal text_at
+source-named members h other = source-found Couplings (value_at Couplings members) h other
 
 -- ---- all keys
 

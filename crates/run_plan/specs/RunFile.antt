@@ -1,6 +1,6 @@
 -- A run file: a TOML document that has exactly the twelve keys of one table at its top, each with a lawful value. What
 -- the document says and its first refusal are told apart.
-use Rattle.std.specs.Prelude.{ℕ, ◌%◌, ◌≤◌, Bool, false, ◌&&◌, ◌||◌, ◌==◌, nat_le, ℤ, pos, negsuc, int_le, if◌then◌else◌, List, [], ◌∷◌, length, codes, Option, Some, None, option_map, option_and_then, unwrap_or, Result, Err}
+use Rattle.std.specs.Prelude.{ℕ, ◌%◌, ◌≤◌, Bool, false, ◌&&◌, ◌||◌, ◌==◌, nat_le, ℤ, pos, negsuc, int_le, if◌then◌else◌, List, [], ◌∷◌, length, take, drop, codes, Option, Some, None, option_map, option_and_then, unwrap_or, Result, Err}
 use Rattle.std.specs.List.{list_any}
 use Rattle.std.specs.Str.{is_utf8, bytes_eq}
 use Rattle.toml.specs.Data.{Data, as_integer, as_str, as_bool, Members, no_members, member, get_member}
@@ -48,12 +48,13 @@ name_of StartKey = codes "start"
 name_of Spins = codes "spins"
 
 -- what may stand at a key: an integer between two bounds, both included; the size of a lattice, an even integer from 4
--- to 64; one of two words; the name of a file, of 1 to 255 bytes; a boolean
+-- to 64; one of two words; the name of a file, of 1 to 255 bytes; where couplings come from; a boolean
 pub data Row : Type 0 where
   integer : ℤ → ℤ → Row
   size : Row
   word : List ℕ → List ℕ → Row
   name : Row
+  source : Row
   boolean : Row
 
 -- the row of each key
@@ -62,7 +63,7 @@ row_of Size = size
 row_of Rule = word (codes "heat") (codes "metropolis")
 row_of Rules = name
 row_of Swaps = name
-row_of Couplings = word (codes "plus") (codes "random")
+row_of Couplings = source
 row_of Sweeps = integer (pos 1) (pos 1000000)
 row_of Seed = integer (pos 0) (pos 9223372036854775807)
 row_of Samples = integer (pos 1) (pos 64)
@@ -90,6 +91,14 @@ is_either first second text = bytes_eq text first || bytes_eq text second
 abbrev pub is_name : List ℕ → Bool
 is_name text = nat_le 1 (length text) && nat_le (length text) 255
 
+-- whether a text names a couplings file: "file:" and a name
+abbrev pub names_file : List ℕ → Bool
+names_file text = bytes_eq (take 5 text) (codes "file:") && is_name (drop 5 text)
+
+-- whether a text says where couplings come from: one of two words, or a couplings file
+abbrev pub is_source : List ℕ → Bool
+is_source text = is_either (codes "plus") (codes "random") text || names_file text
+
 -- an integer that isn't lawful is refused with its value, and no integer as one of another kind
 abbrev pub integer_refusal : Key → (ℤ → Bool) → Option ℤ → Option PlanRefused
 integer_refusal key is_lawful None = Some (refused.Kind key)
@@ -111,6 +120,7 @@ value_refusal key (integer least most) d = integer_refusal key (is_between least
 value_refusal key size d = integer_refusal key is_size (as_integer d)
 value_refusal key (word first second) d = text_refusal key (is_either first second) (as_str d)
 value_refusal key name d = text_refusal key is_name (as_str d)
+value_refusal key source d = text_refusal key is_source (as_str d)
 value_refusal key boolean d = boolean_refusal key (as_bool d)
 
 -- the value at a key
@@ -161,7 +171,10 @@ abbrev pub kind_of : List ℕ → RuleKind
 kind_of text = if bytes_eq text (codes "heat") then kinds.Heat else kinds.Metropolis
 
 abbrev pub source_of : List ℕ → CouplingSource
-source_of text = if bytes_eq text (codes "plus") then sources.Plus else sources.Random
+source_of text =
+    if bytes_eq text (codes "plus") then sources.Plus
+    else if bytes_eq text (codes "random") then sources.Random
+    else sources.File (drop 5 text)
 
 abbrev pub start_of : List ℕ → Start
 start_of text = if bytes_eq text (codes "up") then starts.Up else starts.Random

@@ -1,6 +1,7 @@
 //! The tests of a run file, key by key.
 
-ghost use Rattle.std.specs.Prelude.{◌≡◌, option_copied, option_map};
+ghost use Rattle.std.specs.Prelude.{◌≡◌, if◌then◌else◌, option_copied, option_map, take, drop, codes, Some, None};
+ghost use Rattle.std.specs.Str.{bytes_eq};
 ghost use Rattle.toml.specs.View.{view, table_view};
 ghost use Rattle.glass_edges.specs.Refusals.{first_found};
 ghost use Rattle.run_plan.specs.RunFile as model;
@@ -45,6 +46,43 @@ fn word(key: Key, value: &Value, first: &str, second: &str) -> Option<PlanRefuse
     }
 }
 
+// Why a text that doesn't say where couplings come from, or no text, is refused.
+#[tactic(auto, unfolding(crate::specs::RunFile::value_refusal))]
+fn source(key: Key, value: &Value) -> Option<PlanRefused>
+    ensures { result ≡ model.value_refusal key model.source (view value.now) }
+{
+    match value.as_str() {
+        None => Some(PlanRefused::Kind { key }),
+        Some(text) if text == "plus" || text == "random" || names_file(text) => None,
+        Some(_) => Some(PlanRefused::Word { key }),
+    }
+}
+
+/// What stands after `file:`, where a text begins so.
+pub(crate) fn after_file(text: &str) -> Option<&str>
+    ensures { option_map (λ name. name.now) result
+        ≡ (if bytes_eq (take 5 text.now) (codes "file:") then Some (drop 5 text.now) else None) }
+{
+    text.strip_prefix("file:")
+}
+
+// Whether a text names a couplings file.
+fn names_file(text: &str) -> bool
+    ensures { result ≡ model.names_file text.now }
+{
+    match after_file(text) {
+        Some(name) => is_name(name),
+        None => false,
+    }
+}
+
+// Whether a text can name a file.
+fn is_name(text: &str) -> bool
+    ensures { result ≡ model.is_name text.now }
+{
+    1 <= text.len() && text.len() <= 255
+}
+
 // Why a text that names no file, or no text, is refused.
 #[tactic(auto, unfolding(crate::specs::RunFile::value_refusal))]
 fn name(key: Key, value: &Value) -> Option<PlanRefused>
@@ -52,7 +90,7 @@ fn name(key: Key, value: &Value) -> Option<PlanRefused>
 {
     match value.as_str() {
         None => Some(PlanRefused::Kind { key }),
-        Some(text) if 1 <= text.len() && text.len() <= 255 => None,
+        Some(text) if is_name(text) => None,
         Some(_) => Some(PlanRefused::Word { key }),
     }
 }
@@ -77,7 +115,7 @@ fn refuse_value(key: Key, value: &Value) -> Option<PlanRefused>
         Key::Rule => word(key, value, "heat", "metropolis"),
         Key::Rules => name(key, value),
         Key::Swaps => name(key, value),
-        Key::Couplings => word(key, value, "plus", "random"),
+        Key::Couplings => source(key, value),
         Key::Sweeps => integer(key, value, 1, 1_000_000),
         Key::Seed => integer(key, value, 0, i64::MAX),
         Key::Samples => integer(key, value, 1, 64),

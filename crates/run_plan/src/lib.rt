@@ -4,7 +4,6 @@
 mod amounts;
 mod key;
 mod lawful;
-mod made;
 mod plan_digest;
 mod reading;
 mod refused;
@@ -14,7 +13,6 @@ mod values;
 
 pub use amounts::{check_amount, row_count};
 pub use key::Key;
-pub use made::couplings_are_their_bonds;
 pub use plan_digest::{canonical_length, digest};
 pub use reading::read_plan;
 pub use refused::PlanRefused;

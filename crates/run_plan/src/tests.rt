@@ -66,11 +66,13 @@ fn run_file_refusals_by_key(rt: HostRuntime) -> Result<(), Fail> {
         ("every = 1", "every = 0", "key every is out of range: 0"),
         ("\"heat\"", "\"hot\"", "key rule has an unknown word"),
         ("\"rules.csv\"", "\"\"", "key rules has an unknown word"),
+        ("\"plus\"", "\"file:\"", "key couplings has an unknown word"),
         (
             "\"plus\"",
-            "\"file:c\"",
+            "\"files:c\"",
             "key couplings has an unknown word",
         ),
+        ("\"plus\"", "4", "key couplings has the wrong kind"),
         ("\"up\"", "\"down\"", "key start has an unknown word"),
         ("size = 4", "beta = 1\nsize = 4", "unknown key beta"),
         (
@@ -138,6 +140,48 @@ fn a_run_file_is_read(rt: HostRuntime) -> Result<(), Fail> {
         spins: true,
     };
     assert_eq!(rt; file.orders, orders);
+    Ok(())
+}
+
+// The name of a couplings file.
+fn name_of(source: &CouplingSource) -> &str {
+    match source {
+        CouplingSource::File(name) => name.as_str(),
+        _ => "",
+    }
+}
+
+#[test]
+fn couplings_come_from_two_words_or_a_file(rt: HostRuntime) -> Result<(), Fail> {
+    let alloc = rt.alloc();
+    let text = changed(alloc, "\"plus\"", "\"random\"")?;
+    let file = read_plan(alloc, text.as_bytes()).expect(&rt, "a lawful run file");
+    assert!(rt; matches!(file.couplings, CouplingSource::Random));
+    for (length, fits) in [(1, true), (255, true), (256, false)] {
+        let mut source = String::new(alloc);
+        source.push_str("\"file:")?;
+        for _ in 0..length {
+            source.push_str("c")?;
+        }
+        source.push_str("\"")?;
+        let text = changed(alloc, "\"plus\"", source.as_str())?;
+        match read_plan(alloc, text.as_bytes()) {
+            Ok(file) => {
+                let name = name_of(&file.couplings);
+                assert!(rt; fits && name.len() == length, "{length}");
+                assert!(rt; name.starts_with("c"), "{length}");
+            }
+            Err(e) => {
+                let word = matches!(
+                    e,
+                    PlanRefused::Word {
+                        key: Key::Couplings
+                    }
+                );
+                assert!(rt; !fits && word, "{length}");
+            }
+        }
+    }
     Ok(())
 }
 

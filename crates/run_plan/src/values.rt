@@ -1,11 +1,11 @@
 //! What a document says at keys that were tested.
 
-ghost use Rattle.std.specs.Prelude.{◌≡◌, ◌≤◌, None, IfOk, length};
+ghost use Rattle.std.specs.Prelude.{◌≡◌, ◌≤◌, true, None, IfOk, drop, length};
 ghost use Rattle.toml.specs.View.{table_view};
 ghost use Rattle.run_plan.specs.RunFile as model;
 
 use crate::key::Key;
-use crate::lawful::value_at;
+use crate::lawful::{after_file, value_at};
 use crate::run_file::{CouplingSource, Orders, RunFile};
 use crate::texts::NameText;
 use glass_edges::NoMemory;
@@ -26,7 +26,7 @@ pub(crate) fn values_of(alloc: Global, table: &Table) -> Result<RunFile, NoMemor
         kind: kind_in(table),
         rules: name(alloc, table, Key::Rules)?,
         swaps: name(alloc, table, Key::Swaps)?,
-        couplings: source_in(table),
+        couplings: source_in(alloc, table)?,
         sweeps: sweeps_in(table),
         seed: number(table, Key::Seed),
         orders: orders_in(table),
@@ -118,14 +118,25 @@ fn kind_in(table: &Table) -> RuleKind
 }
 
 // Where the couplings come from.
-fn source_in(table: &Table) -> CouplingSource
-    ensures { result ≡ model.source_of (model.text_at Key.Couplings (table_view table.now)) }
+fn source_in(alloc: Global, table: &Table) -> Result<CouplingSource, NoMemory>
+    requires { model.key_refusal (table_view table.now) Key.Couplings ≡ None }
+    ensures { IfOk result (λ source. source ≡ model.source_of (model.text_at Key.Couplings (table_view table.now))) }
 {
-    if text(table, Key::Couplings) == "plus" {
-        CouplingSource::Plus
-    } else {
-        CouplingSource::Random
+    match text(table, Key::Couplings) {
+        "plus" => Ok(CouplingSource::Plus),
+        "random" => Ok(CouplingSource::Random),
+        text => Ok(CouplingSource::File(NameText::of(alloc, file_name(text))?)),
     }
+}
+
+// The name of a couplings file.
+fn file_name(text: &str) -> &str
+    requires { model.names_file text.now ≡ true }
+    ensures value { result.now ≡ drop 5 text.now }
+    ensures some { 1 ≤ length result.now }
+    ensures short { length result.now ≤ 255 }
+{
+    after_file(text).unwrap_or("")
 }
 
 // How the spins begin.

@@ -1,5 +1,5 @@
 -- Couplings are the words that their bonds make.
-use Rattle.std.proofs.Common.{inl, inr, ◌≡◌, ℕ, zero, suc, ◌+◌, ◌-◌, ◌*◌, ◌/◌, ◌%◌, ◌^◌, ◌<◌, Bool, true, false, slice_index, get_or, ap, refl, sym, ◌∙◌, arith}
+use Rattle.std.proofs.Common.{inl, inr, ◌≡◌, ℕ, zero, suc, ◌+◌, ◌-◌, ◌*◌, ◌/◌, ◌%◌, ◌^◌, ◌<◌, Bool, true, false, ◌==◌, slice_index, get_or, ap, refl, sym, ◌∙◌, arith}
 use Rattle.std.proofs.Math.Nat.{pow-suc}
 use Rattle.std.proofs.lemmas.Bool.{cases_lt}
 use Rattle.std.proofs.lemmas.List.Elements.{All-get_or}
@@ -10,10 +10,10 @@ use Rattle.spin_model.specs.Words.{is_set, one_if}
 use Rattle.spin_model.specs.Couplings.{Bonds}
 use Rattle.spin_model.specs.Lattice.{IsLawfulSize, volume, bond_count, from_compact}
 use Rattle.spin_model.proofs.CompactOrder.{compact-from_compact, from_compact-below}
-use Rattle.spin_model.proofs.Tables.{table-of_items}
+use Rattle.spin_model.proofs.Tables.{table-same, table-of_items}
 use Rattle.multispin_word.proofs.Bits.{one_if-is_set}
 use Rattle.coupling_set.specs.CouplingWords.{CouplingsView, AreCouplings, HasBonds, place_of, words_on}
-use Rattle.run_plan.specs.PlanOf.{word_of, bond_at, couplings_with}
+use Rattle.coupling_set.specs.BondsAsWords.{word_of, bond_at, couplings_with}
 
 -- ---- one word
 
@@ -44,11 +44,28 @@ word_of-bit test (suc n) b below =
           ∙ ap (bit_at (one_if (test n))) low ∙ one_if-bit (test n) ∙ ap (λ k. one_if (test k)) last
     ]
 
--- a word of 64 bits is the word of what its bits are
-word-of_bits : (test : ℕ → Bool) (word : ℕ) → word < 2 ^ 64 → ((b : ℕ) → b < 64 → is_set word b ≡ test b) → word ≡ word_of test 64
-word-of_bits test word small same =
-    same_from_bits_below 64 word (word_of test 64) small (word_of-below test 64)
-    (λ b below. sym (one_if-is_set word b) ∙ ap one_if (same b below) ∙ sym (word_of-bit test 64 b below))
+-- a word of n bits is the word of what its bits are
+pub word-of_bits : (test : ℕ → Bool) (n word : ℕ) → word < 2 ^ n → ((b : ℕ) → b < n → is_set word b ≡ test b) → word ≡ word_of test n
+word-of_bits test n word small same =
+    same_from_bits_below n word (word_of test n) small (word_of-below test n)
+    (λ b below. sym (one_if-is_set word b) ∙ ap one_if (same b below) ∙ sym (word_of-bit test n b below))
+
+set-one_if : (t : Bool) → (one_if t == 1) ≡ t
+set-one_if true = refl
+set-one_if false = refl
+
+-- and its bits are those of the test
+pub is_set-word_of : (test : ℕ → Bool) (n b : ℕ) → b < n → is_set (word_of test n) b ≡ test b
+is_set-word_of test n b below = ap (λ bit. bit == 1) (word_of-bit test n b below) ∙ set-one_if (test b)
+
+-- tests that agree make one word
+pub word_of-same : (f g : ℕ → Bool) (n : ℕ) → ((b : ℕ) → b < n → f b ≡ g b) → word_of f n ≡ word_of g n
+unfolding word_of
+word_of-same f g zero same = refl
+word_of-same f g (suc n) same =
+    let last = same n (omega arith) in
+    let before = word_of-same f g n (λ b below. same b (omega arith)) in
+    rw (last, before) refl
 
 -- ---- all words
 
@@ -81,5 +98,14 @@ couplings-with_bonds couplings bonds are has =
     let bit = λ (b : ℕ) (h : b < 64).
     ap (λ k. is_set (slice_index couplings.words k) b) (sym (place_of-bond_at l place are.lawful below))
     ∙ has b (bond_at l place) h (bond_at-below l place are.lawful below) in
-    word-of_bits (λ b. bonds b (bond_at l place)) (get_or couplings.words place 0)
+    word-of_bits (λ b. bonds b (bond_at l place)) 64 (get_or couplings.words place 0)
     (All-get_or (λ w. w < 2 ^ 64) couplings.words place 0 (omega (arith, are.sized, below)) are.in_range) bit))
+
+-- bonds that agree on the lattice are the same couplings
+pub couplings_with-same : (l : ℕ) (f g : ℕ → Bonds) → IsLawfulSize l → ((b n : ℕ) → b < 64 → n < bond_count l → f b n ≡ g b n)
+    → couplings_with l f ≡ couplings_with l g
+unfolding couplings_with
+couplings_with-same l f g lawful same =
+    ap (words_on l) (table-same (λ place. word_of (λ b. f b (bond_at l place)) 64) (λ place. word_of (λ b. g b (bond_at l place)) 64) (bond_count l)
+    (λ place within. word_of-same (λ b. f b (bond_at l place)) (λ b. g b (bond_at l place)) 64
+    (λ b small. same b (bond_at l place) small (bond_at-below l place lawful within))))
