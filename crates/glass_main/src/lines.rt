@@ -45,7 +45,13 @@ fn say_refusal<E: Sink>(err: &mut E, refusal: &Refusal)
     match refusal {
         Refusal::Words => say(err, b"glass: the command line is not understood\n"),
         Refusal::Absent(role) => say_end(err, *role, b" is not held\n"),
-        Refusal::TooLong(role, n) => say_file_number(err, *role, b" is too long: ", *n, b" bytes\n"),
+        Refusal::TooLong(role, n) => say_file_number(
+            err,
+            *role,
+            b" is too long: ",
+            *n,
+            b" bytes\n",
+        ),
         Refusal::Plan(refused) => say_plan(err, refused),
         Refusal::Rules(refused) => say_table(err, Role::RuleTable, refused),
         Refusal::Swaps(refused) => say_table(err, Role::SwapTable, refused),

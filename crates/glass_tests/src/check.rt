@@ -53,11 +53,7 @@ fn run_file_refusals_by_key(rt: HostRuntime) -> Result<(), Fail> {
         ),
         ("size = 4", "size = -4", "key size is out of range: -4"),
         ("\"heat\"", "\"hot\"", "key rule has an unknown word"),
-        (
-            "\"plus\"",
-            "\"file:c\"",
-            "key couplings has an unknown word",
-        ),
+        ("\"plus\"", "\"file:\"", "key couplings has an unknown word"),
         ("spins = true", "spins = true\nbeta = 1", "unknown key beta"),
         (
             "size = 4",

@@ -6,6 +6,8 @@ mod called;
 #[cfg(test)]
 mod check;
 #[cfg(test)]
+mod couplings;
+#[cfg(test)]
 mod files;
 #[cfg(test)]
 mod plain;
