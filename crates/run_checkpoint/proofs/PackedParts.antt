@@ -1,0 +1,192 @@
+-- The bytes of the parts of 64 samples are those of the packed parts.
+use Rattle.std.proofs.Common.{inl, inr, ◌≡◌, ℕ, zero, suc, ◌+◌, ◌-◌, ◌*◌, ◌/◌, ◌%◌, ◌^◌, ◌<◌, Bool, true, false, List, [], ◌∷◌, ◌++◌, All, map, length, get_or, refl, sym, ap, ◌∙◌, arith}
+use Rattle.std.proofs.Math.Nat.{pow-suc, mul_comm}
+use Rattle.std.specs.Prelude.{slice_index}
+use Rattle.std.specs.Int.{bit_at}
+use Rattle.std.specs.List.{flat_map}
+use Rattle.std.proofs.lemmas.Bool.{cases_lt}
+use Rattle.std.proofs.lemmas.Grind.{flat_map-append}
+use Rattle.std.proofs.lemmas.List.{append-nil, get_or-map, length-map}
+use Rattle.std.proofs.lemmas.List.Concat.{flat_map-cons}
+use Rattle.std.proofs.lemmas.List.Elements.{All-get_or}
+use Rattle.std.proofs.lemmas.Nat.{div_below, mod_below, div-add-mod'}
+use Rattle.std.proofs.lemmas.Nat.Bits.{bit_at_cat_low, bit_at_cat_high, same_from_bits_below}
+use Rattle.multispin_word.proofs.Bits.{one_if-is_set}
+use Rattle.spin_model.specs.Words.{is_set, one_if}
+use Rattle.spin_model.specs.Lattice.{IsLawfulSize, volume, half_plane, colour, z_of, place_in_plane}
+use Rattle.spin_model.specs.Steps.{table}
+use Rattle.spin_model.proofs.Tables.{length-table, get_or-table, table-of_items, table-same}
+use Rattle.scalar_rule.specs.Epoch.{slot_at, pair_at}
+use Rattle.scalar_rule.specs.Neighbours.{spin}
+use Rattle.scalar_rule.specs.declared.plain_copy.PlainCopy.{PlainCopy}
+use Rattle.scalar_rule.specs.declared.sample.PlainPair.{PlainPair}
+use Rattle.scalar_rule.specs.declared.sample.PlainSlot.{PlainSlot}
+use Rattle.coupling_set.specs.BondsAsWords.{word_of}
+use Rattle.plane_sweep.specs.Beginnings.{site_of}
+use Rattle.plane_sweep.specs.Packed.{plane_at, word_at, spins_of, generators_of, part_copy, part_slot, part_pair, FitsPlane, FitsReplica, FitsDuo}
+use Rattle.plane_sweep.specs.declared.replica.Plane.{Plane}
+use Rattle.plane_sweep.specs.declared.replica.Replica.{Replica}
+use Rattle.plane_sweep.specs.declared.replica.Duo.{Duo}
+use Rattle.plane_sweep.specs.declared.stand.PairWheels.{PairWheels}
+use Rattle.plane_sweep.proofs.Empties.{no_plane, no_duo, no_wheels}
+use Rattle.plane_sweep.proofs.PlaneNeighbours.{site_of-at}
+use Rattle.plane_sweep.proofs.PlaneSites.{site_of-below}
+use Rattle.run_checkpoint.specs.Encoding.{words_32, words_64, spin_word, plane_bytes, replica_bytes, slot_bytes, pair_bytes, contents}
+use Rattle.run_checkpoint.specs.PackedBytes.{packed_plane, packed_replica, packed_slot, packed_pair, packed_contents}
+
+-- ---- one word
+
+one_if-bit : (t : Bool) → bit_at (one_if t) 0 ≡ one_if t
+one_if-bit true = refl
+one_if-bit false = refl
+
+one_if-add : (t : Bool) (power rest : ℕ) → rest < power → one_if t * power + rest < power * 2
+one_if-add true power rest below = omega arith
+one_if-add false power rest below = omega arith
+
+word_of-below : (test : ℕ → Bool) (n : ℕ) → word_of test n < 2 ^ n
+unfolding word_of
+word_of-below test zero = search arith
+word_of-below test (suc n) =
+    rw (pow-suc 2 n) (one_if-add (test n) (2 ^ n) (word_of test n) (word_of-below test n))
+
+word_of-bit : (test : ℕ → Bool) (n b : ℕ) → b < n → bit_at (word_of test n) b ≡ one_if (test b)
+unfolding word_of
+word_of-bit test zero b below = absurd (omega arith)
+word_of-bit test (suc n) b below =
+    elim (cases_lt b n) [
+      | inl less ↦ bit_at_cat_low (one_if (test n)) n (word_of test n) b less ∙ word_of-bit test n b less
+      | inr not ↦
+          let last : n ≡ b = omega arith in
+          let low : b - n ≡ 0 = omega arith in
+          bit_at_cat_high (one_if (test n)) n (word_of test n) b (word_of-below test n) (omega arith)
+          ∙ ap (bit_at (one_if (test n))) low ∙ one_if-bit (test n) ∙ ap (λ k. one_if (test k)) last
+    ]
+
+-- a word of 64 bits is the word of what its bits are
+word-of_bits : (test : ℕ → Bool) (word : ℕ) → word < 2 ^ 64 → ((b : ℕ) → b < 64 → is_set word b ≡ test b) → word ≡ word_of test 64
+word-of_bits test word small same =
+    same_from_bits_below 64 word (word_of test 64) small (word_of-below test 64)
+    (λ b below. sym (one_if-is_set word b) ∙ ap one_if (same b below) ∙ sym (word_of-bit test 64 b below))
+
+-- and a word of the same bits is the same
+pub word_of-same : (f g : ℕ → Bool) (n : ℕ) → ((b : ℕ) → b < n → f b ≡ g b) → word_of f n ≡ word_of g n
+unfolding word_of
+word_of-same f g zero same = refl
+word_of-same f g (suc n) same = rw (word_of-same f g n (λ b below. same b (omega arith)), same n (omega arith)) refl
+
+-- ---- a plane
+
+spin-at : (l b c z j : ℕ) (planes : List Plane) → IsLawfulSize l → c < 2 → z < l → j < half_plane l
+    → spin (spins_of l b planes) (site_of l c z j) ≡ is_set (slice_index (plane_at planes (c * l + z)).words j) b
+unfolding spins_of
+spin-at l b c z j planes lawful chosen plane within =
+    let i = site_of l c z j in
+    let at = site_of-at l c z j lawful chosen plane within in
+    get_or-table (λ site. is_set (word_at l planes site) b) (volume l) i false (site_of-below l c z j lawful)
+    ∙ ap (λ k. is_set (slice_index (plane_at planes (k * l + z_of l i)).words (place_in_plane l i)) b) at.of_colour
+    ∙ ap (λ k. is_set (slice_index (plane_at planes (c * l + k)).words (place_in_plane l i)) b) at.plane
+    ∙ ap (λ k. is_set (slice_index (plane_at planes (c * l + z)).words k) b) at.place
+
+site-word : (l k j : ℕ) (planes : List Plane) → IsLawfulSize l → k < 2 * l → j < half_plane l → slice_index (plane_at planes k).words j < 2 ^ 64
+    → slice_index (plane_at planes k).words j ≡ spin_word (λ b. spins_of l b planes) (site_of l (k / l) (k % l) j)
+site-word l k j planes lawful below within small =
+    let turned = mul_comm l 2 in
+    let some : 0 < l = omega arith in
+    let chosen : k / l < 2 = div_below k l 2 some (omega arith) in
+    let plane : k % l < l = mod_below k l some in
+    let parts : k / l * l + k % l ≡ k = div-add-mod' k l in
+    word-of_bits (λ b. spin (spins_of l b planes) (site_of l (k / l) (k % l) j)) (slice_index (plane_at planes k).words j) small
+    (λ b under. sym (spin-at l b (k / l) (k % l) j planes lawful chosen plane within ∙ ap (λ p. is_set (slice_index (plane_at planes p).words j) b) parts))
+
+plane-packed : (l k : ℕ) (replica : Replica) → IsLawfulSize l → FitsReplica l replica → k < 2 * l → plane_bytes l (λ b. part_copy l b replica) k ≡ packed_plane (plane_at replica.planes k)
+unfolding plane_bytes packed_plane
+plane-packed l k replica lawful fits below =
+    let planes = replica.planes in
+    let plane = plane_at planes k in
+    let fit : FitsPlane l plane = fits.planes k no_plane (omega (arith, fits.count)) in
+    let wheel : get_or (generators_of planes) k [] ≡ plane.wheel = get_or-map (λ (p : Plane). p.wheel) planes k no_plane [] (omega (arith, fits.count)) in
+    let words : plane.words ≡ table (λ j. spin_word (λ b. spins_of l b planes) (site_of l (k / l) (k % l) j)) (half_plane l) =
+    table-of_items _ (half_plane l) 0 plane.words fit.sized (λ j within.
+    site-word l k j planes lawful below within (All-get_or (λ w. w < 2 ^ 64) plane.words j 0 (omega (arith, fit.sized)) fit.in_range)) in
+    ap (λ ws. words_32 ws ++ words_64 (table (λ j. spin_word (λ b. spins_of l b planes) (site_of l (k / l) (k % l) j)) (half_plane l))) wheel
+    ∙ ap (λ ws. words_32 plane.wheel ++ words_64 ws) (sym words)
+
+-- ---- lists of parts
+
+flat-single : {X : Type 0} (f : X → List ℕ) (x : X) → flat_map f (x ∷ []) ≡ f x
+flat-single f x = flat_map-cons f x [] ∙ append-nil (f x)
+
+join : (a b c d : List ℕ) → a ≡ c → b ≡ d → a ++ b ≡ c ++ d
+join a b c d p q = cc
+
+flat-tables : {X : Type 0} (f : ℕ → List ℕ) (g : X → List ℕ) (item : ℕ → X) (n : ℕ) → ((k : ℕ) → k < n → f k ≡ g (item k)) → flat_map f (table (λ k. k) n) ≡ flat_map g (table item n)
+unfolding table
+flat-tables f g item zero same = refl
+flat-tables f g item (suc n) same =
+    let before = flat-tables f g item n (λ k below. same k (omega arith)) in
+    let last : f n ≡ g (item n) = same n (omega arith) in
+    flat_map-append f (table (λ k. k) n) (n ∷ [])
+    ∙ join _ _ _ _ before (flat-single f n ∙ last ∙ sym (flat-single g (item n)))
+    ∙ sym (flat_map-append g (table item n) (item n ∷ []))
+
+-- the bytes of numbered parts are those of the items that they are
+pub flat-items : {X : Type 0} (f : ℕ → List ℕ) (g : X → List ℕ) (xs : List X) (n : ℕ) (d : X) → length xs ≡ n → ((k : ℕ) → k < n → f k ≡ g (get_or xs k d)) → flat_map f (table (λ k. k) n) ≡ flat_map g xs
+flat-items f g xs n d sized same =
+    flat-tables f g (λ k. get_or xs k d) n same
+    ∙ ap (flat_map g) (sym (table-of_items (λ k. get_or xs k d) n d xs sized (λ k below. refl)))
+
+replica-packed : (l : ℕ) (replica : Replica) → IsLawfulSize l → FitsReplica l replica → replica_bytes l (λ b. part_copy l b replica) ≡ packed_replica replica
+unfolding replica_bytes packed_replica
+replica-packed l replica lawful fits =
+    join _ _ _ _
+    (sym (table-of_items (λ b. slice_index replica.labels b) 64 0 replica.labels fits.labels (λ b below. refl)))
+    (flat-items _ packed_plane replica.planes (2 * l) no_plane fits.count (λ k below. plane-packed l k replica lawful fits below))
+
+slot-packed : (l : ℕ) (slot : Duo) → IsLawfulSize l → FitsDuo l slot → slot_bytes l (λ b. part_slot l b slot) ≡ packed_slot slot
+unfolding slot_bytes packed_slot
+slot-packed l slot lawful fits = join _ _ _ _ (replica-packed l slot.first lawful fits.first) (replica-packed l slot.second lawful fits.second)
+
+pair-packed : (pair : PairWheels) → pair_bytes (part_pair pair) ≡ packed_pair pair
+unfolding pair_bytes packed_pair
+pair-packed pair = refl
+
+part-read : (l b t : ℕ) (slots : List Duo) → t < length slots → slot_at (map (part_slot l b) slots) t ≡ part_slot l b (get_or slots t no_duo)
+part-read l b t slots within = get_or-map (part_slot l b) slots t no_duo _ within
+
+-- slots that have the same parts in the 64 samples have the same bytes
+copy-same : (l : ℕ) (f g : ℕ → PlainCopy) → ((b : ℕ) → b < 64 → f b ≡ g b) → replica_bytes l f ≡ replica_bytes l g
+unfolding replica_bytes plane_bytes
+copy-same l f g same =
+    let words : (i : ℕ) → spin_word (λ b. (f b).spins) i ≡ spin_word (λ b. (g b).spins) i = λ i. word_of-same _ _ 64 (λ b below. ap (λ (c : PlainCopy). spin c.spins i) (same b below)) in
+    let zero_same : f 0 ≡ g 0 = same 0 (omega arith) in
+    join _ _ _ _
+    (table-same _ _ 64 (λ b below. ap (λ (c : PlainCopy). c.replica) (same b below)))
+    (flat-tables _ _ (λ k. k) (2 * l) (λ k below. join _ _ _ _
+    (ap (λ (c : PlainCopy). words_32 (get_or c.wheels k [])) zero_same)
+    (ap words_64 (table-same _ _ (half_plane l) (λ j within. words (site_of l (k / l) (k % l) j))))))
+
+pub slot-same : (l : ℕ) (f g : ℕ → PlainSlot) → ((b : ℕ) → b < 64 → f b ≡ g b) → slot_bytes l f ≡ slot_bytes l g
+unfolding slot_bytes
+slot-same l f g same =
+    join _ _ _ _
+    (copy-same l _ _ (λ b below. ap (λ (s : PlainSlot). s.first) (same b below)))
+    (copy-same l _ _ (λ b below. ap (λ (s : PlainSlot). s.second) (same b below)))
+
+pub contents-same : (l n : ℕ) (f g : ℕ → List PlainSlot) (p q : List PlainPair) → ((b : ℕ) → b < 64 → f b ≡ g b) → p ≡ q → contents l n f p ≡ contents l n g q
+unfolding contents
+contents-same l n f g p q same pairs =
+    join _ _ _ _
+    (flat-tables _ _ (λ t. t) n (λ t below. slot-same l _ _ (λ b small. ap (λ (ss : List PlainSlot). slot_at ss t) (same b small))))
+    (flat-tables _ _ (λ k. k) (n - 1) (λ k below. ap (λ (ps : List PlainPair). pair_bytes (pair_at ps k)) pairs))
+
+pub contents-packed : (l n : ℕ) (slots : List Duo) (pairs : List PairWheels) → IsLawfulSize l → length slots ≡ n → length pairs ≡ n - 1 → All (FitsDuo l) slots
+    → contents l n (λ b. map (part_slot l b) slots) (map part_pair pairs) ≡ packed_contents slots pairs
+unfolding contents packed_contents
+contents-packed l n slots pairs lawful sized paired fit =
+    join _ _ _ _
+    (flat-items _ packed_slot slots n no_duo sized (λ t below.
+    slot-same l _ _ (λ b small. part-read l b t slots (omega (arith, sized)))
+    ∙ slot-packed l (get_or slots t no_duo) lawful (fit t no_duo (omega (arith, sized)))))
+    (flat-items _ packed_pair pairs (n - 1) no_wheels paired (λ k below.
+    ap pair_bytes (get_or-map part_pair pairs k no_wheels _ (omega (arith, paired))) ∙ pair-packed (get_or pairs k no_wheels)))

@@ -1,0 +1,12 @@
+pub mod Encoding
+pub mod Lengths
+pub mod PackedBytes
+pub mod Rooms
+pub mod Reading
+pub mod Tests
+pub mod Decoding
+pub mod UnevenEncoding
+pub mod UnevenDecoding
+pub mod BankEncoding
+pub mod BankDecoding
+pub mod Laws

@@ -1,0 +1,115 @@
+//! Reading of a checkpoint whose slots are all at one epoch.
+
+ghost use Rattle.std.specs.Prelude.{◌≡◌, ◌≤◌, ℕ, length, IfOk, IfErr, IfNone, map};
+ghost use Rattle.glass_edges.specs.Refusals.{GivesAfterTests};
+ghost use Rattle.plane_sweep.specs.Packed.{StandsFor};
+ghost use Rattle.scalar_rule.specs.Plan.{slots_of};
+ghost use Rattle.scalar_rule.specs.declared.sample.Sample.{Sample};
+ghost use Rattle.run_checkpoint.specs.Decoding as model;
+ghost use Rattle.run_checkpoint.specs.Encoding.{encoding, AreBankStates};
+ghost use Rattle.run_checkpoint.specs.Lengths.{encoding_len};
+ghost use Rattle.run_checkpoint.specs.Reading.{stand_in};
+ghost use Rattle.run_checkpoint.specs.declared.refused.CheckpointRefused.TheVariants as refused;
+
+use crate::checks::{damaged, late, other_kind, other_length, other_plan, other_shape, short};
+use crate::labels::wrong_label;
+use crate::lengths::length;
+use crate::places::{behind, u64_at};
+use crate::reading::{read_pairs, read_slots};
+use crate::refused::CheckpointRefused;
+use glass_edges::NoMemory;
+use plane_sweep::Stand;
+use scalar_rule::Plan;
+use std::alloc::Global;
+
+/// The packed state that a checkpoint of this plan is, at an epoch at most `until`. All tests are made
+/// before any memory is taken.
+///
+/// # Errors
+///
+/// The first of the refusals 1 to 8 that is due, in the order of their numbers; else only for want of
+/// memory.
+pub fn decode(
+    alloc: Global,
+    plan: &Plan,
+    until: u64,
+    bytes: &[u8],
+) -> Result<Stand, CheckpointRefused>
+    // What is read is the checkpoint of the states that the answer stands for.
+    ensures found { IfOk result (model.IsEncoded plan.now until bytes.now) }
+    // The checkpoint of such states is read, unless memory runs out.
+    ensures only { (states : ℕ → Sample) → AreBankStates plan.now states → (states 0).epoch ≤ until
+        → bytes.now ≡ encoding plan.now states
+        → IfOk result (StandsFor plan.now states) × IfErr result (λ e. e ≡ refused.NoMemory) }
+    // Which refusal it is.
+    ensures exact { GivesAfterTests refused.NoMemory (λ stand. stand) result (model.decoded plan.now until bytes.now) }
+{
+    // A plan is lawful.
+    let _ = plan.lattice();
+    read(alloc, plan, until, bytes)
+}
+
+#[tactic(auto, unfolding(crate::specs::Decoding::decoded))]
+fn read(alloc: Global, plan: &Plan, until: u64, bytes: &[u8]) -> Result<Stand, CheckpointRefused>
+    ensures { GivesAfterTests refused.NoMemory (λ stand. stand) result (model.decoded plan.now until bytes.now) }
+{
+    if let Some(refused) = level_refusal(plan, until, bytes) {
+        return Err(refused);
+    }
+    Ok(stand_of(alloc, plan, bytes)?)
+}
+
+// The first refusal.
+#[tactic(auto, unfolding(crate::specs::Decoding::level_refusal, crate::specs::Reading::stand_in, crate::specs::Lengths::encoding_len, crate::specs::Lengths::contents_len))]
+pub(crate) fn level_refusal(plan: &Plan, until: u64, bytes: &[u8]) -> Option<CheckpointRefused>
+    ensures value { result ≡ model.level_refusal plan.now until bytes.now }
+    ensures long { IfNone result (length bytes.now ≡ encoding_len plan.now.size (slots_of plan.now)) }
+{
+    if let Some(refused) = level_form(plan, bytes) {
+        return Some(refused);
+    }
+    let contents = behind(bytes, 56);
+    if let Some(refused) = wrong_label(contents, plan.lattice().size(), plan.slots() as usize) {
+        return Some(refused);
+    }
+    late(u64_at(bytes, 40), until)
+}
+
+// The first refusal of the form.
+#[tactic(auto, unfolding(crate::specs::Decoding::level_form))]
+pub(crate) fn level_form(plan: &Plan, bytes: &[u8]) -> Option<CheckpointRefused>
+    ensures value { result ≡ model.level_form plan.now bytes.now }
+    ensures long { IfNone result (length bytes.now ≡ encoding_len plan.now.size (slots_of plan.now)) }
+{
+    if let Some(refused) = short(bytes, 88) {
+        return Some(refused);
+    }
+    if let Some(refused) = other_kind(bytes, b"GLASSCK1") {
+        return Some(refused);
+    }
+    if let Some(refused) = other_shape(bytes, plan, 48) {
+        return Some(refused);
+    }
+    if let Some(refused) = other_length(bytes, length(plan.lattice().size(), plan.slots())) {
+        return Some(refused);
+    }
+    if let Some(refused) = damaged(bytes) {
+        return Some(refused);
+    }
+    other_plan(bytes, plan)
+}
+
+// The state, of bytes that passed the tests of the form.
+#[tactic(auto, unfolding(crate::specs::Reading::stand_in, crate::specs::Lengths::encoding_len, crate::specs::Lengths::contents_len))]
+pub(crate) fn stand_of(alloc: Global, plan: &Plan, bytes: &[u8]) -> Result<Stand, NoMemory>
+    requires { length bytes.now ≡ encoding_len plan.now.size (slots_of plan.now) }
+    ensures { IfOk result (λ stand. stand ≡ stand_in plan.now bytes.now) }
+{
+    let size = plan.lattice().size();
+    let contents = behind(bytes, 56);
+    Ok(Stand {
+        epoch: u64_at(bytes, 40),
+        slots: read_slots(alloc, size, plan.slots(), contents)?,
+        pairs: read_pairs(alloc, size, plan.slots(), contents)?,
+    })
+}

@@ -1,0 +1,29 @@
+//! Checkpoints: the state of a run as bytes that end with their digest, written and read exactly.
+#![tactic(auto)]
+
+mod bank_decoding;
+mod bank_encoding;
+mod checks;
+mod decoding;
+mod encoding;
+mod labels;
+mod laws;
+mod lengths;
+mod places;
+mod reading;
+mod refused;
+mod room;
+mod uneven_checks;
+mod uneven_decoding;
+mod uneven_encoding;
+
+pub use bank_decoding::decode_banks;
+pub use bank_encoding::{begin_banks, end_banks};
+pub use decoding::decode;
+pub use encoding::{encode, encode_level};
+pub use laws::encoding_is_one;
+pub use lengths::{length, length_ragged};
+pub use refused::CheckpointRefused;
+pub use room::Room;
+pub use uneven_decoding::decode_any;
+pub use uneven_encoding::encode_ragged;

@@ -1,0 +1,223 @@
+//! Reading of a checkpoint of either kind.
+
+ghost use Rattle.std.specs.Prelude.{◌≡◌, ℕ, ◌+◌, ◌*◌, ◌<◌, ◌≤◌, [], List, true, length, IfOk, IfErr, IfNone};
+ghost use Rattle.glass_edges.specs.Refusals.{GivesAfterTests};
+ghost use Rattle.plane_sweep.specs.Uneven.{uneven_part, RaggedStandFits};
+ghost use Rattle.run_checkpoint.specs.Encoding.{encoding, AreBankStates};
+ghost use Rattle.run_checkpoint.specs.Lengths.{uneven_len};
+ghost use Rattle.run_checkpoint.specs.UnevenDecoding as model;
+ghost use Rattle.run_checkpoint.specs.UnevenEncoding.{uneven_encoding, AreUnevenStates};
+ghost use Rattle.run_checkpoint.specs.declared.refused.CheckpointRefused.TheVariants as refused;
+ghost use Rattle.scalar_rule.specs.Laws.{level_start};
+ghost use Rattle.scalar_rule.specs.Plan.{slots_of};
+ghost use Rattle.scalar_rule.specs.Positions.{deepest_of};
+ghost use Rattle.scalar_rule.specs.Ragged.{UnevenState};
+ghost use Rattle.scalar_rule.specs.declared.sample.Record.{Record};
+ghost use Rattle.scalar_rule.specs.declared.sample.Sample.{Sample};
+
+use crate::checks::{damaged, late, other_kind, other_length, other_plan, other_shape, short};
+use crate::decoding::{level_refusal, stand_of};
+use crate::labels::wrong_label;
+use crate::lengths::{contents_len, uneven_len};
+use crate::places::{behind, u32_at};
+use crate::reading::{read_pairs, read_places, read_records, read_slots};
+use crate::refused::CheckpointRefused;
+use crate::uneven_checks::{greatest_done, other_count, other_orders, wrong_place};
+use glass_edges::NoMemory;
+use plane_sweep::RaggedStand;
+use scalar_rule::Plan;
+use std::alloc::Global;
+
+/// The packed state that a checkpoint of this plan is: one at one epoch, or one whose slots may be at
+/// different epochs, of these printed samples and recorded epochs, none past `until`. All tests are
+/// made before any memory is taken.
+///
+/// # Errors
+///
+/// The first refusal that is due, in the order that docs/specification/checkpoint.md states; else only
+/// for want of memory.
+pub fn decode_any(
+    alloc: Global,
+    plan: &Plan,
+    samples: u32,
+    every: u64,
+    until: u64,
+    bytes: &[u8],
+) -> Result<RaggedStand, CheckpointRefused>
+    requires some_samples { 1 ≤ samples }
+    requires few_samples { samples ≤ 64 }
+    requires every { 1 ≤ every }
+    requires until { until ≤ 1000000000 }
+    // What is read is the checkpoint of the states that the answer stands for.
+    ensures found { IfOk result (model.IsAnyEncoded plan.now samples every until bytes.now) }
+    ensures fits { IfOk result (RaggedStandFits plan.now samples every) }
+    // The checkpoint of states at one epoch is read, unless memory runs out.
+    ensures level { (states : ℕ → Sample) → AreBankStates plan.now states → (states 0).epoch ≤ until
+        → bytes.now ≡ encoding plan.now states
+        → IfOk result (λ stand. ((b : ℕ) → b < 64 → uneven_part plan.now.size b stand ≡ level_start plan.now (states b)) × (stand.pending ≡ []))
+        × IfErr result (λ e. e ≡ refused.NoMemory) }
+    // So is that of states whose slots may be at different epochs.
+    ensures uneven { (states : ℕ → UnevenState) (pending : List Record) → AreUnevenStates plan.now samples every states pending
+        → deepest_of (states 0).positions ≤ until → bytes.now ≡ uneven_encoding plan.now samples every states pending
+        → IfOk result (λ stand. ((b : ℕ) → b < 64 → uneven_part plan.now.size b stand ≡ states b) × (stand.pending ≡ pending))
+        × IfErr result (λ e. e ≡ refused.NoMemory) }
+    // Which refusal it is.
+    ensures exact { GivesAfterTests refused.NoMemory (λ stand. stand) result (model.any_decoded plan.now samples every until bytes.now) }
+{
+    // A plan is lawful.
+    let _ = plan.lattice();
+    read_any(alloc, plan, samples, every, until, bytes)
+}
+
+#[tactic(auto, unfolding(crate::specs::UnevenDecoding::any_decoded))]
+fn read_any(
+    alloc: Global,
+    plan: &Plan,
+    samples: u32,
+    every: u64,
+    until: u64,
+    bytes: &[u8],
+) -> Result<RaggedStand, CheckpointRefused>
+    requires some_samples { 1 ≤ samples }
+    requires few_samples { samples ≤ 64 }
+    requires every { 1 ≤ every }
+    ensures { GivesAfterTests refused.NoMemory (λ stand. stand) result (model.any_decoded plan.now samples every until bytes.now) }
+{
+    if let Some(refused) = any_refusal(plan, samples, every, until, bytes) {
+        return Err(refused);
+    }
+    Ok(ragged_of(alloc, plan, bytes)?)
+}
+
+// The first refusal.
+#[tactic(auto, unfolding(crate::specs::UnevenDecoding::any_refusal))]
+fn any_refusal(
+    plan: &Plan,
+    samples: u32,
+    every: u64,
+    until: u64,
+    bytes: &[u8],
+) -> Option<CheckpointRefused>
+    requires some_samples { 1 ≤ samples }
+    requires few_samples { samples ≤ 64 }
+    requires every { 1 ≤ every }
+    ensures value { result ≡ model.any_refusal plan.now samples every until bytes.now }
+    ensures long { IfNone result (model.HasLength plan.now bytes.now) }
+    ensures header { IfNone result (88 ≤ length bytes.now) }
+{
+    if let Some(refused) = short(bytes, 88) {
+        return Some(refused);
+    }
+    if is_uneven(bytes) {
+        uneven_refusal(plan, samples, every, until, bytes)
+    } else {
+        level_refusal(plan, until, bytes)
+    }
+}
+
+// Whether the bytes are of the kind whose slots may be at different epochs.
+fn is_uneven(bytes: &[u8]) -> bool
+    requires { 8 ≤ length bytes.now }
+    ensures { result ≡ model.is_uneven bytes.now }
+{
+    &bytes[..8] == b"GLASSCK2".as_slice()
+}
+
+// The first refusal of bytes of that kind.
+#[tactic(auto, unfolding(crate::specs::UnevenDecoding::uneven_refusal, crate::specs::UnevenDecoding::uneven_in, crate::specs::Lengths::uneven_len, crate::specs::Lengths::contents_len))]
+fn uneven_refusal(
+    plan: &Plan,
+    samples: u32,
+    every: u64,
+    until: u64,
+    bytes: &[u8],
+) -> Option<CheckpointRefused>
+    requires some_samples { 1 ≤ samples }
+    requires few_samples { samples ≤ 64 }
+    requires every { 1 ≤ every }
+    ensures value { result ≡ model.uneven_refusal plan.now samples every until bytes.now }
+    ensures long { IfNone result (length bytes.now ≡ uneven_len plan.now.size (slots_of plan.now) (model.count_in bytes.now)) }
+{
+    if let Some(refused) = uneven_form(plan, bytes) {
+        return Some(refused);
+    }
+    let slots = plan.slots() as usize;
+    if let Some(refused) = wrong_label(
+        behind(bytes, 64 + 9 * slots),
+        plan.lattice().size(),
+        slots,
+    ) {
+        return Some(refused);
+    }
+    let places = behind(bytes, 64);
+    if let Some(refused) = wrong_place(places, slots) {
+        return Some(refused);
+    }
+    if let Some(refused) = other_orders(bytes, samples, every) {
+        return Some(refused);
+    }
+    if let Some(refused) = other_count(places, slots, samples, every, u32_at(bytes, 60)) {
+        return Some(refused);
+    }
+    late(greatest_done(places, slots), until)
+}
+
+// The first refusal of its form.
+#[tactic(auto, unfolding(crate::specs::UnevenDecoding::uneven_form))]
+fn uneven_form(plan: &Plan, bytes: &[u8]) -> Option<CheckpointRefused>
+    ensures value { result ≡ model.uneven_form plan.now bytes.now }
+    ensures long { IfNone result (length bytes.now ≡ uneven_len plan.now.size (slots_of plan.now) (model.count_in bytes.now)) }
+{
+    if let Some(refused) = short(bytes, 96) {
+        return Some(refused);
+    }
+    if let Some(refused) = other_kind(bytes, b"GLASSCK2") {
+        return Some(refused);
+    }
+    if let Some(refused) = other_shape(bytes, plan, 40) {
+        return Some(refused);
+    }
+    let wanted = uneven_len(
+        plan.lattice().size(),
+        plan.slots(),
+        u32_at(bytes, 60) as u64,
+    );
+    if let Some(refused) = other_length(bytes, wanted) {
+        return Some(refused);
+    }
+    if let Some(refused) = damaged(bytes) {
+        return Some(refused);
+    }
+    other_plan(bytes, plan)
+}
+
+// The state, of bytes that passed the tests.
+#[tactic(auto, unfolding(crate::specs::UnevenDecoding::any_in))]
+fn ragged_of(alloc: Global, plan: &Plan, bytes: &[u8]) -> Result<RaggedStand, NoMemory>
+    requires header { 88 ≤ length bytes.now }
+    requires long { model.HasLength plan.now bytes.now }
+    ensures { IfOk result (λ stand. stand ≡ model.any_in plan.now bytes.now) }
+{
+    if is_uneven(bytes) {
+        uneven_of(alloc, plan, bytes)
+    } else {
+        RaggedStand::level(alloc, stand_of(alloc, plan, bytes)?)
+    }
+}
+
+#[tactic(auto, unfolding(crate::specs::UnevenDecoding::uneven_in, crate::specs::Lengths::uneven_len, crate::specs::Lengths::contents_len))]
+fn uneven_of(alloc: Global, plan: &Plan, bytes: &[u8]) -> Result<RaggedStand, NoMemory>
+    requires { length bytes.now ≡ uneven_len plan.now.size (slots_of plan.now) (model.count_in bytes.now) }
+    ensures { IfOk result (λ stand. stand ≡ model.uneven_in plan.now bytes.now) }
+{
+    let size = plan.lattice().size();
+    let slots = plan.slots();
+    let contents = behind(bytes, 64 + 9 * slots as usize);
+    let records = behind(contents, contents_len(size, slots) as usize);
+    Ok(RaggedStand {
+        places: read_places(alloc, slots as usize, behind(bytes, 64))?,
+        slots: read_slots(alloc, size, slots, contents)?,
+        pairs: read_pairs(alloc, size, slots, contents)?,
+        pending: read_records(alloc, u32_at(bytes, 60) as usize, records)?,
+    })
+}
