@@ -1,5 +1,5 @@
 -- What contracts see of a board, of a slot in work, and of what a board ends with.
-use Rattle.std.specs.Prelude.{ℕ, ◌+◌, ◌*◌, List, slice_index_or}
+use Rattle.std.specs.Prelude.{ℕ, ◌+◌, ◌*◌, List, map, slice_index_or}
 use Rattle.scalar_rule.specs.declared.sample.Record.{Record}
 use Rattle.plane_sweep.specs.declared.stand.Stand.{Stand}
 use Rattle.plane_sweep.specs.declared.uneven.RaggedStand.{RaggedStand}
@@ -49,6 +49,10 @@ place_at ps t = slice_index_or ps t (ready_at 0)
 -- the progress number
 abbrev pub progress : Stage → ℕ
 progress p = 4 * p.epoch + p.phase
+
+-- the progress numbers of a board, slot by slot
+abbrev pub words_of : BoardView → List ℕ
+words_of b = map progress b.places
 
 -- the board with these places
 abbrev pub placed : BoardView → List Stage → BoardView

@@ -74,6 +74,14 @@ pub enum Next {
 impl Board {
     ghost use Rattle.exchange_board.specs.Answers.{Nexts};
 
+    /// How many slots it has, at most 32.
+    pub fn slots(&self) -> u32
+        ensures count { result ≡ length self.now.places }
+        ensures few { result ≤ 32 }
+    {
+        self.slots.len() as u32
+    }
+
     /// The progress number of a slot: four times its epoch, and its phase, 0 at rest, 1 in work and 2
     /// waiting for its partner.
     pub fn progress(&self, slot: u32) -> u64

@@ -7,6 +7,7 @@ mod board;
 mod ended;
 mod ending;
 mod job;
+mod kept;
 mod laws;
 mod opening;
 mod origin;

@@ -1,0 +1,4 @@
+pub mod Words
+pub mod Stores
+pub mod HandOuts
+pub mod HandBacks

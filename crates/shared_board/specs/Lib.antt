@@ -1,0 +1,3 @@
+pub mod Words
+pub mod Turns
+pub mod Shared

@@ -1,0 +1,48 @@
+-- The shared board, its seats, and the holder of its lock.
+use Rattle.std.specs.Prelude.{◌≡◌, ℕ, ◌%◌, ◌<◌, true, List, Some, length, slice_index, slice_set}
+use Rattle.atomic_table.specs.Seated.{TableId}
+use Rattle.exchange_board.specs.declared.origin.Origin.{Origin}
+use Rattle.exchange_board.specs.declared.board.Next.TheVariants as nexts
+use Rattle.exchange_board.specs.Views.{BoardView, place_at, progress, words_of}
+use Rattle.turn_cell.specs.AtomicSteps.{IsTaken, IsLawfulStore, after_refusal}
+use Rattle.turn_cell.specs.Seats.{cell_id}
+use Rattle.turn_cell.specs.declared.view.View.{View}
+use Rattle.shared_board.specs.declared.shared.SharedBoard.{SharedBoard}
+use Rattle.shared_board.specs.declared.taking.TryNext.{TryNext}
+use Rattle.shared_board.specs.declared.taking.TryNext.TheVariants as tries
+use Rattle.shared_board.specs.Turns.{TakesSlot}
+
+-- which lock it is
+abbrev pub lock_id : SharedBoard → TableId
+lock_id b = cell_id b.cell
+
+-- the seat v took the lock, is then h, and found this board
+abbrev pub HasFound : View Origin → View Origin → BoardView → Type 0
+HasFound v h b = IsTaken (λ (c : BoardView). c.origin) words_of v h b
+
+-- the seat holds the lock, and knows the words and the provenance of this board
+pub record IsHolderOf (h : View Origin) (b : BoardView) : Type 0 where
+  pub held : h.holding ≡ true
+  pub words : h.known ≡ words_of b
+  pub base : h.base ≡ Some b.origin
+
+-- the holder, whose words are those of this board but for slot t, which came back
+pub record CanEnd (h : View Origin) (b : BoardView) (t : ℕ) : Type 0 where
+  pub held : h.holding ≡ true
+  pub base : h.base ≡ Some b.origin
+  pub known : t < length b.places
+  pub own : slice_index h.known t % 4 ≡ 1
+  pub lawful : IsLawfulStore h t (progress (place_at b.places t))
+  pub words : words_of b ≡ slice_set h.known t (progress (place_at b.places t))
+
+-- the seat once it knows these words and has this work
+abbrev pub knows : View Origin → List ℕ → List (ℕ × ℕ) → View Origin
+knows h words out = record h { known = words; out = out }
+
+-- what one try to take a slot answers
+abbrev pub TriesSlot : View Origin → View Origin → TryNext → Type 0
+TriesSlot v w (tries.Job j) = TakesSlot v w (nexts.Job j)
+TriesSlot v w tries.Nothing = TakesSlot v w nexts.Nothing
+TriesSlot v w tries.Finished = TakesSlot v w nexts.Finished
+TriesSlot v w tries.Stopped = TakesSlot v w nexts.Stopped
+TriesSlot v w tries.Busy = w ≡ after_refusal v

@@ -1,0 +1,80 @@
+-- What one turn at the shared board finds, changes and leaves, as its seat knows it.
+use Rattle.std.specs.Prelude.{◌≡◌, ℕ, ◌+◌, ◌*◌, ◌<◌, ◌⊎◌, true, false, List, [], ◌∷◌, Some, length, slice_index, slice_set}
+use Rattle.scalar_rule.specs.Epoch.{has_partner, partner, pair_of}
+use Rattle.exchange_board.specs.declared.origin.Origin.{Origin}
+use Rattle.exchange_board.specs.declared.arrival.Arrival.{Arrival}
+use Rattle.exchange_board.specs.declared.arrival.Arrival.TheVariants as arrivals
+use Rattle.exchange_board.specs.declared.board.Next.{Next}
+use Rattle.exchange_board.specs.declared.board.Next.TheVariants as nexts
+use Rattle.exchange_board.specs.Views.{JobView}
+use Rattle.turn_cell.specs.Sums.{without, AreInWork}
+use Rattle.turn_cell.specs.Progress.{ArePhased, AtMost}
+use Rattle.turn_cell.specs.declared.view.View.{View}
+use Rattle.shared_board.specs.Words.{IsFinished, MustWait, IsStopped, HasTakesLeft}
+
+-- the item is in the list
+abbrev pub IsAmong : ℕ × ℕ → List (ℕ × ℕ) → Type 0
+IsAmong item [] = ⊥
+IsAmong item (x ∷ xs) = (item ≡ x) ⊎ IsAmong item xs
+
+-- The seat v took one turn, which found these words, and is then w, with this work in hand. What the turn left, w has seen.
+pub record IsTurn (v w : View Origin) (found : List ℕ) (out : List (ℕ × ℕ)) : Type 0 where
+  -- its turns rose by one; its number, numbers, base, total and refusals are as before
+  pub view : w ≡ record v { holding = false; known = w.seen; out = out; seen = w.seen; turns = v.turns + 1 }
+  -- no word that the turn found is below what the seat had seen, and none that it left
+  pub found_most : AtMost v.seen found
+  pub left_most : AtMost v.seen w.seen
+  -- it found each of the seat's items still in work
+  pub work : AreInWork found v.out
+  -- a word for each slot, of phase 0, 1 or 2
+  pub sized : length w.seen ≡ v.places
+  pub found_phased : ArePhased found
+  pub left_phased : ArePhased w.seen
+
+-- a slot is handed out: its word alone was changed, from 4e to 4e + 1, and the item is in the seat's hands
+pub record IsHandOut (v w : View Origin) (j : JobView) : Type 0 where
+  pub base : v.base ≡ Some j.origin
+  pub known : j.slot < v.places
+  pub below : j.epoch < j.origin.window.until
+  pub word : slice_index w.seen j.slot ≡ 4 * j.epoch + 1
+  pub turn : IsTurn v w (slice_set w.seen j.slot (4 * j.epoch)) ((j.slot, j.epoch) ∷ v.out)
+  pub left : HasTakesLeft j.origin (slice_set w.seen j.slot (4 * j.epoch))
+
+-- a turn that changed no word; of the words this holds, for the seat's origin
+pub record IsLook (v w : View Origin) (Says : Origin → List ℕ → Type 0) : Type 0 where
+  pub turn : IsTurn v w w.seen v.out
+  pub says : (o : Origin) → v.base ≡ Some o → Says o w.seen
+
+-- the seat v asked for a slot in one turn, and is then w
+abbrev pub TakesSlot : View Origin → View Origin → Next → Type 0
+TakesSlot v w (nexts.Job j) = IsHandOut v w j
+TakesSlot v w nexts.Nothing = IsLook v w MustWait
+TakesSlot v w nexts.Finished = IsLook v w IsFinished
+TakesSlot v w nexts.Stopped = IsLook v w IsStopped
+
+-- slot t came back at e and waits, since its partner has not come back: its word alone was changed
+pub record IsWaiting (v w : View Origin) (t e : ℕ) : Type 0 where
+  pub turn : IsTurn v w (slice_set w.seen t (4 * e + 1)) (without t v.out)
+  pub word : slice_index w.seen t ≡ 4 * e + 2
+  pub has : has_partner v.places t e ≡ true
+  pub behind : slice_index w.seen (partner t e) < 4 * e + 4
+
+-- it has no partner, and is at rest at the next epoch: its word alone was changed
+pub record IsAlone (v w : View Origin) (t e : ℕ) : Type 0 where
+  pub turn : IsTurn v w (slice_set w.seen t (4 * e + 1)) (without t v.out)
+  pub word : slice_index w.seen t ≡ 4 * e + 4
+  pub has : has_partner v.places t e ≡ false
+
+-- its partner waited, and both are at rest at the next epoch: their two words were changed
+pub record IsSettled (v w : View Origin) (t e pair : ℕ) : Type 0 where
+  pub turn : IsTurn v w (slice_set (slice_set w.seen (partner t e) (4 * e + 2)) t (4 * e + 1)) (without t v.out)
+  pub word : slice_index w.seen t ≡ 4 * e + 4
+  pub has : has_partner v.places t e ≡ true
+  pub other : slice_index w.seen (partner t e) ≡ 4 * e + 4
+  pub pair_is : pair ≡ pair_of t e
+
+-- the seat v handed slot t back at e in one turn, and is then w
+abbrev pub ReturnsSlot : View Origin → View Origin → ℕ → ℕ → Arrival → Type 0
+ReturnsSlot v w t e arrivals.Waiting = IsWaiting v w t e
+ReturnsSlot v w t e (arrivals.Settled pair) = IsSettled v w t e pair
+ReturnsSlot v w t e arrivals.Alone = IsAlone v w t e
