@@ -1,3 +1,4 @@
 pub mod Rows
+pub mod DemoTables
 pub mod Messages
 pub mod Lengths

@@ -2,6 +2,7 @@
 #![tactic(auto)]
 
 mod amounts;
+mod demo;
 mod key;
 mod lawful;
 mod plan_digest;
@@ -12,6 +13,7 @@ mod texts;
 mod values;
 
 pub use amounts::{check_amount, row_count};
+pub use demo::demo_plan;
 pub use key::Key;
 pub use plan_digest::{canonical_length, digest};
 pub use reading::read_plan;

@@ -305,3 +305,25 @@ fn amounts_at_their_limits(rt: HostRuntime) -> Result<(), Fail> {
     }
     Ok(())
 }
+
+// The digest was made by an independent program.
+#[test]
+fn demo_plan_thresholds(rt: HostRuntime) -> Result<(), Fail> {
+    let (plan, orders) = demo_plan(rt.alloc(), 1)?;
+    assert_eq!(rt; plan.rules().slots(), 8);
+    assert_eq!(rt;
+        plan.rules().row(0).values,
+        [858993459, 171798691, 34359738, 0, 0, 0, 0]
+    );
+    assert_eq!(rt; plan.swaps().threshold(0, 0), 3149642683);
+    assert_eq!(rt; plan.swaps().threshold(0, 1), 2309737966);
+    let known = [
+        0xef, 0xfa, 0xde, 0xb9, 0x37, 0xb3, 0xd2, 0xf8, 0x3a, 0x44, 0x62, 0xa3, 0xd5, 0x0b, 0x48,
+        0x42, 0x97, 0x77, 0x8a, 0x99, 0x36, 0xbb, 0x3e, 0x7c, 0x8a, 0xe9, 0x4e, 0xde, 0x41, 0xd8,
+        0x5c, 0x96,
+    ];
+    assert_eq!(rt; digest(&plan), known);
+    assert_eq!(rt; (orders.samples, orders.epochs, orders.every), (64, 16, 4));
+    assert!(rt; orders.start == Start::Random && !orders.spins);
+    Ok(())
+}
