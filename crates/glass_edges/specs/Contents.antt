@@ -28,6 +28,15 @@ pub record PutsFront (before now : Option (List ℕ)) (text rest : List ℕ) : T
 abbrev pub Files : Type 0
 Files = map.FinMap (slice_cmp nat_cmp) (List ℕ)
 
+-- the number of bytes of a name
+abbrev pub length_in : Files → List ℕ → Option ℕ
+length_in files name = option_map (λ bytes. length bytes) (map.get files name)
+
+-- and of files that may not be observable
+abbrev pub observed_length : Option Files → List ℕ → Option ℕ
+observed_length None name = None
+observed_length (Some files) name = length_in files name
+
 -- where the files are observable, the name has exactly these bytes
 abbrev pub HoldsFile : Option Files → List ℕ → List ℕ → Type 0
 HoldsFile None name bytes = Unit {0}

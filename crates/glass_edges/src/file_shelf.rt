@@ -1,6 +1,6 @@
 //! The adapter over the files of the system.
 
-ghost use Rattle.std.specs.Prelude.{◌≡◌, ◌+◌, ◌≤◌, ℕ, length, None, OnOk, OnErr};
+ghost use Rattle.std.specs.Prelude.{◌≡◌, ◌+◌, ◌≤◌, ℕ, length, None, Some, OnOk, OnErr};
 ghost use Rattle.glass_edges.specs.Causes.{one_more};
 
 use crate::file_bytes::{read_opened, write_created};
@@ -40,6 +40,8 @@ impl<R: Files + Drop> Shelf for FileShelf<R> {
     ghost holds = { λ _. None };
 
     ghost faults = { λ s. s };
+
+    ghost lengths = { λ _ _ limit. Some (limit + 1) };
 
     /// Reads at most `limit + 1` bytes, so a file that is too long is told as having that many.
     fn fetch(&mut self, alloc: Global, name: &str, limit: u64) -> Fetched

@@ -1,6 +1,7 @@
 //! The store of named files that never fails.
 
 ghost use Rattle.std.specs.Prelude.{◌≡◌, ◌≤◌, ◌<◌, ℕ, Ok, None, Some, length, IfSome};
+ghost use Rattle.glass_edges.specs.Contents.{observed_length};
 ghost use Rattle.glass_edges.specs.MemoryStore.{IsReading};
 
 use crate::{Fault, Fetched, MemoryShelf, Shelf};
@@ -45,6 +46,8 @@ impl Shelf for HonestShelf {
     ghost holds = { λ s. s };
 
     ghost faults = { λ _. 0 };
+
+    ghost lengths = { λ s name _. observed_length s name };
 
     fn fetch(&mut self, alloc: Global, name: &str, limit: u64) -> Fetched
         ensures exactly { IfSome self.old (λ files. IsReading files name.now limit result) }

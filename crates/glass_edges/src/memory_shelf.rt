@@ -4,6 +4,7 @@ ghost use Rattle.std.specs.Prelude.{◌≡◌, ◌≤◌, ℕ, true, List, lengt
 ghost use Rattle.std.specs.FinMap as map;
 ghost use Rattle.std.specs.Borrow.{Bor};
 ghost use Rattle.glass_edges.specs.Causes.{HasCause, Rose};
+ghost use Rattle.glass_edges.specs.Contents.{length_in};
 ghost use Rattle.glass_edges.specs.MemoryStore.{fails_now, accepts, fits, IsReading, IsFetched, after_fetch, after_fill, after_place, with_file, with_room};
 
 use crate::entries::{Entry, fill_entry, first_of};
@@ -183,6 +184,8 @@ impl Shelf for MemoryShelf {
     ghost holds = { λ s. Some s.files };
 
     ghost faults = { λ s. s.faults };
+
+    ghost lengths = { λ s name _. length_in s.files name };
 
     fn fetch(&mut self, alloc: Global, name: &str, limit: u64) -> Fetched
         ensures exactly { IsFetched self.old name.now limit result }

@@ -1,6 +1,6 @@
 //! Stores of named files.
 
-ghost use Rattle.std.specs.Prelude.{◌≡◌, ℕ, ◌<◌, ◌≤◌, length, Option, OnOk, OnErr};
+ghost use Rattle.std.specs.Prelude.{◌≡◌, ℕ, ◌<◌, ◌≤◌, List, length, Option, None, IfSome, OnOk, OnErr};
 ghost use Rattle.glass_edges.specs.Causes.{HasCause, Rose};
 ghost use Rattle.glass_edges.specs.Contents.{Files, HoldsFile, LacksFile, HoldsAtLeast, Placed, SameElsewhere};
 
@@ -30,6 +30,10 @@ pub trait Shelf {
     /// How often it has failed: a count that never falls and stays at its last value, 2^64 - 1.
     ghost faults: { Self → ℕ };
 
+    /// The number that a fetch within a limit tells of a file of this name that is longer, where the
+    /// store says beforehand what it tells.
+    ghost lengths: { Self → List ℕ → ℕ → Option ℕ } = { λ _ _ _. None };
+
     /// Reads the file of this name, of at most `limit` bytes. No file changes, and a fault is counted
     /// where reading failed and nowhere else.
     fn fetch(&mut self, alloc: Global, name: &str, limit: u64) -> Fetched
@@ -38,10 +42,12 @@ pub trait Shelf {
         ensures absent { result ≡ Fetched.Absent → LacksFile (holds self.old) name.now }
         ensures above { (n : ℕ) → result ≡ Fetched.TooLong n → limit < n }
         ensures long { (n : ℕ) → result ≡ Fetched.TooLong n → HoldsAtLeast (holds self.old) name.now n }
+        ensures length { (n : ℕ) → result ≡ Fetched.TooLong n → IfSome (lengths self.old name.now limit) (λ told. n ≡ told) }
         ensures failed { result ≡ Fetched.Failed → Rose (faults self.old) (faults self.new) }
         ensures quiet { ¬ (result ≡ Fetched.Failed) → faults self.new ≡ faults self.old }
         ensures later { faults self.old ≤ faults self.new }
-        ensures same { holds self.new ≡ holds self.old };
+        ensures same { holds self.new ≡ holds self.old }
+        ensures lengths_stay { lengths self.new ≡ lengths self.old };
 
     /// Sets the file of this name to exactly these bytes, and counts no fault. At an error, which
     /// counts a fault, that name may hold anything, and all other names stay.

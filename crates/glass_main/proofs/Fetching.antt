@@ -39,51 +39,57 @@ bytes-too_many role (Some files) name n above (bytes, is, least) =
     subst (λ a. IsRefusedBy {A = List ℕ} a (TooLong role n)) (sym refused) (n, refl, above, least)
 
 -- a fetch, and what is made of its answer, are a step that reads one file
-pub gathers_fetched : (role : Role) (name : List ℕ) (held holds : Option Files) (before now limit : ℕ) (fetched : Fetched) (result : Result (List ℕ) Ending)
+pub gathers_fetched : (role : Role) (name : List ℕ) (held holds : Option Files) (before now : ℕ) (lengths later_lengths : List ℕ → ℕ → Option ℕ) (limit : ℕ) (fetched : Fetched) (result : Result (List ℕ) Ending)
     → result ≡ gathered role fetched → limit ≡ limit_of role
     → ((v : Vec ℕ Global) → fetched ≡ answer.Held v → HoldsFile held name v.items)
     → ((v : Vec ℕ Global) → fetched ≡ answer.Held v → length v.items ≤ limit)
     → (fetched ≡ answer.Absent → LacksFile held name)
     → ((n : ℕ) → fetched ≡ answer.TooLong n → limit < n)
     → ((n : ℕ) → fetched ≡ answer.TooLong n → HoldsAtLeast held name n)
+    → ((n : ℕ) → fetched ≡ answer.TooLong n → IfSome (lengths name limit) (λ told. n ≡ told))
     → (fetched ≡ answer.Failed → Rose before now)
     → (¬ (fetched ≡ answer.Failed) → now ≡ before)
-    → before ≤ now → holds ≡ held
-    → Gathers (option_map (bytes_at role name) held) (Fetches role) result (record { holds = held; faults = before }) (record { holds = holds; faults = now })
-gathers_fetched role name held holds before now limit (answer.Held v) result is most found within absent above long failed quiet later same = rw is (record {
+    → before ≤ now → holds ≡ held → later_lengths ≡ lengths
+    → Gathers (option_map (bytes_at role name) held) (Fetches role) result (record { holds = held; faults = before; lengths = lengths }) (record { holds = holds; faults = now; lengths = later_lengths })
+gathers_fetched role name held holds before now lengths later_lengths limit (answer.Held v) result is most found within absent above long length_told failed quiet later same stay = rw is (record {
   found = bytes-found role held name v.items (found v refl) (subst (λ n. length v.items ≤ n) most (within v refl));
   passed = quiet (λ e. search rules);
   stopped = tt;
   same = same;
+  lengths = stay;
   later = later;
 })
-gathers_fetched role name held holds before now limit answer.Absent result is most found within absent above long failed quiet later same = rw is (record {
+gathers_fetched role name held holds before now lengths later_lengths limit answer.Absent result is most found within absent above long length_told failed quiet later same stay = rw is (record {
   found = tt;
   passed = tt;
-  stopped = ((tt, bytes-absent role held name (absent refl)), quiet (λ e. search rules));
+  stopped = ((tt, bytes-absent role held name (absent refl)), quiet (λ e. search rules), tt);
   same = same;
+  lengths = stay;
   later = later;
 })
-gathers_fetched role name held holds before now limit (answer.TooLong n) result is most found within absent above long failed quiet later same =
+gathers_fetched role name held holds before now lengths later_lengths limit (answer.TooLong n) result is most found within absent above long length_told failed quiet later same stay =
     let past = subst (λ m. m < n) most (above n refl) in
     rw is (record {
       found = tt;
       passed = tt;
-      stopped = ((past, bytes-too_many role held name n past (long n refl)), quiet (λ e. search rules));
+      stopped = ((past, bytes-too_many role held name n past (long n refl)), quiet (λ e. search rules), (name, subst (λ m. IfSome (lengths name m) (λ told. n ≡ told)) most (length_told n refl)));
       same = same;
+      lengths = stay;
       later = later;
     })
-gathers_fetched role name held holds before now limit answer.Failed result is most found within absent above long failed quiet later same = rw is (record {
+gathers_fetched role name held holds before now lengths later_lengths limit answer.Failed result is most found within absent above long length_told failed quiet later same stay = rw is (record {
   found = tt;
   passed = tt;
   stopped = (refl, failed refl);
   same = same;
+  lengths = stay;
   later = later;
 })
-gathers_fetched role name held holds before now limit answer.NoMemory result is most found within absent above long failed quiet later same = rw is (record {
+gathers_fetched role name held holds before now lengths later_lengths limit answer.NoMemory result is most found within absent above long length_told failed quiet later same stay = rw is (record {
   found = tt;
   passed = tt;
   stopped = quiet (λ e. search rules);
   same = same;
+  lengths = stay;
   later = later;
 })

@@ -1,5 +1,5 @@
 -- How a run ends once its files are read.
-use Rattle.std.proofs.Common.{◌≡◌, ℕ, ◌≤◌, Option, Some, None, option_map, IfSome, Result, Ok, refl, sym, ap, subst, inr, arith}
+use Rattle.std.proofs.Common.{◌≡◌, ℕ, ◌≤◌, List, Option, Some, None, option_map, IfSome, Result, Ok, refl, sym, ap, subst, inr, arith}
 use Rattle.glass_edges.specs.Contents.{Files, appended, AppendsPrefix}
 use Rattle.glass_edges.specs.Refusals.{unless}
 use Rattle.run_plan.specs.Amounts.{amount_refusal}
@@ -10,7 +10,7 @@ use Rattle.glass_main.specs.declared.refusal.Refusal.{Refusal}
 use Rattle.glass_main.specs.declared.ending.Ending.{Ending}
 use Rattle.glass_main.specs.declared.ending.Ending.TheVariants.{Done, Refused, Unread, Unwritten, NoMemory}
 use Rattle.glass_main.specs.CommandLine.{RunOrder, Run}
-use Rattle.glass_main.specs.Endings.{IsReached}
+use Rattle.glass_main.specs.Endings.{IsReached, IsOfAmount, TellsLength}
 use Rattle.glass_main.specs.Gathers.{Gathers}
 use Rattle.glass_main.specs.Opened.{IsUnopened, Reports}
 use Rattle.glass_main.specs.Outside.{Output, Store}
@@ -23,6 +23,16 @@ asked-after : (order : RunOrder) (planned : Planned) (held : Option Files) (P : 
 asked-after order planned None P found p = tt
 asked-after order planned (Some files) P found p = subst (λ a. P (and_then a (λ read. run_work read (until_of order read)))) (sym found) p
 
+-- the refusal of an amount tells no length
+amount-tells : (lengths : List ℕ → ℕ → Option ℕ) (told : Refusal) → IsOfAmount told → TellsLength lengths told
+amount-tells lengths refused.Words h = tt
+amount-tells lengths (refused.Absent role) h = tt
+amount-tells lengths (refused.TooLong role n) h = absurd h
+amount-tells lengths (refused.Plan e) h = tt
+amount-tells lengths (refused.Rules e) h = tt
+amount-tells lengths (refused.Swaps e) h = tt
+amount-tells lengths (refused.Couplings e) h = tt
+
 pub ends-unopened : (order : RunOrder) (planned : Planned) (ending : Ending) (held holds : Store) (before : Output)
     → Gathers (option_map (plan_at order.run) held.holds) (IsReached order.run held.holds) (Ok planned) held holds
     → IsUnopened planned (until_of order planned) ending → Ends (Some (Run order)) ending held holds before before
@@ -32,6 +42,7 @@ ends-unopened order planned (Refused told) held holds before g stops = record {
   cause = asked-after order planned held.holds (λ a. IsRefusedBy a told) g.found stops.1;
   out = refl;
   files = (g.same, g.passed);
+  length = amount-tells held.lengths told stops.0;
   later = (g.later, omega arith);
 }
 ends-unopened order planned (Unread role) held holds before g stops = absurd stops
@@ -41,6 +52,7 @@ ends-unopened order planned NoMemory held holds before g stops = record {
   cause = asked-after order planned held.holds (λ a. Fits a NoMemory) g.found tt;
   out = refl;
   files = (g.same, g.passed);
+  length = tt;
   later = (g.later, omega arith);
 }
 
@@ -66,6 +78,7 @@ ends-finished order planned e Done held holds before now g is none told later = 
   cause = asked-run order planned e held.holds (λ a. Fits a Done) g.found is none tt;
   out = (told.0, asked-run order planned e held.holds (λ a. now.taken ≡ appended before.taken (text_asked a)) g.found is none told.1);
   files = (g.same, g.passed);
+  length = tt;
   later = (g.later, later);
 }
 ends-finished order planned e (Refused refusal) held holds before now g is none told later = absurd told
@@ -75,6 +88,7 @@ ends-finished order planned e Unwritten held holds before now g is none told lat
   cause = asked-run order planned e held.holds (λ a. Fits a Unwritten) g.found is none tt;
   out = (told.0, asked-run order planned e held.holds (λ a. AppendsPrefix before.taken now.taken (text_asked a)) g.found is none told.1);
   files = (g.same, g.passed);
+  length = tt;
   later = (g.later, later);
 }
 ends-finished order planned e NoMemory held holds before now g is none told later = absurd told

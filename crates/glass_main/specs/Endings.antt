@@ -53,6 +53,11 @@ IsOfFile (refused.Rules e) = IsOfRules e
 IsOfFile (refused.Swaps e) = IsOfSwaps e
 IsOfFile (refused.Couplings e) = IsOfCouplings e
 
+-- a length that is told of a file is the one that a fetch of it answers, where the store says that beforehand
+abbrev pub TellsLength : (List ℕ → ℕ → Option ℕ) → Refusal → Type 0
+TellsLength lengths (refused.TooLong role n) = (name : List ℕ) × IfSome (lengths name (limit_of role)) (λ length. n ≡ length)
+TellsLength lengths told = Unit {0}
+
 -- a refusal of what a run prints; the amount that is told is above its limit
 abbrev pub IsOfAmount : Refusal → Type 0
 IsOfAmount (refused.Plan (plan.Rows count)) = 4194304 < count

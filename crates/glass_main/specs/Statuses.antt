@@ -3,7 +3,7 @@ use Rattle.std.specs.Prelude.{◌≡◌, ◌⊎◌, ℕ, ◌<◌, ◌≤◌, Lis
 use Rattle.glass_edges.specs.Causes.{Rose}
 use Rattle.glass_edges.specs.Contents.{appended, AppendsPrefix}
 use Rattle.glass_main.specs.CommandLine.{Command}
-use Rattle.glass_main.specs.Endings.{Reads}
+use Rattle.glass_main.specs.Endings.{Reads, TellsLength}
 use Rattle.glass_main.specs.Outside.{Output, Store}
 use Rattle.glass_main.specs.Request.{Work, limit_of, IsAccepted, text_of, text_asked, request_for}
 use Rattle.glass_main.specs.Lines.{line_of}
@@ -87,12 +87,18 @@ Kept (Unread role) old new = (new.holds ≡ old.holds) × Rose old.faults new.fa
 Kept Unwritten old new = (new.holds ≡ old.holds) × (new.faults ≡ old.faults)
 Kept NoMemory old new = (new.holds ≡ old.holds) × (new.faults ≡ old.faults)
 
--- an ending, its cause and what it leaves
+-- what holds of a refusal that is told
+abbrev pub IfRefused : Ending → (Refusal → Type 0) → Type 0
+IfRefused (Refused told) P = P told
+IfRefused ending P = Unit {0}
+
+-- an ending, its cause and what it leaves; a length is told as a fetch of the file answers it
 pub record Ends (command : Option Command) (ending : Ending) (held holds : Store) (before now : Output) : Type 0 where
   pub words : Reads command held.holds ending
   pub cause : IfSome (request_for command held.holds) (λ asked. Fits asked ending)
   pub out : Printed (request_for command held.holds) ending before now
   pub files : Kept ending held holds
+  pub length : IfRefused ending (TellsLength held.lengths)
   pub later : (held.faults ≤ holds.faults) × (before.faults ≤ now.faults)
 
 -- ---- the error output

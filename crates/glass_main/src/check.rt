@@ -29,7 +29,7 @@ pub(crate) fn check<H: Shelf, O: Sink>(
     name: &str,
 ) -> Ending
     ensures { Ends (Some (Check name.now)) result
-        (store H.holds H.faults shelf.old) (store H.holds H.faults shelf.new)
+        (store H.holds H.faults H.lengths shelf.old) (store H.holds H.faults H.lengths shelf.new)
         (output O.taken O.faults out.old) (output O.taken O.faults out.new) }
 {
     let planned = match gather_plan(alloc, shelf, name) {

@@ -32,7 +32,7 @@ pub(crate) fn gather_plan<H: Shelf>(
 ) -> Result<Planned, Ending>
     ensures asked { Gathers (option_map (model.plan_at name.now) (H.holds shelf.old))
         (IsReached name.now (H.holds shelf.old)) result
-        (store H.holds H.faults shelf.old) (store H.holds H.faults shelf.new) }
+        (store H.holds H.faults H.lengths shelf.old) (store H.holds H.faults H.lengths shelf.new) }
     ensures orders { IfOk result (λ planned. AreLawfulOrders planned.orders) }
 {
     let file = gather_run_file(alloc, shelf, name)?;
@@ -49,7 +49,7 @@ fn gather_after_file<H: Shelf>(
     requires { IsLawfulRunFile file.now }
     ensures asked { Gathers (option_map (model.plan_after_file file.now) (H.holds shelf.old))
         (IsReachedAfter file.now (H.holds shelf.old)) result
-        (store H.holds H.faults shelf.old) (store H.holds H.faults shelf.new) }
+        (store H.holds H.faults H.lengths shelf.old) (store H.holds H.faults H.lengths shelf.new) }
     ensures orders { IfOk result (λ planned. AreLawfulOrders planned.orders) }
 {
     let rules = gather_rules(alloc, shelf, file)?;
@@ -67,7 +67,7 @@ fn gather_after_rules<H: Shelf>(
     requires { IsLawfulRunFile file.now }
     ensures asked { Gathers (option_map (model.plan_after_rules file.now rules) (H.holds shelf.old))
         (IsReachedAfterRules file.now rules (H.holds shelf.old)) result
-        (store H.holds H.faults shelf.old) (store H.holds H.faults shelf.new) }
+        (store H.holds H.faults H.lengths shelf.old) (store H.holds H.faults H.lengths shelf.new) }
     ensures orders { IfOk result (λ planned. AreLawfulOrders planned.orders) }
 {
     let swaps = gather_swaps(alloc, shelf, file, &rules)?;
@@ -90,7 +90,7 @@ fn gather_after_rules<H: Shelf>(
 fn gather_run_file<H: Shelf>(alloc: Global, shelf: &mut H, name: &str) -> Result<RunFile, Ending>
     ensures asked { Gathers (option_map (model.run_file_at name.now) (H.holds shelf.old))
         (Fetches Role.RunFile) result
-        (store H.holds H.faults shelf.old) (store H.holds H.faults shelf.new) }
+        (store H.holds H.faults H.lengths shelf.old) (store H.holds H.faults H.lengths shelf.new) }
     ensures lawful { IfOk result IsLawfulRunFile }
 {
     let bytes = gather_bytes(alloc, shelf, Role::RunFile, name)?;
@@ -106,7 +106,7 @@ fn gather_run_file<H: Shelf>(alloc: Global, shelf: &mut H, name: &str) -> Result
 fn gather_rules<H: Shelf>(alloc: Global, shelf: &mut H, file: &RunFile) -> Result<RuleTable, Ending>
     ensures { Gathers (option_map (model.rules_at file.now) (H.holds shelf.old))
         (Fetches Role.RuleTable) result
-        (store H.holds H.faults shelf.old) (store H.holds H.faults shelf.new) }
+        (store H.holds H.faults H.lengths shelf.old) (store H.holds H.faults H.lengths shelf.new) }
 {
     let bytes = gather_bytes(alloc, shelf, Role::RuleTable, file.rules.as_str())?;
     match read_rule(alloc, bytes.as_slice(), file.kind) {
@@ -126,7 +126,7 @@ fn gather_swaps<H: Shelf>(
 ) -> Result<SwapTable, Ending>
     ensures asked { Gathers (option_map (model.swaps_at file.now rules.now) (H.holds shelf.old))
         (Fetches Role.SwapTable) result
-        (store H.holds H.faults shelf.old) (store H.holds H.faults shelf.new) }
+        (store H.holds H.faults H.lengths shelf.old) (store H.holds H.faults H.lengths shelf.new) }
     ensures pairs { IfOk result (λ swaps. length swaps + 1 ≡ length rules.now.rows) }
 {
     let bytes = gather_bytes(alloc, shelf, Role::SwapTable, file.swaps.as_str())?;
@@ -146,7 +146,7 @@ fn gather_couplings<H: Shelf>(
 ) -> Result<Couplings, Ending>
     ensures asked { Gathers (option_map (model.couplings_at file.now) (H.holds shelf.old))
         (Fetches Role.Couplings) result
-        (store H.holds H.faults shelf.old) (store H.holds H.faults shelf.new) }
+        (store H.holds H.faults H.lengths shelf.old) (store H.holds H.faults H.lengths shelf.new) }
     ensures size { IfOk result (λ couplings. couplings.size ≡ file.now.lattice) }
 {
     let made = match &file.couplings {
@@ -171,7 +171,7 @@ fn gather_couplings_file<H: Shelf>(
 ) -> Result<Couplings, Ending>
     ensures asked { Gathers (option_map (model.couplings_file_at lattice name.now) (H.holds shelf.old))
         (Fetches Role.Couplings) result
-        (store H.holds H.faults shelf.old) (store H.holds H.faults shelf.new) }
+        (store H.holds H.faults H.lengths shelf.old) (store H.holds H.faults H.lengths shelf.new) }
     ensures size { IfOk result (λ couplings. couplings.size ≡ lattice) }
 {
     let bytes = gather_bytes(alloc, shelf, Role::Couplings, name)?;
@@ -211,7 +211,7 @@ fn gather_bytes<H: Shelf>(
 ) -> Result<Items<u8>, Ending>
     ensures { Gathers (option_map (model.bytes_at role name.now) (H.holds shelf.old))
         (Fetches role) result
-        (store H.holds H.faults shelf.old) (store H.holds H.faults shelf.new) }
+        (store H.holds H.faults H.lengths shelf.old) (store H.holds H.faults H.lengths shelf.new) }
 {
     gathered(role, shelf.fetch(alloc, name, role.limit()))
 }

@@ -28,7 +28,7 @@ pub(crate) fn plain<H: Shelf, O: Sink>(
     order: &PlainOrder,
 ) -> Ending
     ensures ends { Ends (Some (Plain (read_order order.now))) result
-        (store H.holds H.faults _shelf.old) (store H.holds H.faults _shelf.new)
+        (store H.holds H.faults H.lengths _shelf.old) (store H.holds H.faults H.lengths _shelf.new)
         (output O.taken O.faults out.old) (output O.taken O.faults out.new) }
     ensures untouched { _shelf.new ≡ _shelf.old }
 {

@@ -48,7 +48,7 @@ pub(crate) fn run<R: Sync, H: Shelf, O: Sink, G: Gate + Sync>(
 ) -> Ending
     requires { IsLawfulOrder order.now }
     ensures { Ends (Some (commands.Run (read_run_order order.now))) result
-        (store H.holds H.faults shelf.old) (store H.holds H.faults shelf.new)
+        (store H.holds H.faults H.lengths shelf.old) (store H.holds H.faults H.lengths shelf.new)
         (output O.taken O.faults out.old) (output O.taken O.faults out.new) }
 {
     let planned = match gather_plan(alloc, shelf, order.run) {

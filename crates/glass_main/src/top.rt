@@ -39,7 +39,7 @@ pub fn glass<R: Sync, H: Shelf, O: Sink, E: Sink, G: Gate + Sync>(
 ) -> u8
     // The status is that of an ending, whose cause and leavings are the named ones.
     ensures answers { Answers (command_of (texts words.now)) result
-        (store H.holds H.faults shelf.old) (store H.holds H.faults shelf.new)
+        (store H.holds H.faults H.lengths shelf.old) (store H.holds H.faults H.lengths shelf.new)
         (output O.taken O.faults out.old) (output O.taken O.faults out.new)
         (output E.taken E.faults err.old) (output E.taken E.faults err.new) }
     ensures words { (result ≡ 2) ↔ (command_of (texts words.now) ≡ None) }
@@ -47,14 +47,14 @@ pub fn glass<R: Sync, H: Shelf, O: Sink, E: Sink, G: Gate + Sync>(
 
     // A fault that was counted is told by the status.
     ensures faults { TellsFaults result
-        (store H.holds H.faults shelf.old) (store H.holds H.faults shelf.new)
+        (store H.holds H.faults H.lengths shelf.old) (store H.holds H.faults H.lengths shelf.new)
         (output O.taken O.faults out.old) (output O.taken O.faults out.new)
         (output E.taken E.faults err.old) (output E.taken E.faults err.new) }
 
     // With status 0 the output got the text that the request asks for.
     ensures done { result ≡ 0 → IfSome (request (texts words.now) (H.holds shelf.old)) (λ asked.
         Does asked
-        (store H.holds H.faults shelf.old) (store H.holds H.faults shelf.new)
+        (store H.holds H.faults H.lengths shelf.old) (store H.holds H.faults H.lengths shelf.new)
         (output O.taken O.faults out.old) (output O.taken O.faults out.new)
         (output E.taken E.faults err.old) (output E.taken E.faults err.new)) }
 
@@ -62,7 +62,7 @@ pub fn glass<R: Sync, H: Shelf, O: Sink, E: Sink, G: Gate + Sync>(
     // done, but for want of memory.
     ensures complete { IfSome (request (texts words.now) (H.holds shelf.old)) (λ asked.
         Completes asked result
-        (store H.holds H.faults shelf.old) (store H.holds H.faults shelf.new)
+        (store H.holds H.faults H.lengths shelf.old) (store H.holds H.faults H.lengths shelf.new)
         (output O.taken O.faults out.old) (output O.taken O.faults out.new)) }
 {
     let ending = answer(rt, alloc, words, shelf, out, gate);
@@ -80,7 +80,7 @@ fn answer<R: Sync, H: Shelf, O: Sink, G: Gate + Sync>(
     gate: &G,
 ) -> Ending
     ensures ends { Ends (command_of (texts words.now)) result
-        (store H.holds H.faults shelf.old) (store H.holds H.faults shelf.new)
+        (store H.holds H.faults H.lengths shelf.old) (store H.holds H.faults H.lengths shelf.new)
         (output O.taken O.faults out.old) (output O.taken O.faults out.new) }
     ensures untouched { ReadsNoFile (command_of (texts words.now)) → shelf.new ≡ shelf.old }
 {
