@@ -13,3 +13,4 @@ pub mod Tallying
 pub mod Fitting
 pub mod Slots
 pub mod Pieces
+pub mod ReadReports

@@ -7,6 +7,7 @@ mod averages;
 mod digits;
 mod header;
 mod header_line;
+mod laws;
 mod next_line;
 mod place;
 mod reading;
@@ -20,6 +21,7 @@ mod text;
 
 pub use averages::Averages;
 pub use header::{Header, Rule};
+pub use laws::averages_are_of_the_report;
 pub use reading::read_report;
 pub use refused::ReportRefused;
 pub use row::Row;

@@ -1,8 +1,10 @@
 //! A report as it is read: tested first, then kept.
 
 ghost use Rattle.std.specs.Prelude.{◌≡◌, ◌*◌, ◌<◌, ◌≤◌, List, length, IfOk, IfErr};
+ghost use Rattle.glass_edges.specs.Refusals.{Gives};
 ghost use Rattle.sample_average.specs.Averages.{IsRefusal};
 ghost use Rattle.sample_average.specs.LawfulReport.{IsLawfulHeader, IsReading};
+ghost use Rattle.sample_average.specs.ReadReport.{averages_in};
 ghost use Rattle.sample_average.specs.Tallies.{Tallies, IsRowOfReport};
 ghost use Rattle.sample_average.specs.declared.row.Row.{Row as RowValue};
 ghost use Rattle.std.specs.List.{AllByRecursion};
@@ -24,6 +26,7 @@ use std::alloc::Global;
 ///
 /// Line exactly where the bytes are not a lawful report, with its first wrong line. Blocks exactly
 /// where the report is lawful and has fewer samples than blocks.
+#[tactic(auto, using(crate::proofs::ReadReports::gives_averages))]
 pub fn read_report(alloc: Global, bytes: &[u8], blocks: u32) -> Result<Averages, ReportRefused>
     requires limit { length bytes.now ≤ 67108864 }
     requires some { 0 < blocks }
@@ -31,6 +34,7 @@ pub fn read_report(alloc: Global, bytes: &[u8], blocks: u32) -> Result<Averages,
     ensures blocks { IfOk result (λ a. a.blocks ≡ blocks) }
     ensures enough { IfOk result (λ a. blocks ≤ a.header.samples) }
     ensures refused { IfErr result (IsRefusal bytes.now blocks) }
+    ensures gives { Gives ReportRefused.NoMemory (λ a. a) result (averages_in blocks bytes.now) }
 {
     let found = test_report(bytes, blocks)?;
     let rows = rows_in(alloc, bytes, blocks, found)?;

@@ -1,5 +1,6 @@
-use Rattle.std.proofs.Common.{rules, arith}
+use Rattle.std.proofs.Common.{rules, arith, refl}
 use Rattle.sample_average.proofs.Fitting.{reading-fit}
+use Rattle.sample_average.proofs.ReadReports.{averages-found}
 use Rattle.sample_average.proofs.reading.read_report.Goals as goal
 
 pub invariant_of-result : goal.invariant_of-result
@@ -14,3 +15,6 @@ invariant_of-result c = record {
   totals_told = search rules;
   parts_told = search rules;
 }
+
+pub returns-clause-gives : goal.returns-clause-gives
+returns-clause-gives c = averages-found c.args.bytes.now c.args.blocks (record { header = c.in_ok-found.found.header; rows = c.in_ok-rows.rows; blocks = c.args.blocks }) c.in_ok-rows.ensures.rows refl c.in_ok-found.ensures.enough
