@@ -6,6 +6,7 @@ use Rattle.glass_edges.specs.Causes.{Rose}
 use Rattle.glass_edges.specs.Contents.{Files, HoldsFile, LacksFile, HoldsAtLeast}
 use Rattle.glass_edges.specs.declared.shelf.Fetched.{Fetched}
 use Rattle.glass_edges.specs.declared.shelf.Fetched.TheVariants as answer
+use Rattle.glass_main.specs.Endings.{IsOfRun}
 use Rattle.glass_main.specs.declared.role.Role.{Role}
 use Rattle.glass_main.specs.declared.refusal.Refusal.TheVariants.{Absent, TooLong}
 use Rattle.glass_main.specs.Gathers.{Gathers, Fetches, gathered}
@@ -40,7 +41,7 @@ bytes-too_many role (Some files) name n above (bytes, is, least) =
 
 -- a fetch, and what is made of its answer, are a step that reads one file
 pub gathers_fetched : (role : Role) (name : List ℕ) (held holds : Option Files) (before now : ℕ) (lengths later_lengths : List ℕ → ℕ → Option ℕ) (limit : ℕ) (fetched : Fetched) (result : Result (List ℕ) Ending)
-    → result ≡ gathered role fetched → limit ≡ limit_of role
+    → IsOfRun role → result ≡ gathered role fetched → limit ≡ limit_of role
     → ((v : Vec ℕ Global) → fetched ≡ answer.Held v → HoldsFile held name v.items)
     → ((v : Vec ℕ Global) → fetched ≡ answer.Held v → length v.items ≤ limit)
     → (fetched ≡ answer.Absent → LacksFile held name)
@@ -51,7 +52,7 @@ pub gathers_fetched : (role : Role) (name : List ℕ) (held holds : Option Files
     → (¬ (fetched ≡ answer.Failed) → now ≡ before)
     → before ≤ now → holds ≡ held → later_lengths ≡ lengths
     → Gathers (option_map (bytes_at role name) held) (Fetches role) result (record { holds = held; faults = before; lengths = lengths }) (record { holds = holds; faults = now; lengths = later_lengths })
-gathers_fetched role name held holds before now lengths later_lengths limit (answer.Held v) result is most found within absent above long length_told failed quiet later same stay = rw is (record {
+gathers_fetched role name held holds before now lengths later_lengths limit (answer.Held v) result run is most found within absent above long length_told failed quiet later same stay = rw is (record {
   found = bytes-found role held name v.items (found v refl) (subst (λ n. length v.items ≤ n) most (within v refl));
   passed = quiet (λ e. search rules);
   stopped = tt;
@@ -59,25 +60,25 @@ gathers_fetched role name held holds before now lengths later_lengths limit (ans
   lengths = stay;
   later = later;
 })
-gathers_fetched role name held holds before now lengths later_lengths limit answer.Absent result is most found within absent above long length_told failed quiet later same stay = rw is (record {
+gathers_fetched role name held holds before now lengths later_lengths limit answer.Absent result run is most found within absent above long length_told failed quiet later same stay = rw is (record {
   found = tt;
   passed = tt;
-  stopped = ((tt, bytes-absent role held name (absent refl)), quiet (λ e. search rules), tt);
+  stopped = ((run, bytes-absent role held name (absent refl)), quiet (λ e. search rules), tt);
   same = same;
   lengths = stay;
   later = later;
 })
-gathers_fetched role name held holds before now lengths later_lengths limit (answer.TooLong n) result is most found within absent above long length_told failed quiet later same stay =
+gathers_fetched role name held holds before now lengths later_lengths limit (answer.TooLong n) result run is most found within absent above long length_told failed quiet later same stay =
     let past = subst (λ m. m < n) most (above n refl) in
     rw is (record {
       found = tt;
       passed = tt;
-      stopped = ((past, bytes-too_many role held name n past (long n refl)), quiet (λ e. search rules), (name, subst (λ m. IfSome (lengths name m) (λ told. n ≡ told)) most (length_told n refl)));
+      stopped = (((run, past), bytes-too_many role held name n past (long n refl)), quiet (λ e. search rules), (name, subst (λ m. IfSome (lengths name m) (λ told. n ≡ told)) most (length_told n refl)));
       same = same;
       lengths = stay;
       later = later;
     })
-gathers_fetched role name held holds before now lengths later_lengths limit answer.Failed result is most found within absent above long length_told failed quiet later same stay = rw is (record {
+gathers_fetched role name held holds before now lengths later_lengths limit answer.Failed result run is most found within absent above long length_told failed quiet later same stay = rw is (record {
   found = tt;
   passed = tt;
   stopped = (refl, failed refl);
@@ -85,7 +86,7 @@ gathers_fetched role name held holds before now lengths later_lengths limit answ
   lengths = stay;
   later = later;
 })
-gathers_fetched role name held holds before now lengths later_lengths limit answer.NoMemory result is most found within absent above long length_told failed quiet later same stay = rw is (record {
+gathers_fetched role name held holds before now lengths later_lengths limit answer.NoMemory result run is most found within absent above long length_told failed quiet later same stay = rw is (record {
   found = tt;
   passed = tt;
   stopped = quiet (λ e. search rules);

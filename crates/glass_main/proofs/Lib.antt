@@ -8,3 +8,4 @@ pub mod OpenedRuns
 pub mod Amounts
 pub mod RunEndings
 pub mod SaidWords
+pub mod Reports

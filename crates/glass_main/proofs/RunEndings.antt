@@ -32,6 +32,7 @@ amount-tells lengths (refused.Plan e) h = tt
 amount-tells lengths (refused.Rules e) h = tt
 amount-tells lengths (refused.Swaps e) h = tt
 amount-tells lengths (refused.Couplings e) h = tt
+amount-tells lengths (refused.Report e) h = tt
 
 pub ends-unopened : (order : RunOrder) (planned : Planned) (ending : Ending) (held holds : Store) (before : Output)
     → Gathers (option_map (plan_at order.run) held.holds) (IsReached order.run held.holds) (Ok planned) held holds

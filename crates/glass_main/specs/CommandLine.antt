@@ -19,11 +19,17 @@ pub record RunOrder : Type 0 where
   pub pieces : ℕ
   pub until : Option ℕ
 
--- a command of the program: one replica of the ferromagnet; a look at the run file of a name; a run
+-- averages: the name of the report, and the number of blocks of its samples
+pub record AverageOrder : Type 0 where
+  pub report : List ℕ
+  pub blocks : ℕ
+
+-- a command of the program: one replica of the ferromagnet; a look at the run file of a name; a run; averages of a report
 pub data Command : Type 0 where
   Plain : PlainOrder → Command
   Check : List ℕ → Command
   Run : RunOrder → Command
+  Average : AverageOrder → Command
 
 -- `plain SIZE SWEEPS SEED T0 T1 T2 T3 T4 T5 T6`
 unfoldable pub plain_order : List (List ℕ) → Option PlainOrder
@@ -44,10 +50,22 @@ is_option word = bytes_eq (take 2 word) (codes "--")
 abbrev pub is_file_name : List ℕ → Bool
 is_file_name word = nat_le 1 (length word) && nat_le (length word) 255
 
+-- a word that names a file and is no option
+abbrev pub name_word : List ℕ → Option (List ℕ)
+name_word word = if is_file_name word && not (is_option word) then Some word else None
+
 -- `check RUN`
 unfoldable pub check_name : List (List ℕ) → Option (List ℕ)
-check_name words =
-    if length words == 2 && is_file_name (word_at words 1) && not (is_option (word_at words 1)) then Some (word_at words 1) else None
+check_name words = if length words == 2 then name_word (word_at words 1) else None
+
+-- `average REPORT BLOCKS`, 1 to 256 blocks
+unfoldable pub average_order : List (List ℕ) → Option AverageOrder
+average_order words =
+    if length words == 3 then
+    given (name_word (word_at words 1)) (λ report.
+    given (number_word 1 256 (word_at words 2)) (λ blocks.
+    Some (record { report = report; blocks = blocks })))
+    else None
 
 -- ---- the words of `run`, read from the left
 
@@ -130,4 +148,5 @@ command_of words =
     if bytes_eq (word_at words 0) (codes "plain") then option_map Plain (plain_order words)
     else if bytes_eq (word_at words 0) (codes "check") then option_map Check (check_name words)
     else if bytes_eq (word_at words 0) (codes "run") then option_map Run (run_order words)
+    else if bytes_eq (word_at words 0) (codes "average") then option_map Average (average_order words)
     else None

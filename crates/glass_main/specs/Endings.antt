@@ -12,7 +12,10 @@ use Rattle.run_plan.specs.RunFile.{run_file}
 use Rattle.run_plan.specs.declared.refused.PlanRefused.{PlanRefused}
 use Rattle.run_plan.specs.declared.refused.PlanRefused.TheVariants as plan
 use Rattle.run_plan.specs.declared.run_file.RunFile.{RunFile}
-use Rattle.glass_main.specs.CommandLine.{Command, Plain, Check, Run}
+use Rattle.sample_average.specs.Averages.{IsRefusal}
+use Rattle.sample_average.specs.declared.refused.ReportRefused.{ReportRefused}
+use Rattle.sample_average.specs.declared.refused.ReportRefused.TheVariants as report
+use Rattle.glass_main.specs.CommandLine.{AverageOrder, Command, Plain, Check, Run, Average}
 use Rattle.glass_main.specs.Request.{limit_of, and_then, IsAccepted, run_file_at, rules_at, swaps_at, tables_at}
 use Rattle.glass_main.specs.declared.role.Role.{Role}
 use Rattle.glass_main.specs.declared.role.Role.TheVariants as roles
@@ -43,15 +46,33 @@ pub record IsOfCouplings (e : CouplingsRefused) : Type 0 where
   pub refusal : ¬ (e ≡ couplings.NoMemory)
   pub cause : (size : ℕ) × (bytes : List ℕ) × (couplings_in size 0 bytes ≡ Err e)
 
--- a refusal of what was read, and not of the words; of a file that is too long a length above its limit is told
+-- some report is refused so, by its grammar or for too few samples
+pub record IsOfReport (blocks : ℕ) (e : ReportRefused) : Type 0 where
+  pub refusal : ¬ (e ≡ report.NoMemory)
+  pub cause : (bytes : List ℕ) × IsRefusal bytes blocks e
+
+-- the files that a run reads
+abbrev pub IsOfRun : Role → Type 0
+IsOfRun roles.Report = ⊥
+IsOfRun role = Unit {0}
+
+-- a refusal of what a run reads, and not of the words; of a file that is too long a length above its limit is told
 abbrev pub IsOfFile : Refusal → Type 0
 IsOfFile refused.Words = ⊥
-IsOfFile (refused.Absent role) = Unit {0}
-IsOfFile (refused.TooLong role n) = limit_of role < n
+IsOfFile (refused.Absent role) = IsOfRun role
+IsOfFile (refused.TooLong role n) = IsOfRun role × (limit_of role < n)
 IsOfFile (refused.Plan e) = IsOfRunFile e
 IsOfFile (refused.Rules e) = IsOfRules e
 IsOfFile (refused.Swaps e) = IsOfSwaps e
 IsOfFile (refused.Couplings e) = IsOfCouplings e
+IsOfFile (refused.Report e) = ⊥
+
+-- a refusal of a report, of which averages in so many blocks are asked for
+abbrev pub IsOfAverages : ℕ → Refusal → Type 0
+IsOfAverages blocks (refused.Absent role) = role ≡ roles.Report
+IsOfAverages blocks (refused.TooLong role n) = (role ≡ roles.Report) × (limit_of role < n)
+IsOfAverages blocks (refused.Report e) = IsOfReport blocks e
+IsOfAverages blocks told = ⊥
 
 -- a length that is told of a file is the one that a fetch of it answers, where the store says that beforehand
 abbrev pub TellsLength : (List ℕ → ℕ → Option ℕ) → Refusal → Type 0
@@ -72,6 +93,7 @@ abbrev pub IsReachedAfterRules : RunFile → RuleView → Option Files → Role 
 IsReachedAfterRules file rules held roles.RunFile = ⊥
 IsReachedAfterRules file rules held roles.RuleTable = ⊥
 IsReachedAfterRules file rules held roles.SwapTable = Unit {0}
+IsReachedAfterRules file rules held roles.Report = ⊥
 IsReachedAfterRules file rules held roles.Couplings = IfSome (option_map (swaps_at file rules) held) IsAccepted
 
 -- which tables and couplings of a run file
@@ -79,6 +101,7 @@ abbrev pub IsReachedAfter : RunFile → Option Files → Role → Type 0
 IsReachedAfter file held roles.RunFile = ⊥
 IsReachedAfter file held roles.RuleTable = Unit {0}
 IsReachedAfter file held roles.SwapTable = IfSome (option_map (rules_at file) held) IsAccepted
+IsReachedAfter file held roles.Report = ⊥
 IsReachedAfter file held roles.Couplings = IfSome (option_map (tables_at file) held) IsAccepted
 
 -- which files from a run file's name on
@@ -87,6 +110,7 @@ IsReached name held roles.RunFile = Unit {0}
 IsReached name held roles.RuleTable = IfSome (option_map (run_file_at name) held) IsAccepted
 IsReached name held roles.SwapTable =
     IfSome (option_map (λ files. and_then (run_file_at name files) (λ file. rules_at file files)) held) IsAccepted
+IsReached name held roles.Report = ⊥
 IsReached name held roles.Couplings =
     IfSome (option_map (λ files. and_then (run_file_at name files) (λ file. tables_at file files)) held) IsAccepted
 
@@ -98,12 +122,14 @@ abbrev pub MayRefuse : Command → Refusal → Type 0
 MayRefuse (Plain order) told = ⊥
 MayRefuse (Check name) told = IsOfFile told
 MayRefuse (Run order) told = IsOfFile told ⊎ IsOfAmount told
+MayRefuse (Average order) told = IsOfAverages order.blocks told
 
 -- the files at which the store may fail in a command: `plain` fetches none
 abbrev pub MayFetch : Command → Option Files → Role → Type 0
 MayFetch (Plain order) held role = ⊥
 MayFetch (Check name) held role = IsReached name held role
 MayFetch (Run order) held role = IsReached order.run held role
+MayFetch (Average order) held role = role ≡ roles.Report
 
 -- how a command may end, where the store holds these files
 abbrev pub MayEnd : Command → Option Files → Ending → Type 0
@@ -119,6 +145,7 @@ ReadsNoFile None = Unit {0}
 ReadsNoFile (Some (Plain order)) = Unit {0}
 ReadsNoFile (Some (Check name)) = ⊥
 ReadsNoFile (Some (Run order)) = ⊥
+ReadsNoFile (Some (Average order)) = ⊥
 
 -- words that are no command are refused as such, and no others
 abbrev pub Reads : Option Command → Option Files → Ending → Type 0

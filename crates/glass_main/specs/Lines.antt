@@ -9,10 +9,12 @@ use Rattle.coupling_set.specs.declared.refused.CouplingsRefused.{CouplingsRefuse
 use Rattle.coupling_set.specs.declared.refused.CouplingsRefused.TheVariants as couplings
 use Rattle.threshold_table.specs.declared.refused.TableRefused.{TableRefused}
 use Rattle.threshold_table.specs.declared.refused.TableRefused.TheVariants as table
+use Rattle.sample_average.specs.declared.refused.ReportRefused.{ReportRefused}
+use Rattle.sample_average.specs.declared.refused.ReportRefused.TheVariants as report
 use Rattle.glass_main.specs.declared.role.Role.{Role}
 use Rattle.glass_main.specs.declared.role.Role.TheVariants as roles
 use Rattle.glass_main.specs.declared.refusal.Refusal.{Refusal}
-use Rattle.glass_main.specs.declared.refusal.Refusal.TheVariants.{Words, Absent, TooLong, Plan, Rules, Swaps, Couplings}
+use Rattle.glass_main.specs.declared.refusal.Refusal.TheVariants.{Words, Absent, TooLong, Plan, Rules, Swaps, Couplings, Report}
 use Rattle.glass_main.specs.declared.ending.Ending.{Ending}
 use Rattle.glass_main.specs.declared.ending.Ending.TheVariants.{Done, Refused, Unread, Unwritten, NoMemory}
 
@@ -22,6 +24,7 @@ role_name roles.RunFile = codes "run file"
 role_name roles.RuleTable = codes "rule table"
 role_name roles.SwapTable = codes "swap table"
 role_name roles.Couplings = codes "couplings file"
+role_name roles.Report = codes "report"
 
 unfoldable pub memory_line : List ℕ
 memory_line = codes "glass: no memory\n"
@@ -75,6 +78,13 @@ couplings_line (couplings.Digest stored computed) =
     file_front roles.Couplings ++ codes " is damaged: " ++ encode_lower stored ++ codes " stored, " ++ encode_lower computed ++ codes " computed\n"
 couplings_line couplings.NoMemory = memory_line
 
+-- why a report was refused
+unfoldable pub report_line : ReportRefused → List ℕ
+report_line (report.Line line) = file_front roles.Report ++ codes " is wrong at line " ++ decimal line ++ codes "\n"
+report_line (report.Blocks blocks samples) =
+    file_front roles.Report ++ codes " has " ++ decimal samples ++ codes " samples, too few for " ++ decimal blocks ++ codes " blocks\n"
+report_line report.NoMemory = memory_line
+
 -- the line of a refusal
 unfoldable pub refusal_line : Refusal → List ℕ
 refusal_line Words = codes "glass: the command line is not understood\n"
@@ -83,6 +93,7 @@ refusal_line (Plan refused) = plan_line refused
 refusal_line (Rules refused) = table_line roles.RuleTable refused
 refusal_line (Swaps refused) = table_line roles.SwapTable refused
 refusal_line (Couplings refused) = couplings_line refused
+refusal_line (Report refused) = report_line refused
 refusal_line (Absent role) = file_front role ++ codes " is not held\n"
 
 -- the line of an ending

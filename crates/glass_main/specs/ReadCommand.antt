@@ -1,9 +1,10 @@
 -- A command of the program as a command of the definitions, and the limits of its numbers.
 use Rattle.std.specs.Prelude.{◌≤◌, option_map, IfSome}
 use Rattle.glass_main.specs.CommandLine as model
+use Rattle.glass_main.specs.declared.average_words.AverageOrder.{AverageOrder}
 use Rattle.glass_main.specs.declared.command_line.PlainOrder.{PlainOrder}
 use Rattle.glass_main.specs.declared.command_line.Command.{Command}
-use Rattle.glass_main.specs.declared.command_line.Command.TheVariants.{Plain, Check, Run}
+use Rattle.glass_main.specs.declared.command_line.Command.TheVariants.{Plain, Check, Run, Average}
 use Rattle.glass_main.specs.declared.run_words.RunOrder.{RunOrder}
 use Rattle.glass_main.specs.declared.run_words.RunWords.{RunWords}
 
@@ -15,11 +16,16 @@ read_order order = record { size = order.lattice; sweeps = order.sweeps; seed = 
 abbrev pub read_run_order : RunOrder → model.RunOrder
 read_run_order order = record { run = order.run.now; workers = order.workers; pieces = order.pieces; until = order.until }
 
+-- the order of `average`
+abbrev pub read_average_order : AverageOrder → model.AverageOrder
+read_average_order order = record { report = order.report.now; blocks = order.blocks }
+
 -- a command
 abbrev pub read_command : Command → model.Command
 read_command (Plain order) = model.Plain (read_order order)
 read_command (Check name) = model.Check name.now
 read_command (Run order) = model.Run (read_run_order order)
+read_command (Average order) = model.Average (read_average_order order)
 
 -- what the words of `run` have said
 abbrev pub read_said : RunWords → model.RunWords
@@ -45,8 +51,14 @@ pub record AreLawfulWords (said : RunWords) : Type 0 where
   pub pieces : IfSome said.pieces (λ n. (1 ≤ n) × (n ≤ 16))
   pub until : IfSome said.until (λ e. e ≤ 1000000000)
 
+-- 1 to 256 blocks
+pub record IsLawfulAverage (order : AverageOrder) : Type 0 where
+  pub some : 1 ≤ order.blocks
+  pub few : order.blocks ≤ 256
+
 -- the same of the order of a command
 abbrev pub IsLawfulCommand : Command → Type 0
 IsLawfulCommand (Plain order) = Unit {0}
 IsLawfulCommand (Check name) = Unit {0}
 IsLawfulCommand (Run order) = IsLawfulOrder order
+IsLawfulCommand (Average order) = IsLawfulAverage order

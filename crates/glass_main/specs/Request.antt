@@ -14,7 +14,9 @@ use Rattle.run_plan.specs.Amounts.{amount_refusal}
 use Rattle.run_plan.specs.declared.run_file.CouplingSource.{CouplingSource}
 use Rattle.run_plan.specs.declared.run_file.CouplingSource.TheVariants as sources
 use Rattle.run_plan.specs.PlanOf.{plan_with}
-use Rattle.glass_main.specs.CommandLine.{PlainOrder, RunOrder, Command, Plain, Check, Run, command_of}
+use Rattle.sample_average.specs.Averages.{AveragesView, averages_text}
+use Rattle.sample_average.specs.ReadReport.{averages_in}
+use Rattle.glass_main.specs.CommandLine.{PlainOrder, RunOrder, AverageOrder, Command, Plain, Check, Run, Average, command_of}
 use Rattle.glass_main.specs.Texts.{plain_text, check_text, run_text}
 use Rattle.glass_main.specs.declared.planned.Planned.{Planned}
 use Rattle.glass_main.specs.declared.role.Role.{Role}
@@ -29,12 +31,14 @@ pub data Work : Type 0 where
   PlainWork : PlainOrder → Work
   CheckWork : Planned → Work
   RunWork : Planned → ℕ → Work
+  AverageWork : AveragesView → Work
 
 -- the text that the work prints
 abbrev pub text_of : Work → List ℕ
 text_of (PlainWork order) = plain_text order
 text_of (CheckWork planned) = check_text planned
 text_of (RunWork planned until) = run_text planned until
+text_of (AverageWork averages) = averages_text averages
 
 -- ---- steps
 
@@ -59,6 +63,7 @@ limit_of roles.RunFile = 1048576
 limit_of roles.RuleTable = 65536
 limit_of roles.SwapTable = 4194304
 limit_of roles.Couplings = 25165872
+limit_of roles.Report = 67108864
 
 -- the bytes of a file, unless the name isn't held or they are too many
 abbrev pub bytes_in : Role → Option (List ℕ) → Result (List ℕ) Refusal
@@ -122,6 +127,10 @@ run_work planned until = told_as refused.Plan (unless (amount_refusal planned.pl
 abbrev pub until_of : RunOrder → Planned → ℕ
 until_of order planned = unwrap_or order.until planned.orders.epochs
 
+-- the averages of the report of a name, in so many blocks of its samples
+unfoldable pub averages_at : AverageOrder → Files → Result AveragesView Refusal
+averages_at order files = and_then (bytes_at roles.Report order.report files) (λ bytes. told_as refused.Report (averages_in order.blocks bytes))
+
 -- ---- requests
 
 -- what a command asks for; none where it depends on files that aren't observable
@@ -129,6 +138,7 @@ abbrev pub request_of : Command → Option Files → Option (Result Work Refusal
 request_of (Plain order) files = Some (Ok (PlainWork order))
 request_of (Check name) files = option_map (λ held. and_then (plan_at name held) (λ planned. Ok (CheckWork planned))) files
 request_of (Run order) files = option_map (λ held. and_then (plan_at order.run held) (λ planned. run_work planned (until_of order planned))) files
+request_of (Average order) files = option_map (λ held. and_then (averages_at order held) (λ averages. Ok (AverageWork averages))) files
 
 -- the same of words that may be no command
 abbrev pub request_for : Option Command → Option Files → Option (Result Work Refusal)

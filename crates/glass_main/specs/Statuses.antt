@@ -8,9 +8,9 @@ use Rattle.glass_main.specs.Outside.{Output, Store}
 use Rattle.glass_main.specs.Request.{Work, limit_of, IsAccepted, text_of, text_asked, request_for}
 use Rattle.glass_main.specs.Lines.{line_of}
 use Rattle.glass_main.specs.declared.role.Role.{Role}
-use Rattle.glass_main.specs.declared.role.Role.TheVariants.{RunFile, RuleTable, SwapTable, Couplings as CouplingsFile}
+use Rattle.glass_main.specs.declared.role.Role.TheVariants.{RunFile, RuleTable, SwapTable, Couplings as CouplingsFile, Report as ReportFile}
 use Rattle.glass_main.specs.declared.refusal.Refusal.{Refusal}
-use Rattle.glass_main.specs.declared.refusal.Refusal.TheVariants.{Words, Absent, TooLong, Plan, Rules, Swaps, Couplings}
+use Rattle.glass_main.specs.declared.refusal.Refusal.TheVariants.{Words, Absent, TooLong, Plan, Rules, Swaps, Couplings, Report}
 use Rattle.glass_main.specs.declared.ending.Ending.{Ending}
 use Rattle.glass_main.specs.declared.ending.Ending.TheVariants.{Done, Refused, Unread, Unwritten, NoMemory}
 
@@ -22,6 +22,7 @@ role_status RunFile = 3
 role_status RuleTable = 4
 role_status SwapTable = 4
 role_status CouplingsFile = 5
+role_status ReportFile = 12
 
 -- of a refusal
 abbrev pub refusal_status : Refusal → ℕ
@@ -32,6 +33,7 @@ refusal_status (Plan refused) = 3
 refusal_status (Rules refused) = 4
 refusal_status (Swaps refused) = 4
 refusal_status (Couplings refused) = 5
+refusal_status (Report refused) = 12
 
 -- of an ending
 abbrev pub status_of : Ending → ℕ
@@ -53,6 +55,7 @@ IsTold (Plan refused) told = told ≡ Plan refused
 IsTold (Rules refused) told = told ≡ Rules refused
 IsTold (Swaps refused) told = told ≡ Swaps refused
 IsTold (Couplings refused) told = told ≡ Couplings refused
+IsTold (Report refused) told = told ≡ Report refused
 
 -- what is asked for is refused, and this is told
 abbrev pub IsRefusedBy : {A : Type 0} → Result A Refusal → Refusal → Type 0

@@ -6,8 +6,9 @@ ghost use Rattle.glass_main.specs.ReadCommand.{read_command, read_order, IsLawfu
 ghost use Rattle.glass_main.specs.Words as model;
 ghost use Rattle.glass_main.specs.Words.{texts, size_word};
 
+use crate::average_words::{AverageOrder, read_average};
 use crate::run_words::{RunOrder, read_run};
-use crate::words::{is_file_name, number_word, word_at};
+use crate::words::{name_word, number_word, word_at};
 use lattice_geometry::Lattice;
 
 /// What `plain` asks for: the lattice, the number of sweeps, the seed, and the seven thresholds,
@@ -29,6 +30,8 @@ pub enum Command<'a> {
     Check(&'a str),
     /// A run.
     Run(RunOrder<'a>),
+    /// Averages of a report.
+    Average(AverageOrder<'a>),
 }
 
 /// Reads the words. It takes no memory.
@@ -56,6 +59,12 @@ pub(crate) fn read_words(words: &[String]) -> Option<Command<'_>>
             None => None,
         };
     }
+    if name == "average" {
+        return match read_average(words) {
+            Some(order) => Some(Command::Average(order)),
+            None => None,
+        };
+    }
     None
 }
 
@@ -67,12 +76,7 @@ fn read_check(words: &[String]) -> Option<&str>
     if words.len() != 2 {
         return None;
     }
-    let run = word_at(words, 1);
-    if is_file_name(run) && !run.starts_with("--") {
-        Some(run)
-    } else {
-        None
-    }
+    name_word(word_at(words, 1))
 }
 
 // The words of `plain`.

@@ -5,7 +5,7 @@ ghost use Rattle.coupling_set.specs.BondsAsWords.{couplings_with};
 ghost use Rattle.spin_model.specs.Couplings.{plus, random};
 ghost use Rattle.run_plan.specs.RunFile.{IsLawfulRunFile, AreLawfulOrders};
 ghost use Rattle.run_plan.specs.PlanOf.{plan_with};
-ghost use Rattle.glass_main.specs.Endings.{IsReached, IsReachedAfter, IsReachedAfterRules};
+ghost use Rattle.glass_main.specs.Endings.{IsOfRun, IsReached, IsReachedAfter, IsReachedAfterRules};
 ghost use Rattle.glass_main.specs.Gathers.{Gathers, Fetches, gathered};
 ghost use Rattle.glass_main.specs.Outside.{store};
 ghost use Rattle.glass_main.specs.Request as model;
@@ -202,13 +202,14 @@ fn make_random(alloc: Global, lattice: Lattice, seed: u64) -> Result<Couplings, 
     Ok(couplings)
 }
 
-// Fetches the bytes of a file. A fetch that failed is not tried again.
+// Fetches the bytes of a file that a run reads. A fetch that failed is not tried again.
 fn gather_bytes<H: Shelf>(
     alloc: Global,
     shelf: &mut H,
     role: Role,
     name: &str,
 ) -> Result<Items<u8>, Ending>
+    requires { IsOfRun role }
     ensures { Gathers (option_map (model.bytes_at role name.now) (H.holds shelf.old))
         (Fetches role) result
         (store H.holds H.faults H.lengths shelf.old) (store H.holds H.faults H.lengths shelf.new) }
@@ -216,8 +217,8 @@ fn gather_bytes<H: Shelf>(
     gathered(role, shelf.fetch(alloc, name, role.limit()))
 }
 
-// What is made of a fetch's answer.
-fn gathered(role: Role, fetched: Fetched) -> Result<Items<u8>, Ending>
+/// What is made of a fetch's answer.
+pub(crate) fn gathered(role: Role, fetched: Fetched) -> Result<Items<u8>, Ending>
     ensures { result ≡ gathered role fetched }
 {
     match fetched {

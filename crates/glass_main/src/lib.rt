@@ -1,6 +1,8 @@
 //! The program's top call: from the words of the command line to the bytes and the exit status.
 #![tactic(auto)]
 
+mod average;
+mod average_words;
 mod check;
 mod command_line;
 mod couplings_lines;
@@ -12,6 +14,7 @@ mod plain;
 mod plan_lines;
 mod planned;
 mod refusal;
+mod report_lines;
 mod role;
 mod run;
 mod run_words;
@@ -20,6 +23,7 @@ mod table_lines;
 mod top;
 mod words;
 
+pub use average_words::AverageOrder;
 pub use command_line::{Command, PlainOrder};
 pub use ending::Ending;
 pub use lines::no_memory;

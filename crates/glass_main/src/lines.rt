@@ -9,6 +9,7 @@ use crate::couplings_lines::say_couplings;
 use crate::ending::{Ending, status};
 use crate::plan_lines::say_plan;
 use crate::refusal::Refusal;
+use crate::report_lines::say_report;
 use crate::role::Role;
 use crate::table_lines::say_table;
 use glass_edges::{Line, Sink, put_all};
@@ -56,6 +57,7 @@ fn say_refusal<E: Sink>(err: &mut E, refusal: &Refusal)
         Refusal::Rules(refused) => say_table(err, Role::RuleTable, refused),
         Refusal::Swaps(refused) => say_table(err, Role::SwapTable, refused),
         Refusal::Couplings(refused) => say_couplings(err, refused),
+        Refusal::Report(refused) => say_report(err, refused),
     }
 }
 

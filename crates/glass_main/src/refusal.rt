@@ -6,6 +6,7 @@ ghost use Rattle.glass_main.specs.Statuses.{role_status, refusal_status};
 use crate::role::Role;
 use coupling_set::CouplingsRefused;
 use run_plan::PlanRefused;
+use sample_average::ReportRefused;
 use threshold_table::TableRefused;
 
 /// Why a request is refused.
@@ -25,6 +26,8 @@ pub enum Refusal {
     Swaps(TableRefused),
     /// The couplings file is refused.
     Couplings(CouplingsRefused),
+    /// The report is refused.
+    Report(ReportRefused),
 }
 
 /// The exit status of a refusal.
@@ -39,6 +42,7 @@ pub(crate) fn refusal_status(refusal: &Refusal) -> u8
         Refusal::Rules(_) => 4,
         Refusal::Swaps(_) => 4,
         Refusal::Couplings(_) => 5,
+        Refusal::Report(_) => 12,
     }
 }
 
@@ -50,5 +54,6 @@ fn role_status(role: Role) -> u8
         Role::RuleTable => 4,
         Role::SwapTable => 4,
         Role::Couplings => 5,
+        Role::Report => 12,
     }
 }

@@ -11,6 +11,7 @@ pub enum Role {
     RuleTable,
     SwapTable,
     Couplings,
+    Report,
 }
 
 impl Role {
@@ -25,6 +26,7 @@ impl Role {
             Role::RuleTable => b"rule table",
             Role::SwapTable => b"swap table",
             Role::Couplings => b"couplings file",
+            Role::Report => b"report",
         }
     }
 
@@ -37,6 +39,7 @@ impl Role {
             Role::RuleTable => 65536,
             Role::SwapTable => 4194304,
             Role::Couplings => 25165872,
+            Role::Report => 67108864,
         }
     }
 }

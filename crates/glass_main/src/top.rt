@@ -8,6 +8,7 @@ ghost use Rattle.glass_main.specs.Request.{request};
 ghost use Rattle.glass_main.specs.Statuses.{Ends, Answers, Does, Completes, TellsFaults};
 ghost use Rattle.glass_main.specs.Words.{texts};
 
+use crate::average::average;
 use crate::check::check;
 use crate::command_line::{Command, read_words};
 use crate::ending::{Ending, status};
@@ -24,8 +25,9 @@ use std::alloc::Global;
 /// Status 0: all is done, and `err` got nothing. Status 2: the words are no command. Status 3: the
 /// run file is refused, or the amount that a run would print. Status 4: a table is refused. Status
 /// 7: the store holds no file of the name that is read next. Status 8: the store failed. Status 9:
-/// the output failed. Status 11: memory ran out, which no clause ties to a growth that failed. With a
-/// status other than 0 `err` got one line, or a prefix of it where it failed itself.
+/// the output failed. Status 11: memory ran out, which no clause ties to a growth that failed. Status
+/// 12: the report is refused. With a status other than 0 `err` got one line, or a prefix of it where
+/// it failed itself.
 ///
 /// `plain` reads no file, and ends with 0, 9 or 11; words that are no command end with 2 alone.
 pub fn glass<R: Sync, H: Shelf, O: Sink, E: Sink, G: Gate + Sync>(
@@ -89,5 +91,6 @@ fn answer<R: Sync, H: Shelf, O: Sink, G: Gate + Sync>(
         Some(Command::Plain(order)) => plain(alloc, shelf, out, &order),
         Some(Command::Check(name)) => check(alloc, shelf, out, name),
         Some(Command::Run(order)) => run(rt, alloc, shelf, out, gate, &order),
+        Some(Command::Average(order)) => average(alloc, shelf, out, &order),
     }
 }

@@ -1,8 +1,9 @@
 //! Words of the command line, and the numbers that some of them write.
 
-ghost use Rattle.std.specs.Prelude.{◌≡◌, ◌≤◌, length, IsTrue};
+ghost use Rattle.std.specs.Prelude.{◌≡◌, ◌≤◌, length, IsTrue, option_map};
 ghost use Rattle.std.specs.List.{list_all};
 ghost use Rattle.threshold_table.specs.TableText.{is_digit, value_of};
+ghost use Rattle.glass_main.specs.CommandLine as commands;
 ghost use Rattle.glass_main.specs.CommandLine.{is_file_name};
 ghost use Rattle.glass_main.specs.Words as model;
 ghost use Rattle.glass_main.specs.Words.{texts};
@@ -22,6 +23,17 @@ pub(crate) fn is_file_name(word: &str) -> bool
     ensures { result ≡ is_file_name word.now }
 {
     1 <= word.len() && word.len() <= 255
+}
+
+/// A word that can name a file and is no option.
+pub(crate) fn name_word(word: &str) -> Option<&str>
+    ensures { option_map (λ name. name.now) result ≡ commands.name_word word.now }
+{
+    if is_file_name(word) && !word.starts_with("--") {
+        Some(word)
+    } else {
+        None
+    }
 }
 
 /// The value of a word of one to twenty decimal digits that lies from `low` to `high`.

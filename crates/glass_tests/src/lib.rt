@@ -2,6 +2,8 @@
 #![tactic(auto)]
 
 #[cfg(test)]
+mod average;
+#[cfg(test)]
 mod called;
 #[cfg(test)]
 mod check;
