@@ -131,6 +131,15 @@ bit-tells : (a : Bool) → ((a ≡ true) × (bit a ≡ 2)) ⊎ ((a ≡ false) ×
 bit-tells true = inl (refl, refl)
 bit-tells false = inr (refl, refl)
 
+-- as many hand-outs as the starting state has behind it lead to its places
+pub taken-begun : (o : Origin) → IsLawfulOrigin o → taken (map start_place o.base.places) ≡ taken_before o
+taken-begun o l =
+    let ps : List Stage = map start_place o.base.places in
+    let p : ℕ → Position = λ t. position_in (positions_in o) t in
+    let long : length ps ≡ slots_in o = length-map o.base.places start_place ∙ l.base.places in
+    ap (sum_below (λ t. begun (numbers ps t))) long ∙ sum-same (λ t. begun (numbers ps t)) (λ t. done (p t)) (slots_in o)
+    (λ t h. let s = begun-at o t in ap begun (ap₂ (λ x y. 4 * x + y) s.0 s.1) ∙ begun-done (p t).epoch (p t).waits)
+
 -- what an opening has made
 pub record Made (b : board.Inside) : Type 0 where
   pub lawful : IsLawfulOrigin (arc_value b.origin)
@@ -194,9 +203,7 @@ made-keeps b m =
     let number : (j : ℕ) → numbers ps j ≡ started o j = λ j. let s = begun-at o j in ap₂ (λ x y. 4 * x + y) s.0 s.1 in
     let content_is : (i t : ℕ) → content_at o (epochs ps) (phases ps) i t ≡ slot_at (starts o i).slots t = λ i t.
     let s = begun-at o t in ap₂ (λ e a. rule_content o i t e a) s.0 (ap (λ n. n == 2) s.1 ∙ told (position_in (positions_in o) t).waits) ∙ content-start (plan_of o) (starts o i) t in
-    let taken_is : taken ps ≡ taken_before o =
-    ap (sum_below (λ t. begun (numbers ps t))) long ∙ sum-same (λ t. begun (numbers ps t)) (λ t. done (position_in (positions_in o) t)) (slots_in o)
-    (λ t h. ap begun (number t) ∙ begun-done (position_in (positions_in o) t).epoch (position_in (positions_in o) t).waits) in
+    let taken_is = taken-begun o l in
     record {
       lawful = l;
       slots_long = m.slots.count ∙ l.base.places;

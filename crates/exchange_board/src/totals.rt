@@ -10,6 +10,7 @@ use bit_totals::{agreeing, unsatisfied};
 use multispin_word::Planes;
 use plane_sweep::{Duo, sweep_often};
 use scalar_rule::{Plan, Record};
+use std::thread::Threads;
 
 /// The sums of a slot after its sweeps, as twenty bit planes of 64 samples: the unsatisfied bonds of
 /// both replicas, 0 to 3V for V sites, and the sites at which they agree, 0 to V.
@@ -35,7 +36,13 @@ pub(crate) fn totals_of(duo: &Duo, plan: &Plan) -> Totals
 
 /// The sweeps of an epoch of both replicas of a slot.
 #[tactic(auto, unfolding(scalar_rule::specs::Epoch::swept_slot))]
-pub(crate) fn sweep_slot<R: Sync>(rt: &R, duo: &mut Duo, plan: &Plan, slot: u32, pieces: u32)
+pub(crate) fn sweep_slot<R: Threads + Sync>(
+    rt: &R,
+    duo: &mut Duo,
+    plan: &Plan,
+    slot: u32,
+    pieces: u32,
+)
     requires duo { FitsDuo plan.now.size duo.old }
     requires slot { slot < slots_of plan.now }
     requires some_pieces { 1 ≤ pieces }

@@ -1,4 +1,4 @@
--- A turn of a run, and its end.
+-- The end of a run.
 use Rattle.std.proofs.Common.{arith, ◌≡◌, ◌⊎◌, inl, inr, ℕ, ◌+◌, ◌-◌, ◌<◌, List, set, refl, sym, ap, ◌∙◌, subst}
 use Rattle.exchange_board.specs.declared.origin.Origin.{Origin}
 use Rattle.exchange_board.specs.Answers.{stages_of, Takes, IsSpent}
@@ -11,26 +11,6 @@ use Rattle.glass_engine.specs.Runs.{RunView, IsOriginOf, IsEnd}
 use Rattle.glass_engine.specs.declared.run.Run.TheInside as run
 use Rattle.glass_engine.specs.declared.done.Done.TheInside as done
 use Rattle.glass_engine.proofs.Steps.{turned-none, turned-taken}
-
--- a hand-out and its hand-back
-pub turn : (b m d : BoardView) (j : JobView) → Takes b m j → d ≡ placed m (after m.places j.slot j.epoch)
-    → d ≡ placed b (after (set b.places j.slot (out_at j.epoch)) j.slot j.epoch)
-turn b m d j t is = is ∙ ap (λ (x : BoardView). placed x (after x.places j.slot j.epoch)) t.after
-
-pub turn-origin : (b m d : BoardView) (j : JobView) → Takes b m j → d ≡ placed m (after m.places j.slot j.epoch) → d.origin ≡ b.origin
-turn-origin b m d j t is = ap (λ (x : BoardView). x.origin) (turn b m d j t is)
-
-pub turn-home : (b m d : BoardView) (j : JobView) → Takes b m j → d ≡ placed m (after m.places j.slot j.epoch) → NoneOut b.places → NoneOut d.places
-turn-home b m d j t is none =
-    let P : BoardView → Type 0 = λ x. NoneOut x.places in
-    subst P (sym (turn b m d j t is)) (turned-none b.places j.slot j.epoch t.known none)
-
-pub turn-smaller : (b m d : BoardView) (j : JobView) → Takes b m j → d ≡ placed m (after m.places j.slot j.epoch)
-    → taken_before d.origin + d.origin.window.takes - taken d.places < taken_before b.origin + b.origin.window.takes - taken b.places
-turn-smaller b m d j t is =
-    let same : taken_before d.origin + d.origin.window.takes ≡ taken_before b.origin + b.origin.window.takes = ap (λ (o : Origin). taken_before o + o.window.takes) (turn-origin b m d j t is) in
-    let more : taken d.places ≡ taken b.places + 1 = ap (λ (x : BoardView). taken x.places) (turn b m d j t is) ∙ turned-taken b.places j.slot j.epoch t.known t.ready in
-    omega (arith, same, more, t.left)
 
 -- a board that stopped with no more to do
 pub record HasEnded (b : BoardView) (d : RaggedEndedView) : Type 0 where
@@ -57,16 +37,16 @@ end-of run b d origin lawful h =
       ];
     }
 
-pub run-ends : (r : run.Inside) (b : BoardView) (d : RaggedEndedView) → KeepsRun r → b.origin ≡ r.board.origin → HasEnded b d → IsEnd (run_view r) d
+pub run-ends : (r : run.Inside) (b : BoardView) (d : RaggedEndedView) → KeepsRun r → b.origin ≡ r.opened.value.origin → HasEnded b d → IsEnd (run_view r) d
 run-ends r b d keeps same h =
     let P : Origin → Type 0 = λ o. IsOriginOf (run_view r) o in
     let L : Origin → Type 0 = λ o. IsLawfulOrigin o in
     end-of (run_view r) b d (subst P (sym (h.stop.same ∙ same)) keeps.origin) (subst L (sym (h.stop.same ∙ same)) keeps.lawful) h
 
-pub done-keeps : (r : run.Inside) (b : BoardView) (d : RaggedEndedView) → KeepsRun r → b.origin ≡ r.board.origin → HasEnded b d
+pub done-keeps : (r : run.Inside) (b : BoardView) (d : RaggedEndedView) → KeepsRun r → b.origin ≡ r.opened.value.origin → HasEnded b d
     → KeepsDone (record { ended = d; orders = r.orders; save = r.save })
 done-keeps r b d keeps same h =
-    let there : d.origin ≡ r.board.origin = h.stop.same ∙ same in
+    let there : d.origin ≡ r.opened.value.origin = h.stop.same ∙ same in
     let x : done.Inside = record { ended = d; orders = r.orders; save = r.save } in
     let every = ap (λ (o : Origin). o.window.every) there ∙ keeps.origin.every_is in
     let samples = ap (λ (o : Origin). o.window.samples) there ∙ keeps.origin.samples_is in

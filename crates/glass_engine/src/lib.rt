@@ -10,6 +10,7 @@ mod rows;
 mod run;
 #[cfg(test)]
 mod tests;
+mod workers;
 
 pub use done::Done;
 pub use driving::drive;

@@ -2,7 +2,7 @@
 use Rattle.std.proofs.Common.{inl, inr, ◌≡◌, ℕ, zero, suc, ◌+◌, ◌<◌, List, [], ◌∷◌, ◌++◌, All, map, take, length, get_or, set, refl, sym, ap, ◌∙◌, subst, arith}
 use Rattle.std.proofs.lemmas.Bool.{cases_lt, cases_eq}
 use Rattle.std.proofs.lemmas.List.Elements.{All-append}
-use Rattle.std.proofs.lemmas.List.{length_push, length-set, get_or_append_left, get_or_push, get_or-set_same, get_or-set_other, get_or_read, length-map, get_or-map, take_more, map_more}
+use Rattle.std.proofs.lemmas.List.{length_push, length-set, get_or_append_left, get_or_push, get_or-set_same, get_or-set_other, get_or_read, get_or_past, length-map, get_or-map, take_more, map_more}
 use Rattle.spin_model.specs.Steps.{table}
 use Rattle.spin_model.proofs.Tables.{table-of_items}
 use Rattle.plane_sweep.specs.Beginnings.{Each}
@@ -55,6 +55,14 @@ changed-more {A = A} Becomes n old xs x y before within read here =
       ];
       kept = λ k d later. get_or-set_other xs n k y d (λ same. absurd (omega arith)) ∙ before.kept k d (omega arith);
     }
+
+-- a list each of whose items is changed at its place
+pub changed-each : {A : Type 0} (Becomes : ℕ → A → A → Type 0) (n : ℕ) (old new : List A) → length old ≡ n → length new ≡ length old → ((k : ℕ) (d : A) → k < length old → Becomes k (get_or old k d) (get_or new k d)) → Changed Becomes n old new
+changed-each Becomes n old new whole sized each = record {
+  sized = sized;
+  done = λ k d below. each k d (omega arith);
+  kept = λ k d later. get_or_past new k d (omega arith) ∙ sym (get_or_past old k d (omega arith));
+}
 
 -- what each changed item is, whatever its place was
 pub all-changed : {A : Type 0} (Becomes : ℕ → A → A → Type 0) (P : A → Type 0) (n : ℕ) (old new : List A) → Changed Becomes n old new → length old ≡ n → ((k : ℕ) (x y : A) → k < n → Becomes k x y → P y) → All P new

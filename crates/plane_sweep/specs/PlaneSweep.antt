@@ -1,9 +1,9 @@
 -- The sweep of the sites of one colour in a plane, for 64 samples at once.
-use Rattle.std.specs.Prelude.{◌≡◌, ℕ, ◌+◌, ◌*◌, ◌/◌, ◌%◌, ◌^◌, ◌<◌, ◌≤◌, ◌==◌, if◌then◌else◌, bit_xor, List, [], ◌∷◌, take, drop, length, slice_index, count_by}
+use Rattle.std.specs.Prelude.{◌≡◌, ℕ, ◌+◌, ◌*◌, ◌/◌, ◌%◌, ◌^◌, ◌<◌, ◌≤◌, ◌==◌, if◌then◌else◌, bit_xor, List, [], ◌∷◌, take, drop, length, slice_index, count_by, All}
 use Rattle.coupling_set.specs.CouplingWords.{CouplingsView}
 use Rattle.local_rule.specs.SiteBits.{site_bits, set_count}
 use Rattle.scalar_rule.specs.Neighbours.{agree}
-use Rattle.spin_model.specs.Lattice.{half_plane, next, previous}
+use Rattle.spin_model.specs.Lattice.{half_plane, next, previous, IsLawfulSize}
 use Rattle.spin_model.specs.SiteRule.{Rule, new_spin}
 use Rattle.spin_model.specs.Stream.{advanced, draws}
 use Rattle.spin_model.specs.Words.{is_set}
@@ -90,6 +90,15 @@ pub record SweepsRow (s : Surroundings) (rule : SlotRule) (draws : List ℕ) (ro
   pub done : (k : ℕ) → m ≤ k → k < n → SweepsWord (rule_of rule.kind) rule.row.values (pulls_lent s row k) (slice_index draws (row.here + k)) (slice_index old (row.here + k)) (slice_index new (row.here + k))
   pub before : (j : ℕ) → j < row.here + m → slice_index new j ≡ slice_index old j
   pub after : (j : ℕ) → row.here + n ≤ j → slice_index new j ≡ slice_index old j
+
+-- plane z of colour c may be swept, by these planes of the other colour
+pub record CanSweep (couplings : CouplingsView) (other : List Plane) (c z : ℕ) (plane : Plane) : Type 0 where
+  pub lawful : IsLawfulSize couplings.size
+  pub fits : FitsPlane couplings.size plane
+  pub others : length other ≡ couplings.size
+  pub others_fit : All (FitsPlane couplings.size) other
+  pub is_colour : c < 2
+  pub known : z < couplings.size
 
 -- a plane after its half sweep: its words from the other colour's planes, its generator a draw for each site further
 pub record SweepsPlane (couplings : CouplingsView) (other : List Plane) (rule : SlotRule) (c z : ℕ) (old new : Plane) : Type 0 where

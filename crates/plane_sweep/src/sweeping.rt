@@ -2,7 +2,7 @@
 
 ghost use Rattle.std.specs.Prelude.{◌≡◌, ℕ, ◌*◌, ◌<◌, ◌≤◌, length, All};
 ghost use Rattle.plane_sweep.specs.Packed.{part_copy, FitsPlane, FitsReplica};
-ghost use Rattle.plane_sweep.specs.PlaneSweep.{SweepsPlane, SweepsColours};
+ghost use Rattle.plane_sweep.specs.PlaneSweep.{CanSweep, SweepsPlane, SweepsColours};
 ghost use Rattle.plane_sweep.specs.Storing.{Changed};
 ghost use Rattle.scalar_rule.specs.Plan.{dynamics_of, slots_of};
 ghost use Rattle.scalar_rule.specs.Replica.{configuration_of, with_configuration};
@@ -13,11 +13,17 @@ use crate::replica::{Plane, Replica};
 use crate::rows::{SlotRule, sweep_words};
 use coupling_set::Couplings;
 use scalar_rule::Plan;
+use std::thread;
+use std::thread::Threads;
+
+// The least size whose planes are swept by threads: a smaller lattice is done sooner than they start.
+const LEAST_FORKED: usize = 48;
 
 /// A sweep of one replica of a temperature slot, in all 64 samples at once: the half sweep of colour
-/// 0, then that of colour 1, which sees the new spins of colour 0. The planes of a colour may be cut
-/// into as many runs as there are `pieces`, 1 to 16; they are swept in one. Takes no memory.
-pub fn sweep<R: Sync>(_rt: &R, replica: &mut Replica, plan: &Plan, slot: u32, pieces: u32)
+/// 0, then that of colour 1, which sees the new spins of colour 0. The planes of a colour are cut into
+/// at most as many runs as there are `pieces`, 1 to 16, which are swept by fork and join; those of a
+/// lattice too small to gain are one run. What it leaves does not depend on `pieces`. Takes no memory.
+pub fn sweep<R: Threads + Sync>(rt: &R, replica: &mut Replica, plan: &Plan, slot: u32, pieces: u32)
     requires replica { FitsReplica plan.now.size replica.old }
     requires slot { slot < slots_of plan.now }
     requires some_pieces { 1 ≤ pieces }
@@ -27,13 +33,11 @@ pub fn sweep<R: Sync>(_rt: &R, replica: &mut Replica, plan: &Plan, slot: u32, pi
         (model.sweep (dynamics_of plan.now b slot) (configuration_of (part_copy plan.now.size b replica.old))) }
     ensures fits { FitsReplica plan.now.size replica.new }
 {
-    // Until runs are forked the number of pieces changes nothing.
-    let _ = pieces;
-    sweep_replica(replica, plan, slot);
+    sweep_replica(rt, replica, plan, slot, pieces as usize);
 }
 
 /// That many sweeps of a replica of a temperature slot, as `sweep` makes one.
-pub fn sweep_often<R: Sync>(
+pub fn sweep_often<R: Threads + Sync>(
     rt: &R,
     replica: &mut Replica,
     plan: &Plan,
@@ -55,10 +59,17 @@ pub fn sweep_often<R: Sync>(
     }
 }
 
-// A sweep, in one run a colour.
-fn sweep_replica(replica: &mut Replica, plan: &Plan, slot: u32)
+// A sweep by the rule of the slot.
+fn sweep_replica<R: Threads + Sync>(
+    rt: &R,
+    replica: &mut Replica,
+    plan: &Plan,
+    slot: u32,
+    pieces: usize,
+)
     requires replica { FitsReplica plan.now.size replica.old }
     requires slot { slot < slots_of plan.now }
+    requires pieces { 1 ≤ pieces }
     ensures swept { (b : ℕ) → b < 64 → part_copy plan.now.size b replica.new
         ≡ with_configuration (part_copy plan.now.size b replica.old)
         (model.sweep (dynamics_of plan.now b slot) (configuration_of (part_copy plan.now.size b replica.old))) }
@@ -69,18 +80,30 @@ fn sweep_replica(replica: &mut Replica, plan: &Plan, slot: u32)
         row: *plan.rules().row(slot),
     };
     let size = plan.lattice().size() as usize;
-    sweep_colours(replica.planes.as_mut_slice(), plan.couplings(), &rule, size);
+    let planes = replica.planes.as_mut_slice();
+    sweep_colours(rt, planes, plan.couplings(), &rule, size, pieces);
 }
 
-// The same. The room for the draws is cleared in each sweep, so a small lattice takes less of it.
-fn sweep_colours(planes: &mut [Plane], couplings: &Couplings, rule: &SlotRule, size: usize)
+// The same, of a list of planes. The room for the draws is cleared in each sweep, so a small lattice
+// takes less of it.
+fn sweep_colours<R: Threads + Sync>(
+    rt: &R,
+    planes: &mut [Plane],
+    couplings: &Couplings,
+    rule: &SlotRule,
+    size: usize,
+    pieces: usize,
+)
     requires size { size ≡ couplings.now.size }
+    requires pieces { 1 ≤ pieces }
     requires lawful { IsLawfulSize couplings.now.size }
     requires count { length planes.old ≡ 2 * couplings.now.size }
     requires planes { All (FitsPlane couplings.now.size) planes.old }
     ensures { SweepsColours couplings.now rule.now planes.old planes.new }
 {
-    if size <= 16 {
+    if pieces > 1 && size >= LEAST_FORKED {
+        fork_both(rt, planes, couplings, rule, size, pieces);
+    } else if size <= 16 {
         sweep_both(planes, couplings, rule, &mut [0u32; 128], size);
     } else {
         sweep_both(planes, couplings, rule, &mut [0u32; 2048], size);
@@ -104,6 +127,73 @@ fn sweep_both(
     let (first, second) = planes.split_at_mut(size);
     sweep_colour(first, second, couplings, rule, draws, 0);
     sweep_colour(second, first, couplings, rule, draws, 1);
+}
+
+// The same, each colour in at most so many runs of planes.
+fn fork_both<R: Threads + Sync>(
+    rt: &R,
+    planes: &mut [Plane],
+    couplings: &Couplings,
+    rule: &SlotRule,
+    size: usize,
+    pieces: usize,
+)
+    requires size { size ≡ couplings.now.size }
+    requires lawful { IsLawfulSize couplings.now.size }
+    requires pieces { 1 ≤ pieces }
+    requires count { length planes.old ≡ 2 * couplings.now.size }
+    requires planes { All (FitsPlane couplings.now.size) planes.old }
+    ensures { SweepsColours couplings.now rule.now planes.old planes.new }
+{
+    let (first, second) = planes.split_at_mut(size);
+    fork_colour(rt, first, second, couplings, rule, pieces, 0);
+    fork_colour(rt, second, first, couplings, rule, pieces, 1);
+}
+
+// The planes of a colour, in at most so many runs. Where no thread can be started, the caller sweeps
+// its run.
+fn fork_colour<R: Threads + Sync>(
+    rt: &R,
+    own: &mut [Plane],
+    other: &[Plane],
+    couplings: &Couplings,
+    rule: &SlotRule,
+    pieces: usize,
+    colour: u32,
+)
+    requires own { length own.old ≡ couplings.now.size }
+    requires lawful { IsLawfulSize couplings.now.size }
+    requires planes { All (FitsPlane couplings.now.size) own.old }
+    requires other { length other.now ≡ couplings.now.size }
+    requires others { All (FitsPlane couplings.now.size) other.now }
+    requires pieces { 1 ≤ pieces }
+    requires colour { colour < 2 }
+    ensures { Changed (SweepsPlane couplings.now other.now rule.now colour) couplings.now.size own.old own.new }
+{
+    thread::for_each_mut(
+        rt,
+        own,
+        pieces,
+        &|z, plane| -> ()
+            requires { CanSweep couplings.now other.now colour z plane.now }
+            ensures { SweepsPlane couplings.entry.now other.entry.now rule.entry.now colour z plane.entry.now plane.exit.now }
+        { sweep_alone(plane, other, couplings, rule, colour, z as u32) },
+    );
+}
+
+// A plane with a room for draws of its own, since another thread sweeps another plane.
+fn sweep_alone(
+    plane: &mut Plane,
+    other: &[Plane],
+    couplings: &Couplings,
+    rule: &SlotRule,
+    colour: u32,
+    z: u32,
+)
+    requires ready { CanSweep couplings.now other.now colour z plane.old }
+    ensures { SweepsPlane couplings.now other.now rule.now colour z plane.old plane.new }
+{
+    sweep_plane(plane, other, couplings, rule, &mut [0u32; 2048], colour, z);
 }
 
 // The planes of a colour, each of them by the planes of the other colour.

@@ -1,6 +1,6 @@
 //! The packed state against the states of its samples, each made by itself.
 
-ghost use Rattle.std.specs.Prelude.{◌≡◌, ◌<◌, IfOk};
+ghost use Rattle.std.specs.Prelude.{◌≡◌, ◌<◌, ◌≤◌, IfOk};
 ghost use Rattle.plane_sweep.specs.Packed.{PermutesLabels, StandFits};
 ghost use Rattle.scalar_rule.specs.Shape.{Fits};
 ghost use Rattle.spin_model.specs.Lattice.{volume};
@@ -12,6 +12,7 @@ use pr_generator::Wheel;
 use scalar_rule::{PlainCopy, PlainPair, PlainSlot, Plan, Sample, Start};
 use std::alloc::Global;
 use std::test::Fail;
+use std::thread::Threads;
 use threshold_table::{RuleKind, RuleRow, RuleTable, SwapTable};
 
 // Thresholds at 0 to 6 aligned neighbours, and at 4 to 6 satisfied bonds.
@@ -167,13 +168,14 @@ fn a_level_state_is_made_and_copied(rt: HostRuntime) -> Result<(), Fail> {
 }
 
 // Two sweeps of replica 0 of slot 0, in all samples.
-fn sweep_packed(rt: &HostRuntime, stand: &mut Stand, plan: &Plan)
-    requires { StandFits plan.now stand.old }
+fn sweep_packed<R: Threads + Sync>(rt: &R, stand: &mut Stand, plan: &Plan, pieces: u32)
+    requires stand { StandFits plan.now stand.old }
+    requires pieces { (1 ≤ pieces) × (pieces ≤ 16) }
 {
     let _ = plan.slots();
     let replica = &mut stand.slots.at_mut(0).first;
-    sweep(rt, replica, plan, 0, 1);
-    sweep(rt, replica, plan, 0, 16);
+    sweep(rt, replica, plan, 0, pieces);
+    sweep(rt, replica, plan, 0, pieces);
 }
 
 // The same in one sample.
@@ -221,11 +223,16 @@ fn has_sample(replica: &Replica, lattice: &Lattice, copy: &PlainCopy, bit: u32) 
     same
 }
 
-fn sweeps_agree(rt: &HostRuntime, alloc: Global, size: u32, kind: RuleKind) -> Result<bool, Fail> {
+fn sweeps_agree<R: Threads + Sync>(
+    rt: &R,
+    alloc: Global,
+    size: u32,
+    kind: RuleKind,
+) -> Result<bool, Fail> {
     let plan = plan_of(alloc, size, kind)?;
     let lattice = plan.lattice();
     let mut stand = Stand::opening(alloc, &plan, Start::Random)?;
-    sweep_packed(rt, &mut stand, &plan);
+    sweep_packed(rt, &mut stand, &plan, 16);
     let Some(slot) = stand.slots.as_slice().first() else {
         return Ok(false);
     };
@@ -259,6 +266,42 @@ fn packed_sweep_equals_64_scalar_sweeps_where_a_row_has_8_words_and_more(
         for kind in [RuleKind::Heat, RuleKind::Metropolis] {
             assert!(rt; sweeps_agree(&rt, rt.alloc(), size, kind)?, "size {size}");
         }
+    }
+    Ok(())
+}
+
+// The words and generators of replica 0 of slot 0 are the same.
+fn same_first_replica(a: &Stand, b: &Stand) -> bool {
+    let (Some(a), Some(b)) = (a.slots.as_slice().first(), b.slots.as_slice().first()) else {
+        return false;
+    };
+    let mut same = a.first.planes.len() == b.first.planes.len();
+    for (here, there) in a
+        .first
+        .planes
+        .as_slice()
+        .iter()
+        .zip(b.first.planes.as_slice())
+    {
+        same = same
+            && here.words.as_slice() == there.words.as_slice()
+            && same_wheel(&here.wheel, &there.wheel);
+    }
+    same
+}
+
+// At this size the planes are forked.
+#[test]
+fn sweep_in_pieces_leaves_what_one_run_leaves(rt: HostRuntime) -> Result<(), Fail> {
+    let alloc = rt.alloc();
+    let plan = plan_of(alloc, 48, RuleKind::Metropolis)?;
+    let mut whole = Stand::opening(alloc, &plan, Start::Random)?;
+    sweep_packed(&rt, &mut whole, &plan, 1);
+    for pieces in [2, 3, 16] {
+        let mut cut = Stand::opening(alloc, &plan, Start::Random)?;
+        assert!(rt; !same_first_replica(&cut, &whole), "not swept yet");
+        sweep_packed(&rt, &mut cut, &plan, pieces);
+        assert!(rt; same_first_replica(&cut, &whole), "pieces {pieces}");
     }
     Ok(())
 }

@@ -15,6 +15,7 @@ use std::alloc::Global;
 use std::process::Abort;
 use std::sync::Arc;
 use std::test::Fail;
+use std::thread::Threads;
 use threshold_table::RuleKind;
 
 // Two epochs of a sample alone, and what is measured in the second of them.
@@ -65,7 +66,7 @@ fn agrees(
 }
 
 // The end and the records of a board of three slots, worked on in this order.
-fn worked<R: Abort + Sync>(
+fn worked<R: Abort + Threads + Sync>(
     rt: &R,
     alloc: Global,
     plan: &Arc<Plan, Global>,
@@ -88,7 +89,11 @@ fn worked<R: Abort + Sync>(
     end_of(board, plan)
 }
 
-fn orders_agree<R: Abort + Sync>(rt: &R, alloc: Global, kind: RuleKind) -> Result<(), Fail> {
+fn orders_agree<R: Abort + Threads + Sync>(
+    rt: &R,
+    alloc: Global,
+    kind: RuleKind,
+) -> Result<(), Fail> {
     let plan = random_slots(alloc, 6, kind)?;
     let start = opening(alloc, &plan, Start::Random)?;
     let (end, records) = worked(rt, alloc, &plan, &start, Order::OneByOne)?;

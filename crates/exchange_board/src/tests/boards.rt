@@ -15,6 +15,7 @@ use std::alloc::Global;
 use std::process::Abort;
 use std::sync::Arc;
 use std::test::Fail;
+use std::thread::Threads;
 use threshold_table::{RuleKind, RuleRow, RuleTable, SwapTable};
 
 const ALWAYS: u64 = 4294967296;
@@ -173,7 +174,12 @@ pub(super) fn count(board: &Board) -> u32
 }
 
 // A slot is swept and handed back.
-pub(super) fn bring<R: Abort + Sync>(rt: &R, board: &mut Board, plan: &Plan, job: Job) -> Arrival
+pub(super) fn bring<R: Abort + Threads + Sync>(
+    rt: &R,
+    board: &mut Board,
+    plan: &Plan,
+    job: Job,
+) -> Arrival
     requires plan { plan.now ≡ arc_value board.old.origin.plan }
     requires same { job.origin ≡ board.old.origin }
     ensures { board.new.origin ≡ board.old.origin }
@@ -198,7 +204,7 @@ pub(super) enum Order {
 }
 
 // A slot that is out is handed back, by the order with the next one.
-fn go_on<R: Abort + Sync>(rt: &R, board: &mut Board, plan: &Plan, job: Job, order: Order)
+fn go_on<R: Abort + Threads + Sync>(rt: &R, board: &mut Board, plan: &Plan, job: Job, order: Order)
     requires plan { plan.now ≡ arc_value board.old.origin.plan }
     requires same { job.origin ≡ board.old.origin }
     ensures { board.new.origin ≡ board.old.origin }
@@ -219,7 +225,13 @@ fn go_on<R: Abort + Sync>(rt: &R, board: &mut Board, plan: &Plan, job: Job, orde
     }
 }
 
-fn two_back<R: Abort + Sync>(rt: &R, board: &mut Board, plan: &Plan, first: Job, last: Job)
+fn two_back<R: Abort + Threads + Sync>(
+    rt: &R,
+    board: &mut Board,
+    plan: &Plan,
+    first: Job,
+    last: Job,
+)
     requires plan { plan.now ≡ arc_value board.old.origin.plan }
     requires first { first.origin ≡ board.old.origin }
     requires last { last.origin ≡ board.old.origin }
@@ -230,7 +242,7 @@ fn two_back<R: Abort + Sync>(rt: &R, board: &mut Board, plan: &Plan, first: Job,
 }
 
 // Whether a slot was handed out; it is then back.
-fn turn<R: Abort + Sync>(rt: &R, board: &mut Board, plan: &Plan, order: Order) -> bool
+fn turn<R: Abort + Threads + Sync>(rt: &R, board: &mut Board, plan: &Plan, order: Order) -> bool
     requires { plan.now ≡ arc_value board.old.origin.plan }
     ensures { board.new.origin ≡ board.old.origin }
 {
@@ -244,7 +256,12 @@ fn turn<R: Abort + Sync>(rt: &R, board: &mut Board, plan: &Plan, order: Order) -
 }
 
 // Hand-outs and hand-backs until nothing is handed out.
-pub(super) fn work<R: Abort + Sync>(rt: &R, board: &mut Board, plan: &Plan, order: Order) -> Pause
+pub(super) fn work<R: Abort + Threads + Sync>(
+    rt: &R,
+    board: &mut Board,
+    plan: &Plan,
+    order: Order,
+) -> Pause
     requires { plan.now ≡ arc_value board.old.origin.plan }
     ensures { board.new.origin ≡ board.old.origin }
 {

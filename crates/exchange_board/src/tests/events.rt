@@ -12,6 +12,7 @@ use scalar_rule::{Plan, Start};
 use std::alloc::Global;
 use std::process::Abort;
 use std::test::Fail;
+use std::thread::Threads;
 
 // Every epoch of sample 0 is recorded, and hand-outs do not end.
 fn window(until: u64) -> Window
@@ -37,7 +38,13 @@ fn two_jobs<R: Abort>(rt: &R, board: &mut Board) -> (Job, Job)
 }
 
 // A slot comes back, with this answer.
-fn comes_back<R: Abort + Sync>(rt: &R, board: &mut Board, plan: &Plan, job: Job, answer: Arrival)
+fn comes_back<R: Abort + Threads + Sync>(
+    rt: &R,
+    board: &mut Board,
+    plan: &Plan,
+    job: Job,
+    answer: Arrival,
+)
     requires plan { plan.now ≡ arc_value board.old.origin.plan }
     requires same { job.origin ≡ board.old.origin }
     ensures { board.new.origin ≡ board.old.origin }
@@ -58,7 +65,7 @@ fn next_is<R: Abort>(rt: &R, board: &mut Board, slot: u32, epoch: u64) -> Job
 }
 
 // Slots 0 and 1 at epoch 0, whose pair has its turn: one waits, and then the two are exchanged.
-fn first_epoch<R: Abort + Sync>(
+fn first_epoch<R: Abort + Threads + Sync>(
     rt: &R,
     board: &mut Board,
     plan: &Plan,
@@ -81,7 +88,7 @@ fn first_epoch<R: Abort + Sync>(
 }
 
 // Slot 0 at epoch 1, where it has no partner, and at epoch 2, where it waits for slot 1.
-fn colder_goes_on<R: Abort + Sync>(rt: &R, board: &mut Board, plan: &Plan, colder: Job)
+fn colder_goes_on<R: Abort + Threads + Sync>(rt: &R, board: &mut Board, plan: &Plan, colder: Job)
     requires plan { plan.now ≡ arc_value board.old.origin.plan }
     requires same { colder.origin ≡ board.old.origin }
     ensures { board.new.origin ≡ board.old.origin }
@@ -92,7 +99,13 @@ fn colder_goes_on<R: Abort + Sync>(rt: &R, board: &mut Board, plan: &Plan, colde
 }
 
 // The same, and slot 1 comes back at epoch 1 while slot 0 is in work at epoch 2.
-fn both_go_on<R: Abort + Sync>(rt: &R, board: &mut Board, plan: &Plan, colder: Job, warmer: Job)
+fn both_go_on<R: Abort + Threads + Sync>(
+    rt: &R,
+    board: &mut Board,
+    plan: &Plan,
+    colder: Job,
+    warmer: Job,
+)
     requires plan { plan.now ≡ arc_value board.old.origin.plan }
     requires colder { colder.origin ≡ board.old.origin }
     requires warmer { warmer.origin ≡ board.old.origin }
@@ -114,7 +127,7 @@ enum Moment {
 }
 
 // Slots 0 and 1 go on as far as they can while slot 2 is in work at epoch 0.
-fn later_epochs<R: Abort + Sync>(rt: &R, board: &mut Board, plan: &Plan, moment: Moment)
+fn later_epochs<R: Abort + Threads + Sync>(rt: &R, board: &mut Board, plan: &Plan, moment: Moment)
     requires { plan.now ≡ arc_value board.old.origin.plan }
     ensures { board.new.origin ≡ board.old.origin }
 {
@@ -134,7 +147,7 @@ fn later_epochs<R: Abort + Sync>(rt: &R, board: &mut Board, plan: &Plan, moment:
 }
 
 // Slot 2, which was in work at epoch 0 all the while, comes back, and is the only one that can go on.
-fn last_slot<R: Abort + Sync>(rt: &R, board: &mut Board, plan: &Plan, last: Job)
+fn last_slot<R: Abort + Threads + Sync>(rt: &R, board: &mut Board, plan: &Plan, last: Job)
     requires plan { plan.now ≡ arc_value board.old.origin.plan }
     requires same { last.origin ≡ board.old.origin }
     ensures { board.new.origin ≡ board.old.origin }
@@ -165,7 +178,7 @@ fn three_jobs<R: Abort>(rt: &R, board: &mut Board) -> ((Job, Job), Job)
     }
 }
 
-fn three_slot_events<R: Abort + Sync>(
+fn three_slot_events<R: Abort + Threads + Sync>(
     rt: &R,
     alloc: Global,
     warmer_first: bool,
@@ -206,7 +219,7 @@ fn handed_back<R: Abort>(rt: &R, board: Board) -> Board
 }
 
 // While a slot is in work nothing is handed out, and a board between two arrivals is handed back.
-fn in_work<R: Abort + Sync>(rt: &R, board: Board, plan: &Plan, jobs: (Job, Job)) -> Board
+fn in_work<R: Abort + Threads + Sync>(rt: &R, board: Board, plan: &Plan, jobs: (Job, Job)) -> Board
     requires plan { plan.now ≡ arc_value board.origin.plan }
     requires colder { jobs.0.origin ≡ board.origin }
     requires warmer { jobs.1.origin ≡ board.origin }

@@ -16,6 +16,7 @@ use std::alloc::Global;
 use std::process::Abort;
 use std::sync::Arc;
 use std::test::Fail;
+use std::thread::Threads;
 use threshold_table::RuleKind;
 
 // Every second epoch of three samples is recorded.
@@ -38,7 +39,7 @@ fn are_joined(all: &[Record], first: &[Record], rest: &[Record]) -> bool {
 }
 
 // A board of three slots that stops after so many of its 12 hand-outs.
-fn stopped<R: Abort + Sync>(
+fn stopped<R: Abort + Threads + Sync>(
     rt: &R,
     alloc: Global,
     plan: &Arc<Plan, Global>,
@@ -67,7 +68,7 @@ fn stopped<R: Abort + Sync>(
 }
 
 // The end and the records of a board that goes on from there.
-fn resumed<R: Abort + Sync>(
+fn resumed<R: Abort + Threads + Sync>(
     rt: &R,
     alloc: Global,
     plan: &Arc<Plan, Global>,
@@ -86,7 +87,7 @@ fn resumed<R: Abort + Sync>(
 }
 
 // Both end as the board that was not stopped.
-fn goes_on<R: Abort + Sync>(
+fn goes_on<R: Abort + Threads + Sync>(
     rt: &R,
     alloc: Global,
     plan: &Arc<Plan, Global>,

@@ -1,0 +1,155 @@
+//! The workers of a run, one a seat. Each takes a slot, sweeps it and hands it back, until there is no
+//! more to do.
+
+ghost use Rattle.std.specs.Prelude.{◌≡◌, ◌+◌, ◌<◌, ◌≤◌, [], ◌∷◌, true, false, Some, length};
+ghost use Rattle.std.specs.Arc.{arc_value};
+ghost use Rattle.std.specs.Thread.{IsSync};
+ghost use Rattle.shared_board.specs.Shared.{lock_id};
+ghost use Rattle.turn_cell.specs.Seats.{seat_view};
+ghost use Rattle.glass_engine.specs.Working.{IsAtRest, IsTaker, IsSame, HasLeft, AreAtRest, HaveLeft};
+
+use crossbeam_utils::Backoff;
+use exchange_board::{Job, Next};
+use glass_edges::Gate;
+use scalar_rule::Plan;
+use shared_board::{BoardPass, SharedBoard};
+use std::sync::Wait;
+use std::thread::{Threads, join_mut};
+
+// The sweeps of a slot that this seat took, and its hand-back.
+fn bring<R: Threads + Wait + Sync, G: Gate + Sync>(
+    rt: &R,
+    gate: &G,
+    board: &SharedBoard,
+    plan: &Plan,
+    pieces: u32,
+    seat: &mut BoardPass,
+    job: Job,
+)
+    requires own { IsTaker (lock_id board.now) plan.now job seat.old }
+    requires some_pieces { 1 ≤ pieces }
+    requires few_pieces { pieces ≤ 16 }
+    ensures rest { IsAtRest (lock_id board.now) plan.now seat.new }
+    ensures same { IsSame (seat_view seat.old) (seat_view seat.new) }
+{
+    gate.enter(job.slot(), job.epoch());
+    let swept = job.sweep(rt, plan, pieces);
+    let _ = board.settle(rt, plan, seat, swept);
+}
+
+// One turn of a worker: true once there is no more to do. One that finds nothing pauses.
+fn turn<R: Threads + Wait + Sync, G: Gate + Sync>(
+    rt: &R,
+    gate: &G,
+    board: &SharedBoard,
+    plan: &Plan,
+    pieces: u32,
+    pause: &Backoff,
+    seat: &mut BoardPass,
+) -> bool
+    requires rest { IsAtRest (lock_id board.now) plan.now seat.old }
+    requires some_pieces { 1 ≤ pieces }
+    requires few_pieces { pieces ≤ 16 }
+    ensures rest { IsAtRest (lock_id board.now) plan.now seat.new }
+    ensures same { IsSame (seat_view seat.old) (seat_view seat.new) }
+    ensures left { result ≡ true → HasLeft (seat_view seat.new) }
+{
+    match board.take(rt, seat) {
+        Next::Job(job) => {
+            pause.reset();
+            bring(rt, gate, board, plan, pieces, seat, job);
+            false
+        }
+        Next::Nothing => {
+            pause.snooze();
+            false
+        }
+        Next::Finished | Next::Stopped => true,
+    }
+}
+
+// A worker, from its first turn to its last.
+fn work<R: Threads + Wait + Sync, G: Gate + Sync>(
+    rt: &R,
+    gate: &G,
+    board: &SharedBoard,
+    plan: &Plan,
+    pieces: u32,
+    seat: &mut BoardPass,
+)
+    requires rest { IsAtRest (lock_id board.now) plan.now seat.old }
+    requires some_pieces { 1 ≤ pieces }
+    requires few_pieces { pieces ≤ 16 }
+    ensures rest { IsAtRest (lock_id board.now) plan.now seat.new }
+    ensures same { IsSame (seat_view seat.old) (seat_view seat.new) }
+    ensures left { HasLeft (seat_view seat.new) }
+{
+    let pause = Backoff::new();
+    for _ in rt.forever() {
+        if turn(rt, gate, board, plan, pieces, &pause, seat) {
+            return;
+        }
+    }
+    unreachable!()
+}
+
+/// Works at a board with one worker a seat, by fork and join over halves of the list of seats, until
+/// each found that there is no more to do. Where a thread can't be started, its half is worked by the
+/// caller. Takes no memory.
+#[cycle(halves)]
+pub(crate) fn work_all<R: Threads + Wait + Sync, G: Gate + Sync>(
+    rt: &R,
+    gate: &G,
+    board: &SharedBoard,
+    plan: &Plan,
+    pieces: u32,
+    seats: &mut [BoardPass],
+)
+    requires rest { AreAtRest (lock_id board.now) plan.now seats.old }
+    requires some_pieces { 1 ≤ pieces }
+    requires few_pieces { pieces ≤ 16 }
+    ensures { HaveLeft (lock_id board.now) plan.now seats.old seats.new }
+{
+    if seats.len() < 2 {
+        if let Some(seat) = seats.first_mut() {
+            work(rt, gate, board, plan, pieces, seat);
+        }
+        return;
+    }
+    let (front, back) = seats.split_at_mut(seats.len() / 2);
+    both(rt, gate, board, plan, pieces, front, back);
+}
+
+// Apart from `work_all`, so that what the closures require is what this function is given.
+#[cycle(halves)]
+fn both<R: Threads + Wait + Sync, G: Gate + Sync>(
+    rt: &R,
+    gate: &G,
+    board: &SharedBoard,
+    plan: &Plan,
+    pieces: u32,
+    front: &mut [BoardPass],
+    back: &mut [BoardPass],
+)
+    requires some { (0 < length front.old) × (0 < length back.old) }
+    requires front { AreAtRest (lock_id board.now) plan.now front.old }
+    requires back { AreAtRest (lock_id board.now) plan.now back.old }
+    requires some_pieces { 1 ≤ pieces }
+    requires few_pieces { pieces ≤ 16 }
+    ensures front { HaveLeft (lock_id board.now) plan.now front.old front.new }
+    ensures back { HaveLeft (lock_id board.now) plan.now back.old back.new }
+{
+    join_mut(
+        rt,
+        &mut ||
+            requires { IsSync R.row × IsSync G.row × (1 ≤ pieces) × (pieces ≤ 16)
+                × AreAtRest (lock_id board.now) plan.now front.now }
+            ensures { HaveLeft (lock_id board.entry.now) plan.entry.now front.entry.now front.exit.now }
+        { work_all(rt, gate, board, plan, pieces, front) },
+        &mut ||
+            requires { IsSync R.row × IsSync G.row × (1 ≤ pieces) × (pieces ≤ 16)
+                × AreAtRest (lock_id board.now) plan.now back.now }
+            ensures { HaveLeft (lock_id board.entry.now) plan.entry.now back.entry.now back.exit.now }
+        { work_all(rt, gate, board, plan, pieces, back) },
+    );
+}
