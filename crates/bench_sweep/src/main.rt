@@ -10,10 +10,18 @@ use lattice_geometry::Lattice;
 use plane_sweep::Stand;
 use scalar_rule::Start;
 use std::env;
+use std::thread::Threads;
+use std::time::Clock;
 use threshold_table::RuleKind;
 
 /// Prints the least nanoseconds of a pass, and the spins that all passes left in one number.
-fn measure(rt: &HostRuntime, size: u32, kind: RuleKind, sweeps: u32, passes: u32) -> Result<()> {
+fn measure<R: AllocGlobal + Print + Clock + Threads + Sync>(
+    rt: &R,
+    size: u32,
+    kind: RuleKind,
+    sweeps: u32,
+    passes: u32,
+) -> Result<()> {
     let plan = inputs::plan_of(rt.alloc(), Lattice::of(size)?, kind)?;
     let mut stand = Stand::opening(rt.alloc(), &plan, Start::Random)?;
     let replica = &mut stand.slots.at_mut(0).first;

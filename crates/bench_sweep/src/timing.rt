@@ -7,12 +7,13 @@ ghost use Rattle.scalar_rule.specs.Plan.{slots_of};
 use plane_sweep::{Replica, sweep_often};
 use scalar_rule::Plan;
 use std::io;
-use std::time::Instant;
+use std::thread::Threads;
+use std::time::{Clock, Instant};
 
 /// Sweeps the replica in all 64 samples, that many times in each pass. Gives the least nanoseconds of a
 /// pass.
-pub fn least_of(
-    rt: &HostRuntime,
+pub fn least_of<R: Clock + Threads + Sync>(
+    rt: &R,
     replica: &mut Replica,
     plan: &Plan,
     sweeps: u32,

@@ -2,7 +2,7 @@
 use Rattle.std.proofs.Common.{arith, ◌≡◌, ◌⊎◌, inl, inr, ℕ, ◌+◌, ◌-◌, ◌<◌, List, set, refl, sym, ap, ◌∙◌, subst}
 use Rattle.exchange_board.specs.declared.origin.Origin.{Origin}
 use Rattle.exchange_board.specs.Answers.{stages_of, Takes, IsSpent}
-use Rattle.exchange_board.specs.Content.{taken_before, IsLawfulOrigin}
+use Rattle.exchange_board.specs.Content.{plan_of, taken_before, IsLawfulOrigin}
 use Rattle.exchange_board.specs.Machine.{taken, after, AllEnded, NoneOut}
 use Rattle.exchange_board.specs.Stops.{IsStop}
 use Rattle.exchange_board.specs.Views.{Stage, BoardView, JobView, RaggedEndedView, out_at, placed}
@@ -55,3 +55,10 @@ done-keeps r b d keeps same h =
       orders = keeps.orders;
       ended = end-of (done_view x).run b d (record { plan_is = refl; base_is = refl; until_is = refl; every_is = every; samples_is = samples; takes_is = refl }) (subst L (sym there) keeps.lawful) h;
     }
+
+-- what contracts see of a run stays
+pub run-stays : (r : run.Inside) (d : RaggedEndedView) → d.origin ≡ r.opened.value.origin
+    → (let x : done.Inside = record { ended = d; orders = r.orders; save = r.save } in (done_view x).run ≡ run_view r)
+run-stays r d same =
+    let view : Origin → RunView = λ o. record { plan = plan_of o; base = o.base; orders = r.orders; until = o.window.until; takes = o.window.takes; saves = r.save } in
+    ap view same

@@ -1,5 +1,5 @@
 -- Seats that are opened, worked with and handed back, and the board that is closed with them.
-use Rattle.std.proofs.Common.{arith, ◌≡◌, ◌⊎◌, inl, inr, ℕ, zero, suc, ◌+◌, ◌*◌, ◌<◌, ◌≤◌, List, [], ◌∷◌, ◌++◌, All, Some, length, map, get_or, refl, sym, ap, ◌∙◌, subst}
+use Rattle.std.proofs.Common.{arith, ◌≡◌, ◌⊎◌, inl, inr, ℕ, zero, suc, ◌+◌, ◌*◌, ◌<◌, ◌≤◌, List, [], ◌∷◌, ◌++◌, All, Some, length, take, drop, map, get_or, refl, sym, ap, ◌∙◌, subst}
 use Rattle.std.specs.Prelude.{Option, IsSomeAnd}
 use Rattle.std.proofs.lemmas.Bool.{cases_lt}
 use Rattle.std.proofs.lemmas.List.{length-map}
@@ -8,7 +8,6 @@ use Rattle.scalar_rule.specs.Plan.{Plan}
 use Rattle.scalar_rule.specs.Positions.{sum_below}
 use Rattle.turn_cell.specs.Progress.{AtMost}
 use Rattle.turn_cell.specs.Seats.{seat_view, base_of, AreOpened, AreIdle}
-use Rattle.turn_cell.specs.declared.view.View.{View}
 use Rattle.exchange_board.specs.declared.origin.Origin.{Origin}
 use Rattle.exchange_board.specs.Answers.{start_place, stages_of, IsSpent}
 use Rattle.exchange_board.specs.Content.{plan_of, slots_in, taken_before, IsLawfulOrigin}
@@ -18,11 +17,15 @@ use Rattle.exchange_board.specs.Views.{Stage, BoardView, RaggedEndedView, place_
 use Rattle.exchange_board.proofs.Starting.{begun-ruled, taken-begun}
 use Rattle.shared_board.specs.Words.{taken_at, IsFinished, IsStopped}
 use Rattle.shared_board.proofs.Words.{word-at, words-long, taken-words}
+use Rattle.shared_board.proofs.Stores.{SeatView}
+use Rattle.shared_board.specs.Shared.{lock_id}
+use Rattle.turn_cell.proofs.Keeping.{one_some}
+use Rattle.turn_cell.proofs.Seating.{idle-base, written}
+use Rattle.glass_engine.specs.KeptRun.{KeepsRun}
 use Rattle.glass_engine.specs.Working.{Seat, AreAtRest, HaveLeft}
+use Rattle.glass_engine.specs.declared.run.Run.TheInside as run
+use Rattle.glass_engine.proofs.Driven.{HasEnded}
 use Rattle.glass_engine.proofs.WholeRuns.{later, later-lawful}
-
-SeatView : Type 0
-SeatView = View Origin
 
 -- a lock is opened with seats at rest
 pub rest-opened : (id : TableId) (plan : Plan) (o : Origin) (places n k : ℕ) (ps : List Seat) → plan_of o ≡ plan → AreOpened id o places n k ps
@@ -144,3 +147,51 @@ closed-over id plan o n (p ∷ ps) (q ∷ qs) b d some all left same most lawful
     let S : Origin → Type 0 = λ x. length v.seen ≡ slots_in x in
     let O : Origin → Type 0 = λ x. IsFinished x v.seen ⊎ IsStopped x v.seen in
     words-over b d v.seen (subst S (sym same) (left.0.2.sized ∙ count)) (most 0 q (omega arith)) (subst O (sym same) over) (subst L (sym same) lawful) places stop
+
+-- the list of seats as it is after it was lent
+abbrev pub back : List Seat → List Seat → ℕ → List Seat
+back ps qs len = take len (qs ++ drop (length qs) ps)
+
+module _ (r : run.Inside) (plan : Plan) (qs : List Seat) (keeps : KeepsRun r) (whole : r.seats.len ≡ length r.seats.items)
+    (left : HaveLeft (lock_id r.board) plan r.seats.items qs) where
+  all-idle : AreIdle (lock_id r.board) (Some r.opened.value.origin) (length r.seats.items) 0 qs
+  all-idle = idle-left (lock_id r.board) plan r.opened.value.origin (length r.opened.value.places) (length r.seats.items) 0 r.seats.items qs keeps.seats left
+
+  long : length qs ≡ length r.seats.items
+  long = left-long (lock_id r.board) plan r.seats.items qs left
+
+  are : back r.seats.items qs r.seats.len ≡ qs
+  are = written qs r.seats.items r.seats.len long whole
+
+  first-base : base_of qs ≡ Some r.opened.value.origin
+  first-base =
+      let some = keeps.some_seats in
+      let n = long in
+      idle-base (lock_id r.board) (Some r.opened.value.origin) (length r.seats.items) 0 qs all-idle (omega arith)
+
+  -- the board can be closed with them
+  pub run-idle : let seats = back r.seats.items qs r.seats.len in AreIdle (lock_id r.board) (base_of seats) (length seats) 0 seats
+  run-idle =
+      let P : List Seat → Type 0 = λ l. AreIdle (lock_id r.board) (base_of l) (length l) 0 l in
+      let B : Option Origin → Type 0 = λ b. AreIdle (lock_id r.board) b (length qs) 0 qs in
+      let N : ℕ → Type 0 = λ n. AreIdle (lock_id r.board) (Some r.opened.value.origin) n 0 qs in
+      subst P (sym are) (subst B (sym first-base) (subst N (sym long) all-idle))
+
+  -- and is then the run's, at its end
+  pub run-origin : (b : BoardView) → Some b.origin ≡ base_of (back r.seats.items qs r.seats.len) → b.origin ≡ r.opened.value.origin
+  run-origin b base = one_some (base ∙ (ap base_of are ∙ first-base))
+
+  pub run-ended : (b : BoardView) (d : RaggedEndedView) → Some b.origin ≡ base_of (back r.seats.items qs r.seats.len)
+      → All (λ q. AtMost (seat_view q).seen (words_of b)) (back r.seats.items qs r.seats.len) → stages_of d.stand ≡ b.places → IsStop b.origin d
+      → HasEnded b d
+  run-ended b d base seen places stop =
+      let o = r.opened.value.origin in
+      let count : length r.opened.value.places ≡ slots_in o = ap length keeps.places ∙ (length-map o.base.places start_place ∙ keeps.lawful.base.places) in
+      let S : List Seat → Type 0 = λ l. All (λ q. AtMost (seat_view q).seen (words_of b)) l in
+      let A : ℕ → Type 0 = λ n. AreOpened (lock_id r.board) o n (length r.seats.items) 0 r.seats.items in
+      record {
+        finished = closed-over (lock_id r.board) plan o (length r.seats.items) r.seats.items qs b d keeps.some_seats (subst A count keeps.seats) left
+            (run-origin b base) (subst S are seen) keeps.lawful places stop;
+        places = places;
+        stop = stop;
+      }

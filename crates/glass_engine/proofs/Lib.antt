@@ -7,5 +7,4 @@ pub mod Putting
 pub mod Adding
 pub mod Reporting
 pub mod LevelReports
-pub mod Turning
 pub mod Leaving

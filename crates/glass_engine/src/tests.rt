@@ -14,9 +14,10 @@ use plane_sweep::{RaggedStand, Stand};
 use run_plan::{Orders, check_amount};
 use scalar_rule::{Plan, Start};
 use std::alloc::Global;
-use std::sync::Arc;
 use std::sync::atomic::{AtomicU64, Ordering};
+use std::sync::{Arc, Wait};
 use std::test::Fail;
+use std::thread::Threads;
 use threshold_table::{RuleKind, RuleRow, RuleTable, SwapTable};
 
 const ALL: u64 = 4294967296;
@@ -49,6 +50,7 @@ fn begun(
     stand: Stand,
     until: u64,
     takes: u64,
+    workers: u32,
 ) -> Result<Run, NoMemory>
     requires orders { AreRunOrders orders.now }
     requires some { 1 ≤ slots_of (arc_value plan.now) }
@@ -56,11 +58,21 @@ fn begun(
     requires window { stand.epoch ≤ until }
     requires until { until ≤ 1000000000 }
     requires takes { takes ≤ 32000000000 }
+    requires workers { (1 ≤ workers) × (workers ≤ 64) }
     requires rows { row_count (arc_value plan.now) orders.now stand.epoch until ≤ 4194304 }
     ensures { IfOk result (λ run. run.plan ≡ arc_value plan.now) }
 {
     let base = RaggedStand::level(alloc, stand)?;
-    open(alloc, plan, orders, base, until, takes, 2, SaveKind::Never)
+    open(
+        alloc,
+        plan,
+        orders,
+        base,
+        until,
+        takes,
+        workers,
+        SaveKind::Never,
+    )
 }
 
 /// A hook that adds 1 at the bit of the slot and the epoch, eight slots an epoch.
@@ -79,7 +91,7 @@ impl Gate for Entries {
 }
 
 /// What a run of the ferromagnet on the lattice of size 4 puts.
-fn reported<R: Sync, G: Gate + Sync>(
+fn reported<R: Threads + Wait + Sync, G: Gate + Sync>(
     rt: &R,
     gate: &G,
     alloc: Global,
@@ -88,11 +100,13 @@ fn reported<R: Sync, G: Gate + Sync>(
     orders: &Orders,
     until: u64,
     takes: u64,
+    workers: u32,
 ) -> Result<MemorySink, NoMemory>
     requires pairs { length swaps + 1 ≡ length rules.rows }
     requires orders { AreLawfulOrders orders.now }
     requires until { until ≤ 1000000000 }
     requires takes { takes ≤ 32000000000 }
+    requires workers { (1 ≤ workers) × (workers ≤ 64) }
 {
     let mut out = MemorySink::new(alloc, 5000, 300, Vec::new(alloc))?;
     let Ok(lattice) = Lattice::of(4) else {
@@ -105,7 +119,7 @@ fn reported<R: Sync, G: Gate + Sync>(
         return Ok(out);
     }
     let plan = Arc::new(alloc, plan)?;
-    let run = begun(alloc, &plan, orders, stand, until, takes)?;
+    let run = begun(alloc, &plan, orders, stand, until, takes, workers)?;
     let done = drive(rt, run, &plan, 3, gate);
     let _ = write_report(&done, &plan, &mut out);
     Ok(out)
@@ -116,7 +130,17 @@ fn report_of_all_down(rt: HostRuntime) -> Result<(), Fail> {
     let alloc = rt.alloc();
     let rules = RuleTable::from_rows(alloc, RuleKind::Heat, &[DOWN])?;
     let swaps = SwapTable::from_rows::<1>(alloc, &[])?;
-    let out = reported(&rt, &OpenGate, alloc, rules, swaps, &ORDERS, 1, 32000000000)?;
+    let out = reported(
+        &rt,
+        &OpenGate,
+        alloc,
+        rules,
+        swaps,
+        &ORDERS,
+        1,
+        32000000000,
+        2,
+    )?;
     assert_eq!(rt;
         out.taken(),
         b"glass 1 size=4 slots=1 samples=1 rule=heat from=0 to=1
@@ -135,7 +159,17 @@ fn report_of_two_slots_that_swap(rt: HostRuntime) -> Result<(), Fail> {
     let alloc = rt.alloc();
     let rules = RuleTable::from_rows(alloc, RuleKind::Heat, &[AGAINST, UP])?;
     let swaps = SwapTable::from_rows(alloc, &[[ALL]])?;
-    let out = reported(&rt, &OpenGate, alloc, rules, swaps, &ORDERS, 2, 32000000000)?;
+    let out = reported(
+        &rt,
+        &OpenGate,
+        alloc,
+        rules,
+        swaps,
+        &ORDERS,
+        2,
+        32000000000,
+        2,
+    )?;
     assert_eq!(rt;
         out.taken(),
         b"glass 1 size=4 slots=2 samples=1 rule=heat from=0 to=2
@@ -160,7 +194,17 @@ fn report_that_ends_with_a_swap(rt: HostRuntime) -> Result<(), Fail> {
     let alloc = rt.alloc();
     let rules = RuleTable::from_rows(alloc, RuleKind::Heat, &[AGAINST, UP])?;
     let swaps = SwapTable::from_rows(alloc, &[[ALL]])?;
-    let out = reported(&rt, &OpenGate, alloc, rules, swaps, &ORDERS, 1, 32000000000)?;
+    let out = reported(
+        &rt,
+        &OpenGate,
+        alloc,
+        rules,
+        swaps,
+        &ORDERS,
+        1,
+        32000000000,
+        2,
+    )?;
     assert_eq!(rt;
         out.taken(),
         b"glass 1 size=4 slots=2 samples=1 rule=heat from=0 to=1
@@ -183,7 +227,7 @@ fn report_of_a_run_that_stops(rt: HostRuntime) -> Result<(), Fail> {
     let alloc = rt.alloc();
     let rules = RuleTable::from_rows(alloc, RuleKind::Heat, &[AGAINST, UP])?;
     let swaps = SwapTable::from_rows(alloc, &[[ALL]])?;
-    let out = reported(&rt, &OpenGate, alloc, rules, swaps, &ORDERS, 2, 3)?;
+    let out = reported(&rt, &OpenGate, alloc, rules, swaps, &ORDERS, 2, 3, 1)?;
     assert_eq!(rt;
         out.taken(),
         b"glass 1 size=4 slots=2 samples=1 rule=heat from=0 to=1
@@ -204,7 +248,7 @@ fn hook_is_entered_once_for_each_slot_and_epoch(rt: HostRuntime) -> Result<(), F
     let gate = Entries {
         entered: AtomicU64::new(0),
     };
-    reported(&rt, &gate, alloc, rules, swaps, &ORDERS, 2, 32000000000)?;
+    reported(&rt, &gate, alloc, rules, swaps, &ORDERS, 2, 32000000000, 2)?;
     assert_eq!(rt; gate.entered.load(Ordering::SeqCst), 0x0303);
     Ok(())
 }

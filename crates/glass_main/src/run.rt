@@ -25,7 +25,8 @@ use plane_sweep::{RaggedStand, Stand};
 use run_plan::{Orders, check_amount};
 use scalar_rule::Plan;
 use std::alloc::Global;
-use std::sync::Arc;
+use std::sync::{Arc, Wait};
+use std::thread::Threads;
 
 /// So many hand-outs of a slot stop no run.
 const EVERY_TAKE: u64 = 32000000000;
@@ -38,7 +39,7 @@ pub(crate) struct Opened {
 }
 
 /// Reads the run file of an order and what it names, runs it, and prints the report.
-pub(crate) fn run<R: Sync, H: Shelf, O: Sink, G: Gate + Sync>(
+pub(crate) fn run<R: Threads + Wait + Sync, H: Shelf, O: Sink, G: Gate + Sync>(
     rt: &R,
     alloc: Global,
     shelf: &mut H,
@@ -125,7 +126,7 @@ fn open_planned(
 
 // Drives an open run to its end and prints its report. It is given no allocator, and does not end for
 // want of memory.
-fn finish_run<R: Sync, O: Sink, G: Gate + Sync>(
+fn finish_run<R: Threads + Wait + Sync, O: Sink, G: Gate + Sync>(
     rt: &R,
     out: &mut O,
     gate: &G,
@@ -148,7 +149,7 @@ fn finish_run<R: Sync, O: Sink, G: Gate + Sync>(
 }
 
 // Drives a run to its end and prints its report.
-fn put_run<R: Sync, O: Sink, G: Gate + Sync>(
+fn put_run<R: Threads + Wait + Sync, O: Sink, G: Gate + Sync>(
     rt: &R,
     out: &mut O,
     gate: &G,

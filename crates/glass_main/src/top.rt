@@ -18,6 +18,8 @@ use crate::refusal::Refusal;
 use crate::run::run;
 use glass_edges::{Gate, Shelf, Sink};
 use std::alloc::Global;
+use std::sync::Wait;
+use std::thread::Threads;
 
 /// The program: from the words after its name to the text on `out`, the line on `err` and the exit
 /// status.
@@ -30,7 +32,7 @@ use std::alloc::Global;
 /// it failed itself.
 ///
 /// `plain` reads no file, and ends with 0, 9 or 11; words that are no command end with 2 alone.
-pub fn glass<R: Sync, H: Shelf, O: Sink, E: Sink, G: Gate + Sync>(
+pub fn glass<R: Threads + Wait + Sync, H: Shelf, O: Sink, E: Sink, G: Gate + Sync>(
     rt: &R,
     alloc: Global,
     words: &[String],
@@ -73,7 +75,7 @@ pub fn glass<R: Sync, H: Shelf, O: Sink, E: Sink, G: Gate + Sync>(
 }
 
 // Does what the words ask for.
-fn answer<R: Sync, H: Shelf, O: Sink, G: Gate + Sync>(
+fn answer<R: Threads + Wait + Sync, H: Shelf, O: Sink, G: Gate + Sync>(
     rt: &R,
     alloc: Global,
     words: &[String],

@@ -4,7 +4,9 @@ ghost use Rattle.std.specs.Prelude.{◌<◌};
 
 use glass_edges::{MemoryShelf, MemorySink, OpenGate};
 use glass_main::glass;
+use std::sync::Wait;
 use std::test::Fail;
+use std::thread::Threads;
 
 /// A call's exit status, and what it wrote on the output and on the error output.
 #[derive(Drop)]
@@ -15,7 +17,7 @@ pub struct Called {
 }
 
 /// An output with ample room that takes at most `most` bytes at once and fails at one put.
-pub fn output(rt: &HostRuntime, most: usize, failing: u64) -> Result<MemorySink, Fail>
+pub fn output<R: AllocGlobal>(rt: &R, most: usize, failing: u64) -> Result<MemorySink, Fail>
     requires { 0 < most }
 {
     let fails = [failing].to_vec(rt.alloc())?;
@@ -23,12 +25,12 @@ pub fn output(rt: &HostRuntime, most: usize, failing: u64) -> Result<MemorySink,
 }
 
 /// An output with ample room that never fails in a test.
-pub fn ample(rt: &HostRuntime) -> Result<MemorySink, Fail> {
+pub fn ample<R: AllocGlobal>(rt: &R) -> Result<MemorySink, Fail> {
     output(rt, 1000000, u64::MAX)
 }
 
 /// The words of a line, with one space between two of them.
-fn words_of(rt: &HostRuntime, line: &str) -> Result<Vec<String>, Fail> {
+fn words_of<R: AllocGlobal>(rt: &R, line: &str) -> Result<Vec<String>, Fail> {
     let mut words = Vec::new(rt.alloc());
     for word in line.split(' ') {
         words.push(String::from_str(rt.alloc(), word)?)?;
@@ -37,13 +39,13 @@ fn words_of(rt: &HostRuntime, line: &str) -> Result<Vec<String>, Fail> {
 }
 
 /// A store that holds nothing.
-fn empty(rt: &HostRuntime) -> MemoryShelf {
+fn empty<R: AllocGlobal>(rt: &R) -> MemoryShelf {
     MemoryShelf::new(rt.alloc(), Vec::new(rt.alloc()))
 }
 
 /// Calls the program with these words, over this store and these outputs.
-pub fn call_words(
-    rt: &HostRuntime,
+pub fn call_words<R: AllocGlobal + Threads + Wait + Sync>(
+    rt: &R,
     words: &[String],
     mut shelf: MemoryShelf,
     out: MemorySink,
@@ -67,8 +69,8 @@ pub fn call_words(
 }
 
 /// Calls the program with the words of a line, over this store and these outputs.
-pub fn call_words_of(
-    rt: &HostRuntime,
+pub fn call_words_of<R: AllocGlobal + Threads + Wait + Sync>(
+    rt: &R,
     line: &str,
     shelf: MemoryShelf,
     out: MemorySink,
@@ -79,14 +81,14 @@ pub fn call_words_of(
 }
 
 /// Calls the program with no words, over an empty store.
-pub fn call_without_words(rt: &HostRuntime) -> Result<Called, Fail> {
+pub fn call_without_words<R: AllocGlobal + Threads + Wait + Sync>(rt: &R) -> Result<Called, Fail> {
     let words = Vec::new(rt.alloc());
     Ok(call_words(rt, &words, empty(rt), ample(rt)?, ample(rt)?))
 }
 
 /// Calls the program with the words of a line, over these outputs and an empty store.
-pub fn call_over(
-    rt: &HostRuntime,
+pub fn call_over<R: AllocGlobal + Threads + Wait + Sync>(
+    rt: &R,
     line: &str,
     out: MemorySink,
     err: MemorySink,
@@ -95,11 +97,15 @@ pub fn call_over(
 }
 
 /// Calls the program with the words of a line, over this store.
-pub fn call_with(rt: &HostRuntime, line: &str, shelf: MemoryShelf) -> Result<Called, Fail> {
+pub fn call_with<R: AllocGlobal + Threads + Wait + Sync>(
+    rt: &R,
+    line: &str,
+    shelf: MemoryShelf,
+) -> Result<Called, Fail> {
     call_words_of(rt, line, shelf, ample(rt)?, ample(rt)?)
 }
 
 /// Calls the program with the words of a line, over outputs with ample room and an empty store.
-pub fn call(rt: &HostRuntime, line: &str) -> Result<Called, Fail> {
+pub fn call<R: AllocGlobal + Threads + Wait + Sync>(rt: &R, line: &str) -> Result<Called, Fail> {
     call_with(rt, line, empty(rt))
 }

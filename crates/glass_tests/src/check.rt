@@ -3,13 +3,20 @@
 use crate::called::{Called, call_with};
 use crate::files::{DOWN, RUN, changed, padded, store, store_failing};
 use glass_edges::MemoryShelf;
+use std::sync::Wait;
 use std::test::Fail;
+use std::thread::Threads;
 
 // The digest of the smallest plan, computed by an independent program.
 const DIGEST: &str = "6b775f1d6b039c45972907cca512e80c4bf01b3ddd939f309ffe4217fd940044";
 
 // Whether the call refused its request so: this status and line, and nothing on the output.
-fn is_refused(rt: &HostRuntime, called: &Called, status: u8, line: &str) -> Result<bool, Fail> {
+fn is_refused<R: AllocGlobal>(
+    rt: &R,
+    called: &Called,
+    status: u8,
+    line: &str,
+) -> Result<bool, Fail> {
     let whole = format!(in rt.alloc(); "glass: {line}\n")?;
     Ok(
         called.status == status
@@ -18,7 +25,12 @@ fn is_refused(rt: &HostRuntime, called: &Called, status: u8, line: &str) -> Resu
     )
 }
 
-fn check(rt: &HostRuntime, run: &str, rules: &str, swaps: &str) -> Result<Called, Fail> {
+fn check<R: AllocGlobal + Threads + Wait + Sync>(
+    rt: &R,
+    run: &str,
+    rules: &str,
+    swaps: &str,
+) -> Result<Called, Fail> {
     call_with(rt, "check run.toml", store(rt, run, rules, swaps)?)
 }
 

@@ -3,7 +3,9 @@
 use crate::called::{Called, call_with};
 use crate::files::{DOWN, RUN, changed, store_failing};
 use sha2::{Digest, Sha256};
+use std::sync::Wait;
 use std::test::Fail;
+use std::thread::Threads;
 
 const UP: &str = "0,0,0,0,0,0,4294967296\n";
 
@@ -11,7 +13,7 @@ const UP: &str = "0,0,0,0,0,0,4294967296\n";
 const HEAD: [u8; 16] = [71, 76, 65, 83, 83, 67, 74, 49, 0, 0, 0, 4, 0, 0, 0, 1];
 
 // These bytes and their digest, by the crate sha2.
-fn sealed(rt: &HostRuntime, head: &[u8], stored: &[u8]) -> Result<Vec<u8>, Fail> {
+fn sealed<R: AllocGlobal>(rt: &R, head: &[u8], stored: &[u8]) -> Result<Vec<u8>, Fail> {
     let mut bytes = Vec::from_slice(rt.alloc(), head)?;
     bytes.extend_from_slice(stored)?;
     let digest = Sha256::digest(bytes.as_slice());
@@ -20,7 +22,7 @@ fn sealed(rt: &HostRuntime, head: &[u8], stored: &[u8]) -> Result<Vec<u8>, Fail>
 }
 
 // A copy with one byte set.
-fn with_byte(rt: &HostRuntime, bytes: &[u8], at: usize, byte: u8) -> Result<Vec<u8>, Fail> {
+fn with_byte<R: AllocGlobal>(rt: &R, bytes: &[u8], at: usize, byte: u8) -> Result<Vec<u8>, Fail> {
     let mut copy = Vec::from_slice(rt.alloc(), bytes)?;
     if let Some(place) = copy.as_mut_slice().get_mut(at) {
         *place = byte;
@@ -38,8 +40,8 @@ fn beginning(bytes: &[u8], len: usize) -> &[u8] {
 }
 
 // A call over a run file, a rule table, an empty swap table and a couplings file j.
-fn call_on(
-    rt: &HostRuntime,
+fn call_on<R: AllocGlobal + Threads + Wait + Sync>(
+    rt: &R,
     line: &str,
     run: &str,
     rules: &str,
@@ -53,7 +55,12 @@ fn call_on(
 }
 
 // Whether the call told this line with this status, and wrote nothing.
-fn is_refused(rt: &HostRuntime, called: &Called, status: u8, line: &str) -> Result<bool, Fail> {
+fn is_refused<R: AllocGlobal>(
+    rt: &R,
+    called: &Called,
+    status: u8,
+    line: &str,
+) -> Result<bool, Fail> {
     let whole = format!(in rt.alloc(); "glass: {line}\n")?;
     Ok(
         called.status == status

@@ -22,7 +22,7 @@ spins = true
 pub const DOWN: &str = "0,0,0,0,0,0,0\n";
 
 /// A text with its first such part replaced.
-pub fn changed(rt: &HostRuntime, whole: &str, old: &str, new: &str) -> Result<String, Fail> {
+pub fn changed<R: AllocGlobal>(rt: &R, whole: &str, old: &str, new: &str) -> Result<String, Fail> {
     let mut text = String::new(rt.alloc());
     if let Some((before, after)) = whole.split_once(old) {
         text.push_str(before)?;
@@ -33,8 +33,8 @@ pub fn changed(rt: &HostRuntime, whole: &str, old: &str, new: &str) -> Result<St
 }
 
 /// A store of a run file and its two tables, which fails at one call.
-pub fn store_failing(
-    rt: &HostRuntime,
+pub fn store_failing<R: AllocGlobal>(
+    rt: &R,
     run: &str,
     rules: &str,
     swaps: &str,
@@ -48,12 +48,22 @@ pub fn store_failing(
 }
 
 /// A store of a run file and its two tables.
-pub fn store(rt: &HostRuntime, run: &str, rules: &str, swaps: &str) -> Result<MemoryShelf, Fail> {
+pub fn store<R: AllocGlobal>(
+    rt: &R,
+    run: &str,
+    rules: &str,
+    swaps: &str,
+) -> Result<MemoryShelf, Fail> {
     store_failing(rt, run, rules, swaps, u64::MAX)
 }
 
 /// A text with so many more of one character behind it.
-pub fn padded(rt: &HostRuntime, text: &str, with: char, length: usize) -> Result<String, Fail> {
+pub fn padded<R: AllocGlobal>(
+    rt: &R,
+    text: &str,
+    with: char,
+    length: usize,
+) -> Result<String, Fail> {
     let mut long = String::from_str(rt.alloc(), text)?;
     for _ in text.len()..length {
         long.push(with)?;

@@ -2,15 +2,17 @@
 
 use crate::called::{ample, call_with, call_words_of, output};
 use crate::files::{DOWN, RUN, changed, store, store_failing};
+use std::sync::Wait;
 use std::test::Fail;
+use std::thread::Threads;
 
 const UP: &str = "0,0,0,0,0,0,4294967296\n";
 
 const ALTERNATING: &str = "4294967296,4294967296,4294967296,0,0,0,0\n";
 
 // Whether a run over these files ends with status 0, this report, and nothing on the error output.
-fn prints(
-    rt: &HostRuntime,
+fn prints<R: AllocGlobal + Threads + Wait + Sync>(
+    rt: &R,
     run: &str,
     rules: &str,
     swaps: &str,
@@ -25,19 +27,19 @@ fn prints(
 }
 
 // The report of one slot and one epoch: its row, and the spins of both replicas.
-fn one_row(rt: &HostRuntime, rule: &str, row: &str, spins: &str) -> Result<String, Fail> {
+fn one_row<R: AllocGlobal>(rt: &R, rule: &str, row: &str, spins: &str) -> Result<String, Fail> {
     Ok(format!(in rt.alloc();
         "glass 1 size=4 slots=1 samples=1 rule={rule} from=0 to=1\nrow,0,0,0,{row},0,0\nend,1\nspin,0,0,0,{spins}\nspin,0,0,1,{spins}\n"
     )?)
 }
 
 // The run file of two epochs of two slots.
-fn two_epochs(rt: &HostRuntime) -> Result<String, Fail> {
+fn two_epochs<R: AllocGlobal>(rt: &R) -> Result<String, Fail> {
     changed(rt, RUN, "epochs = 1", "epochs = 2")
 }
 
 // One record of so many entries that are always met.
-fn always(rt: &HostRuntime, entries: u32) -> Result<String, Fail> {
+fn always<R: AllocGlobal>(rt: &R, entries: u32) -> Result<String, Fail> {
     let mut record = String::from_str(rt.alloc(), "4294967296")?;
     for _ in 1..entries {
         record.push_str(",4294967296")?;
@@ -85,7 +87,11 @@ fn metropolis_full_threshold_flips_both_colours(rt: HostRuntime) -> Result<(), F
 
 // Whether two slots, the first of them at its lowest energy and the second at its highest, change
 // places after epoch 0.
-fn swaps_at_epoch_0(rt: &HostRuntime, entries: u32, swapped: bool) -> Result<bool, Fail> {
+fn swaps_at_epoch_0<R: AllocGlobal + Threads + Wait + Sync>(
+    rt: &R,
+    entries: u32,
+    swapped: bool,
+) -> Result<bool, Fail> {
     let rules = format!(in rt.alloc(); "{UP}{ALTERNATING}")?;
     let run = changed(
         rt,

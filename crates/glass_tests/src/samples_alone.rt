@@ -9,7 +9,9 @@ use coupling_set::Couplings;
 use lattice_geometry::Lattice;
 use scalar_rule::{Plan, Record, Sample, Start};
 use std::alloc::Global;
+use std::sync::Wait;
 use std::test::Fail;
+use std::thread::Threads;
 use threshold_table::{RuleKind, read_rule, read_swap};
 
 const HEAT: &str = "214748364,429496729,1073741824,2147483648,3221225472,3865470566,4080218931
@@ -126,7 +128,12 @@ fn rows_printed(alloc: Global, report: &str, sample: &str) -> Result<String, Fai
 }
 
 // Whether four samples of a run have the rows of each of them run by itself.
-fn agree(rt: &HostRuntime, size: u32, kind: RuleKind, seed: u64) -> Result<bool, Fail>
+fn agree<R: AllocGlobal + Threads + Wait + Sync>(
+    rt: &R,
+    size: u32,
+    kind: RuleKind,
+    seed: u64,
+) -> Result<bool, Fail>
     requires { seed ≤ 1000000 }
 {
     let alloc = rt.alloc();
@@ -151,7 +158,11 @@ fn agree(rt: &HostRuntime, size: u32, kind: RuleKind, seed: u64) -> Result<bool,
 }
 
 // Whether they have in runs of a size and a rule with several seeds.
-fn seeds_agree(rt: &HostRuntime, size: u32, kind: RuleKind) -> Result<bool, Fail> {
+fn seeds_agree<R: AllocGlobal + Threads + Wait + Sync>(
+    rt: &R,
+    size: u32,
+    kind: RuleKind,
+) -> Result<bool, Fail> {
     let mut agreed = true;
     for seed in 0..SEEDS {
         agreed = agreed && agree(rt, size, kind, FIRST_SEED + seed)?;
@@ -160,7 +171,7 @@ fn seeds_agree(rt: &HostRuntime, size: u32, kind: RuleKind) -> Result<bool, Fail
 }
 
 // Whether they have by both rules.
-fn all_agree(rt: &HostRuntime, size: u32) -> Result<bool, Fail> {
+fn all_agree<R: AllocGlobal + Threads + Wait + Sync>(rt: &R, size: u32) -> Result<bool, Fail> {
     Ok(seeds_agree(rt, size, RuleKind::Heat)? && seeds_agree(rt, size, RuleKind::Metropolis)?)
 }
 

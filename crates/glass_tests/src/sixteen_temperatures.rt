@@ -29,7 +29,7 @@ fn scaled(x: u64, y: u64, divisor: u64) -> u64 {
 }
 
 // The Metropolis thresholds of sixteen slots: powers of (t + 2) / (t + 10).
-fn rules(rt: &HostRuntime) -> Result<String, Fail> {
+fn rules<R: AllocGlobal>(rt: &R) -> Result<String, Fail> {
     let mut text = String::new(rt.alloc());
     for t in 0..16u64 {
         let x = scaled(ALWAYS, t + 2, t + 10);
@@ -41,7 +41,7 @@ fn rules(rt: &HostRuntime) -> Result<String, Fail> {
 }
 
 // The exchange thresholds of fifteen pairs, 64 each: powers of the ratio of neighbouring slots.
-fn swaps(rt: &HostRuntime) -> Result<String, Fail> {
+fn swaps<R: AllocGlobal>(rt: &R) -> Result<String, Fail> {
     let mut text = String::new(rt.alloc());
     for k in 0..15u64 {
         let ratio = scaled(ALWAYS, (k + 2) * (k + 11), (k + 10) * (k + 3));
