@@ -10,7 +10,25 @@ const UP: &str = "0,0,0,0,0,0,4294967296\n";
 
 const ALTERNATING: &str = "4294967296,4294967296,4294967296,0,0,0,0\n";
 
-// Whether a run over these files ends with status 0, this report, and nothing on the error output.
+// Whether a run by these words, over these files, ends with status 0, this report, and nothing on the
+// error output.
+fn prints_by<R: AllocGlobal + Threads + Wait + Sync>(
+    rt: &R,
+    line: &str,
+    run: &str,
+    rules: &str,
+    swaps: &str,
+    report: &str,
+) -> Result<bool, Fail> {
+    let called = call_with(rt, line, store(rt, run, rules, swaps)?)?;
+    Ok(
+        called.status == 0
+            && called.out.taken() == report.as_bytes()
+            && called.err.taken().is_empty(),
+    )
+}
+
+// Whether one worker prints this report, each colour in one piece.
 fn prints<R: AllocGlobal + Threads + Wait + Sync>(
     rt: &R,
     run: &str,
@@ -18,12 +36,7 @@ fn prints<R: AllocGlobal + Threads + Wait + Sync>(
     swaps: &str,
     report: &str,
 ) -> Result<bool, Fail> {
-    let called = call_with(rt, "run run.toml", store(rt, run, rules, swaps)?)?;
-    Ok(
-        called.status == 0
-            && called.out.taken() == report.as_bytes()
-            && called.err.taken().is_empty(),
-    )
+    prints_by(rt, "run run.toml", run, rules, swaps, report)
 }
 
 // The report of one slot and one epoch: its row, and the spins of both replicas.
@@ -155,6 +168,68 @@ fn hotter_first_slot_swaps_at_epoch_0(rt: HostRuntime) -> Result<(), Fail> {
             HOTTER_FIRST
         )?
     );
+    Ok(())
+}
+
+// The words of a run by so many workers and pieces.
+fn shared_run<R: AllocGlobal>(rt: &R, workers: u32, pieces: u32) -> Result<String, Fail> {
+    Ok(format!(in rt.alloc(); "run run.toml --workers {workers} --pieces {pieces}")?)
+}
+
+#[test]
+fn workers_and_pieces_leave_the_bytes_equal(rt: HostRuntime) -> Result<(), Fail> {
+    let rules = format!(in rt.alloc(); "{ALTERNATING}{UP}")?;
+    let run = two_epochs(&rt)?;
+    for (workers, pieces) in [
+        (1, 1),
+        (1, 3),
+        (1, 16),
+        (2, 1),
+        (2, 3),
+        (2, 16),
+        (7, 1),
+        (7, 3),
+        (7, 16),
+    ] {
+        let line = shared_run(&rt, workers, pieces)?;
+        assert!(rt;
+            prints_by(
+                &rt,
+                line.as_str(),
+                run.as_str(),
+                rules.as_str(),
+                "4294967296\n",
+                HOTTER_FIRST
+            )?,
+            "{line}"
+        );
+    }
+    Ok(())
+}
+
+// A lattice whose planes are forked.
+#[test]
+fn pieces_of_a_great_lattice_leave_the_bytes_equal(rt: HostRuntime) -> Result<(), Fail> {
+    let run = changed(
+        &rt,
+        changed(&rt, RUN, "size = 4", "size = 48")?.as_str(),
+        "spins = true",
+        "spins = false",
+    )?;
+    for pieces in [1, 3, 16] {
+        let line = shared_run(&rt, 2, pieces)?;
+        assert!(rt;
+            prints_by(
+                &rt,
+                line.as_str(),
+                run.as_str(),
+                DOWN,
+                "",
+                "glass 1 size=48 slots=1 samples=1 rule=heat from=0 to=1\nrow,0,0,0,-331776,-331776,110592,0,0\nend,1\n"
+            )?,
+            "{line}"
+        );
+    }
     Ok(())
 }
 

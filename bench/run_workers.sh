@@ -1,0 +1,129 @@
+#!/usr/bin/env bash
+# Says how much faster a run is with more workers. bench/run.sh --workers calls it.
+
+usage() {
+    cat <<'END'
+usage: bench/run.sh --workers [--cpu CPU] [--sizes "SIZE .."] [--passes N] [--turns N] [--limit RATIO]
+
+Times whole runs of ./glass by Metropolis with 64 samples, by the clock and less the time of a run of no epoch, with
+10 sweeps an epoch and with 1:
+
+  16 temperatures  1, 2, 4 and 8 workers
+  2 temperatures   1, 2 and 4 workers, and 1 worker with 2 and 4 pieces
+
+For each it prints the least milliseconds with one worker, and how many times as fast the others are. All outputs
+of a run must be the same, byte for byte. The machine must be idle and have 4 processors, or the ratios say little.
+
+  --cpu CPU      x86-64-v2 (as if left out) or x86-64-v3
+  --sizes ..     of 8, 16, 32 and 64; 16 and 64 if left out
+  --passes N     epochs at size 16, 500 if left out; at the other sizes as many as have about as many spin
+                 updates, and 10 at the least
+  --turns N      turns, 5 if left out; of each run the least time counts
+  --limit RATIO  the least ratio that is right of 4 workers at 16 temperatures with 10 sweeps, 3.3 if left out;
+                 the others are only told
+
+Status: 0 where no such ratio is below the limit, 1 where one is or two outputs differ, 2 for a wrong word or
+where the program can't be built. Needs rt and python3.
+END
+}
+
+passes=500
+limit=3.3
+sizes="16 64"
+. "$(dirname "$0")/common.sh"
+read_words "$@"
+check_sizes
+begin_build
+build_crate glass plain 4 0 0 0 0 0 0 0 0 0
+make_tables() {
+    # shellcheck disable=SC2086
+    python3 tools/make_tables.py metropolis --temperatures $2 \
+        --rules "$build/workers_$1_rules.csv" --swaps "$build/workers_$1_swaps.csv" > /dev/null \
+        || fail "make_tables.py failed"
+}
+make_tables 16 "1.0 1.05 1.1 1.15 1.2 1.25 1.3 1.35 1.4 1.45 1.5 1.55 1.6 1.65 1.7 1.75"
+make_tables 2 "1.1 1.2"
+
+# The run file of a size, a number of temperatures and one of sweeps: as many epochs as make the work alike.
+write_run() {
+    local epochs=$((passes * 4096 / $1 ** 3 * 16 / $2 * 10 / $3 / 10 * 10))
+    cat > "$build/workers_$1_$2_$3.toml" <<END
+size = $1
+rule = "metropolis"
+rules = "workers_$2_rules.csv"
+swaps = "workers_$2_swaps.csv"
+couplings = "random"
+sweeps = $3
+seed = 20240611
+samples = 64
+epochs = $((epochs < 10 ? 10 : epochs))
+every = 10
+start = "random"
+spins = false
+END
+}
+
+# One run: its name, what it is done with, the milliseconds by the clock, and the digest of its output.
+time_run() {
+    local name=$1 with=$2 took
+    shift 2
+    took=$(
+        cd "$build"
+        TIMEFORMAT='%R'
+        { time ./glass run "workers_$name.toml" "$@" > workers.txt; } 2>&1
+    ) || fail "a run failed: $name $*: $took"
+    echo "$name $with $(awk '{ print $1 * 1000 }' <<< "$took") $(sha256sum < "$build/workers.txt" | cut -d' ' -f1)"
+}
+
+for size in $sizes; do
+    for sweeps in 10 1; do
+        write_run "$size" 16 "$sweeps"
+        write_run "$size" 2 "$sweeps"
+    done
+done
+for _ in $(seq "$turns"); do
+    for size in $sizes; do
+        for sweeps in 10 1; do
+            time_run "${size}_16_$sweeps" start --until 0
+            time_run "${size}_2_$sweeps" start --until 0
+            for workers in 1 2 4 8; do
+                time_run "${size}_16_$sweeps" "$workers" --workers "$workers"
+            done
+            for workers in 1 2 4; do
+                time_run "${size}_2_$sweeps" "$workers" --workers "$workers"
+            done
+            for pieces in 2 4; do
+                time_run "${size}_2_$sweeps" "1x$pieces" --pieces "$pieces"
+            done
+        done
+    done
+done > "$build/workers.times" || exit 1
+
+awk -v cpu="$cpu" -v limit="$limit" '
+    {
+        name = $1
+        at = name " " $2
+        if ($2 != "start") {
+            if (!(name in left)) { names[++count] = name; left[name] = $4 }
+            if (left[name] != $4) { print name ": two outputs differ"; bad = 1 }
+            if (!(at in least)) with[name] = with[name] " " $2
+        }
+        if (!(at in least) || $3 + 0 < least[at]) least[at] = $3 + 0
+    }
+    END {
+        for (i = 1; i <= count; i++) {
+            name = names[i]
+            split(name, part, "_")
+            one = least[name " 1"] - least[name " start"]
+            printf "%s size %s, %s temperatures, %s sweeps: %.0f ms", cpu, part[1], part[2], part[3], one
+            n = split(with[name], ways, " ")
+            for (k = 2; k <= n; k++) {
+                ratio = one / (least[name " " ways[k]] - least[name " start"])
+                split(ways[k], way, "x")
+                printf ", %s %.2f", way[2] ? way[2] " pieces" : way[1] " workers", ratio
+                if (ways[k] == "4" && part[2] == 16 && part[3] == 10 && ratio < limit) bad = 1
+            }
+            print ""
+        }
+        exit bad || !count
+    }' "$build/workers.times"
