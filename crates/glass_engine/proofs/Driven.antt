@@ -1,16 +1,15 @@
 -- The end of a run.
-use Rattle.std.proofs.Common.{arith, ◌≡◌, ◌⊎◌, inl, inr, ℕ, ◌+◌, ◌-◌, ◌<◌, List, set, refl, sym, ap, ◌∙◌, subst}
+use Rattle.std.proofs.Common.{◌≡◌, ◌⊎◌, inl, inr, ℕ, ◌+◌, List, refl, sym, ap, ◌∙◌, subst}
 use Rattle.exchange_board.specs.declared.origin.Origin.{Origin}
-use Rattle.exchange_board.specs.Answers.{stages_of, Takes, IsSpent}
+use Rattle.exchange_board.specs.Answers.{stages_of, IsSpent}
 use Rattle.exchange_board.specs.Content.{plan_of, taken_before, IsLawfulOrigin}
-use Rattle.exchange_board.specs.Machine.{taken, after, AllEnded, NoneOut}
+use Rattle.exchange_board.specs.Machine.{taken, AllEnded}
 use Rattle.exchange_board.specs.Stops.{IsStop}
-use Rattle.exchange_board.specs.Views.{Stage, BoardView, JobView, RaggedEndedView, out_at, placed}
+use Rattle.exchange_board.specs.Views.{Stage, BoardView, RaggedEndedView}
 use Rattle.glass_engine.specs.KeptRun.{run_view, KeepsRun, done_view, KeepsDone}
 use Rattle.glass_engine.specs.Runs.{RunView, IsOriginOf, IsEnd}
 use Rattle.glass_engine.specs.declared.run.Run.TheInside as run
 use Rattle.glass_engine.specs.declared.done.Done.TheInside as done
-use Rattle.glass_engine.proofs.Steps.{turned-none, turned-taken}
 
 -- a board that stopped with no more to do
 pub record HasEnded (b : BoardView) (d : RaggedEndedView) : Type 0 where

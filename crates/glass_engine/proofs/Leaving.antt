@@ -1,5 +1,5 @@
 -- Seats that are opened, worked with and handed back, and the board that is closed with them.
-use Rattle.std.proofs.Common.{arith, ◌≡◌, ◌⊎◌, inl, inr, ℕ, zero, suc, ◌+◌, ◌*◌, ◌<◌, ◌≤◌, List, [], ◌∷◌, ◌++◌, All, Some, length, take, drop, map, get_or, refl, sym, ap, ◌∙◌, subst}
+use Rattle.std.proofs.Common.{arith, ◌≡◌, ◌⊎◌, inl, inr, ℕ, zero, suc, ◌+◌, ◌<◌, ◌≤◌, List, [], ◌∷◌, ◌++◌, All, Some, length, take, drop, get_or, refl, sym, ap, ◌∙◌, subst}
 use Rattle.std.specs.Prelude.{Option, IsSomeAnd}
 use Rattle.std.proofs.lemmas.Bool.{cases_lt}
 use Rattle.std.proofs.lemmas.List.{length-map}
@@ -11,7 +11,7 @@ use Rattle.turn_cell.specs.Seats.{seat_view, base_of, AreOpened, AreIdle}
 use Rattle.exchange_board.specs.declared.origin.Origin.{Origin}
 use Rattle.exchange_board.specs.Answers.{start_place, stages_of, IsSpent}
 use Rattle.exchange_board.specs.Content.{plan_of, slots_in, taken_before, IsLawfulOrigin}
-use Rattle.exchange_board.specs.Machine.{begun, epochs, phases, taken, AllEnded}
+use Rattle.exchange_board.specs.Machine.{begun, phases, taken, AllEnded}
 use Rattle.exchange_board.specs.Stops.{IsStop}
 use Rattle.exchange_board.specs.Views.{Stage, BoardView, RaggedEndedView, place_at, progress, words_of}
 use Rattle.exchange_board.proofs.Starting.{begun-ruled, taken-begun}

@@ -125,6 +125,26 @@ fn reported<R: Threads + Wait + Sync, G: Gate + Sync>(
     Ok(out)
 }
 
+/// The same of two slots that always swap, the first of them against its field and the second up.
+fn two_slots<R: Threads + Wait + Sync, G: Gate + Sync>(
+    rt: &R,
+    gate: &G,
+    alloc: Global,
+    until: u64,
+    takes: u64,
+    workers: u32,
+) -> Result<MemorySink, Fail>
+    requires until { until ≤ 1000000000 }
+    requires takes { takes ≤ 32000000000 }
+    requires workers { (1 ≤ workers) × (workers ≤ 64) }
+{
+    let rules = RuleTable::from_rows(alloc, RuleKind::Heat, &[AGAINST, UP])?;
+    let swaps = SwapTable::from_rows(alloc, &[[ALL]])?;
+    Ok(reported(
+        rt, gate, alloc, rules, swaps, &ORDERS, until, takes, workers,
+    )?)
+}
+
 #[test]
 fn report_of_all_down(rt: HostRuntime) -> Result<(), Fail> {
     let alloc = rt.alloc();
@@ -154,25 +174,7 @@ spin,0,0,1,0000000000000000
     Ok(())
 }
 
-#[test]
-fn report_of_two_slots_that_swap(rt: HostRuntime) -> Result<(), Fail> {
-    let alloc = rt.alloc();
-    let rules = RuleTable::from_rows(alloc, RuleKind::Heat, &[AGAINST, UP])?;
-    let swaps = SwapTable::from_rows(alloc, &[[ALL]])?;
-    let out = reported(
-        &rt,
-        &OpenGate,
-        alloc,
-        rules,
-        swaps,
-        &ORDERS,
-        2,
-        32000000000,
-        2,
-    )?;
-    assert_eq!(rt;
-        out.taken(),
-        b"glass 1 size=4 slots=2 samples=1 rule=heat from=0 to=2
+const TWO_SLOTS: &[u8] = b"glass 1 size=4 slots=2 samples=1 rule=heat from=0 to=2
 row,0,0,0,192,192,64,0,0
 row,0,0,1,-192,-192,64,1,1
 row,1,0,0,192,192,64,1,1
@@ -182,29 +184,22 @@ spin,0,0,0,5a5aa5a55a5aa5a5
 spin,0,0,1,5a5aa5a55a5aa5a5
 spin,0,1,0,ffffffffffffffff
 spin,0,1,1,ffffffffffffffff
-"
-            .as_slice()
-    );
+";
+
+// By one worker, by two, and by more than there are slots.
+#[test]
+fn report_of_two_slots_that_swap(rt: HostRuntime) -> Result<(), Fail> {
+    for workers in [1, 2, 64] {
+        let out = two_slots(&rt, &OpenGate, rt.alloc(), 2, 32000000000, workers)?;
+        assert!(rt; out.taken() == TWO_SLOTS, "{workers} workers");
+    }
     Ok(())
 }
 
 // The spins are those after the last exchange.
 #[test]
 fn report_that_ends_with_a_swap(rt: HostRuntime) -> Result<(), Fail> {
-    let alloc = rt.alloc();
-    let rules = RuleTable::from_rows(alloc, RuleKind::Heat, &[AGAINST, UP])?;
-    let swaps = SwapTable::from_rows(alloc, &[[ALL]])?;
-    let out = reported(
-        &rt,
-        &OpenGate,
-        alloc,
-        rules,
-        swaps,
-        &ORDERS,
-        1,
-        32000000000,
-        2,
-    )?;
+    let out = two_slots(&rt, &OpenGate, rt.alloc(), 1, 32000000000, 2)?;
     assert_eq!(rt;
         out.taken(),
         b"glass 1 size=4 slots=2 samples=1 rule=heat from=0 to=1
@@ -221,19 +216,69 @@ spin,0,1,1,5a5aa5a55a5aa5a5
     Ok(())
 }
 
-// The second slot did not begin its last epoch.
+// Which slots stop where is free, but not how far every slot came: after three hand-outs each was swept
+// in epoch 0, after one not every slot.
 #[test]
 fn report_of_a_run_that_stops(rt: HostRuntime) -> Result<(), Fail> {
-    let alloc = rt.alloc();
-    let rules = RuleTable::from_rows(alloc, RuleKind::Heat, &[AGAINST, UP])?;
-    let swaps = SwapTable::from_rows(alloc, &[[ALL]])?;
-    let out = reported(&rt, &OpenGate, alloc, rules, swaps, &ORDERS, 2, 3, 1)?;
-    assert_eq!(rt;
-        out.taken(),
-        b"glass 1 size=4 slots=2 samples=1 rule=heat from=0 to=1
+    for workers in [1, 2] {
+        let out = two_slots(&rt, &OpenGate, rt.alloc(), 2, 3, workers)?;
+        assert!(rt;
+            out.taken()
+                == b"glass 1 size=4 slots=2 samples=1 rule=heat from=0 to=1
 row,0,0,0,192,192,64,0,0
 row,0,0,1,-192,-192,64,1,1
 end,1
+"
+                    .as_slice(),
+            "{workers} workers"
+        );
+        let out = two_slots(&rt, &OpenGate, rt.alloc(), 2, 1, workers)?;
+        assert!(rt;
+            out.taken()
+                == b"glass 1 size=4 slots=2 samples=1 rule=heat from=0 to=0
+end,0
+"
+                    .as_slice(),
+            "{workers} workers"
+        );
+    }
+    Ok(())
+}
+
+// Slots of equal energies change places wherever their pair has its turn.
+#[test]
+fn three_slots_through_two_seats(rt: HostRuntime) -> Result<(), Fail> {
+    let alloc = rt.alloc();
+    let rules = RuleTable::from_rows(alloc, RuleKind::Heat, &[UP, UP, UP])?;
+    let swaps = SwapTable::from_rows(alloc, &[[0], [0]])?;
+    let orders = Orders {
+        spins: false,
+        ..ORDERS
+    };
+    let out = reported(
+        &rt,
+        &OpenGate,
+        alloc,
+        rules,
+        swaps,
+        &orders,
+        3,
+        32000000000,
+        2,
+    )?;
+    assert_eq!(rt;
+        out.taken(),
+        b"glass 1 size=4 slots=3 samples=1 rule=heat from=0 to=3
+row,0,0,0,-192,-192,64,0,0
+row,0,0,1,-192,-192,64,1,1
+row,0,0,2,-192,-192,64,2,2
+row,1,0,0,-192,-192,64,1,1
+row,1,0,1,-192,-192,64,0,0
+row,1,0,2,-192,-192,64,2,2
+row,2,0,0,-192,-192,64,1,1
+row,2,0,1,-192,-192,64,2,2
+row,2,0,2,-192,-192,64,0,0
+end,3
 "
             .as_slice()
     );
@@ -242,13 +287,60 @@ end,1
 
 #[test]
 fn hook_is_entered_once_for_each_slot_and_epoch(rt: HostRuntime) -> Result<(), Fail> {
-    let alloc = rt.alloc();
-    let rules = RuleTable::from_rows(alloc, RuleKind::Heat, &[AGAINST, UP])?;
-    let swaps = SwapTable::from_rows(alloc, &[[ALL]])?;
     let gate = Entries {
         entered: AtomicU64::new(0),
     };
-    reported(&rt, &gate, alloc, rules, swaps, &ORDERS, 2, 32000000000, 2)?;
+    two_slots(&rt, &gate, rt.alloc(), 2, 32000000000, 2)?;
     assert_eq!(rt; gate.entered.load(Ordering::SeqCst), 0x0303);
+    Ok(())
+}
+
+/// A hook whose first entry in each of four epochs returns only once the second came, or after so many
+/// looks. It keeps in which epochs the second came in time.
+#[derive(Drop)]
+struct Meetings {
+    came: [AtomicU64; 4],
+    met: [AtomicU64; 4],
+}
+
+impl Gate for Meetings {
+    fn enter(&self, _slot: u32, epoch: u64) {
+        let (Some(came), Some(met)) = (self.came.get(epoch as usize), self.met.get(epoch as usize))
+        else {
+            return;
+        };
+        if came.fetch_add(1, Ordering::SeqCst) > 0 {
+            return;
+        }
+        for _ in 0..100000000u64 {
+            if came.load(Ordering::SeqCst) > 1 {
+                met.store(1, Ordering::SeqCst);
+                return;
+            }
+        }
+    }
+}
+
+/// Four counts that begin at 0.
+fn four_counts() -> [AtomicU64; 4] {
+    [
+        AtomicU64::new(0),
+        AtomicU64::new(0),
+        AtomicU64::new(0),
+        AtomicU64::new(0),
+    ]
+}
+
+// One thread can't pass it, nor can a run that leaves an epoch to one thread.
+#[test]
+fn two_workers_overlap_in_every_epoch(rt: HostRuntime) -> Result<(), Fail> {
+    let gate = Meetings {
+        came: four_counts(),
+        met: four_counts(),
+    };
+    two_slots(&rt, &gate, rt.alloc(), 4, 32000000000, 2)?;
+    for met in &gate.met {
+        assert_eq!(rt; met.load(Ordering::SeqCst), 1);
+    }
     Ok(())
 }
