@@ -18,3 +18,4 @@ pub mod UnevenClauses
 pub mod BankSteps
 pub mod BankForm
 pub mod BankClauses
+mod OneEncoding

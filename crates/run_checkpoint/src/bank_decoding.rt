@@ -51,7 +51,7 @@ pub fn decode_banks(
 }
 
 // All plans are lawful.
-fn read_lawful(plans: &[Arc<Plan, Global>])
+pub(crate) fn read_lawful(plans: &[Arc<Plan, Global>])
     ensures { All IsLawfulPlan (map arc_value plans.now) }
 {
     'plans: for g in 0..plans.len() {

@@ -21,7 +21,7 @@ pub use bank_decoding::decode_banks;
 pub use bank_encoding::{begin_banks, end_banks};
 pub use decoding::decode;
 pub use encoding::{encode, encode_level};
-pub use laws::encoding_is_one;
+pub use laws::{banks_encoding_is_one, encoding_is_one, uneven_encoding_is_one};
 pub use lengths::{length, length_ragged};
 pub use refused::CheckpointRefused;
 pub use room::Room;

@@ -5,7 +5,7 @@ use thiserror::Error;
 
 /// Why the bytes of a checkpoint were refused. The causes are tested in the order that
 /// docs/specification/checkpoint.md states.
-#[derive(Debug, Drop, Error)]
+#[derive(Clone, Copy, Debug, PartialEq, Eq, Drop, Error)]
 pub enum CheckpointRefused {
     /// There are too few bytes for a header and a digest.
     #[error("the checkpoint is too short: {len} bytes")]
