@@ -1,19 +1,18 @@
 -- The clauses of the reader of a checkpoint of several banks.
-use Rattle.std.proofs.Common.{◌≡◌, ℕ, zero, suc, ◌+◌, ◌-◌, ◌*◌, ◌<◌, ◌≤◌, List, [], ◌∷◌, ◌++◌, All, length, take, drop, get_or, Option, Some, None, Result, Ok, Err, refl, sym, ap, subst, ◌∙◌, arith, append_assoc, inl, inr}
+use Rattle.std.proofs.Common.{◌≡◌, ℕ, ◌+◌, ◌*◌, ◌<◌, ◌≤◌, List, ◌++◌, All, length, take, drop, get_or, Some, None, Result, Ok, Err, refl, sym, ap, subst, ◌∙◌, arith, append_assoc, inl, inr}
 use Rattle.std.specs.Prelude.{IfOk, IfErr, ◌==◌}
 use Rattle.std.specs.Global.{Vec}
 use Rattle.std.proofs.lemmas.Bool.{eqb-true}
-use Rattle.std.proofs.lemmas.List.{take_at, drop_at, length-append, length-drop, length-take, take-append-drop, take_all}
+use Rattle.std.proofs.lemmas.List.{length-append, length-drop, take-append-drop}
 use Rattle.sha2.specs.Sha256.{sha256}
-use Rattle.sha2.proofs.Facts256.{length-sha256}
 use Rattle.byteorder.specs.Endian.{big_bytes, big_number}
 use Rattle.byteorder.specs.Numbers.{big_number-reads_back}
-use Rattle.glass_edges.specs.Refusals.{or_else, unless, GivesAfterTests}
+use Rattle.glass_edges.specs.Refusals.{GivesAfterTests}
 use Rattle.scalar_rule.specs.Plan.{Plan, slots_of, IsLawfulPlan}
 use Rattle.scalar_rule.specs.declared.sample.Sample.{Sample}
 use Rattle.plane_sweep.specs.declared.stand.Stand.{Stand}
 use Rattle.run_checkpoint.specs.BankDecoding.{other_banks, banks_refused, epochs_refused, first_epoch, banks_form, banks_refusal, banks_in, banks_decoded, AreEncoded}
-use Rattle.run_checkpoint.specs.BankEncoding.{banks_kind, banks_header, banks_bytes, banks_encoding, bank_len, banks_len, banks_parts, HaveShape, HaveOneShape, AreBanks, BanksStand, BanksFit}
+use Rattle.run_checkpoint.specs.BankEncoding.{banks_kind, banks_header, banks_bytes, banks_encoding, bank_len, banks_len, banks_parts, HaveOneShape, AreBanks, BanksStand, BanksFit}
 use Rattle.run_checkpoint.specs.Encoding.{sealed}
 use Rattle.run_checkpoint.specs.Lengths.{encoding_len}
 use Rattle.run_checkpoint.specs.Reading.{piece, number_at, body_of, digest_of}

@@ -1,29 +1,27 @@
 -- The checkpoints of banks one after the other, in both directions.
-use Rattle.std.proofs.Common.{◌≡◌, ℕ, zero, suc, ◌+◌, ◌-◌, ◌*◌, ◌<◌, ◌≤◌, List, [], ◌∷◌, ◌++◌, All, length, take, drop, Option, Some, None, refl, sym, ap, subst, ◌∙◌, arith, append_assoc, take-add}
-use Rattle.std.specs.Prelude.{◌==◌, cond}
+use Rattle.std.proofs.Common.{◌≡◌, ℕ, zero, suc, ◌+◌, ◌*◌, ◌<◌, ◌≤◌, List, [], ◌∷◌, ◌++◌, All, length, take, drop, Some, None, refl, sym, ap, ◌∙◌, arith, append_assoc, take-add}
+use Rattle.std.specs.Prelude.{◌==◌}
 use Rattle.std.proofs.lemmas.Bool.{eqb-true}
-use Rattle.std.proofs.lemmas.List.{take_at, drop_at, length-append, length-drop, take_all}
+use Rattle.std.proofs.lemmas.List.{take_at, drop_at, length-append, length-drop}
 use Rattle.std.proofs.lemmas.List.Elements.{All-head, All-tail}
 use native.Mathlib.Nat.{mul-suc, mul-zero}
-use Rattle.glass_edges.specs.Refusals.{or_else}
 use Rattle.scalar_rule.specs.Plan.{Plan, slots_of, IsLawfulPlan}
 use Rattle.scalar_rule.specs.declared.sample.Sample.{Sample}
-use Rattle.plane_sweep.specs.Packed.{part, StandFits, StandsFor}
+use Rattle.plane_sweep.specs.Packed.{StandFits}
 use Rattle.plane_sweep.specs.declared.stand.Stand.{Stand}
 use Rattle.run_checkpoint.specs.BankDecoding.{banks_refused, other_epoch, epochs_refused, banks_in, first_epoch}
-use Rattle.run_checkpoint.specs.BankEncoding.{banks_bytes, banks_parts, AreBanks, BanksStand, BanksFit, HaveShape}
-use Rattle.run_checkpoint.specs.Decoding.{level_refusal, IsEncoded}
-use Rattle.run_checkpoint.specs.Encoding.{encoding, sealed, AreBankStates}
+use Rattle.run_checkpoint.specs.BankEncoding.{banks_bytes, banks_parts, AreBanks, BanksStand, BanksFit}
+use Rattle.run_checkpoint.specs.Decoding.{level_refusal}
+use Rattle.run_checkpoint.specs.Encoding.{sealed}
 use Rattle.run_checkpoint.specs.Lengths.{encoding_len}
 use Rattle.run_checkpoint.specs.Reading.{piece, number_at, stand_in}
-use Rattle.run_checkpoint.specs.declared.refused.CheckpointRefused.{CheckpointRefused}
 use Rattle.run_checkpoint.specs.declared.refused.CheckpointRefused.TheVariants as refused
 use Rattle.run_checkpoint.proofs.FirstOf.{both-none, none-both}
 use Rattle.run_checkpoint.proofs.Forms.{length-sealed}
 use Rattle.run_checkpoint.proofs.LevelClauses.{none-is, packed-none, states-packed, states-epoch, level-tells}
-use Rattle.run_checkpoint.proofs.LevelForm.{packed_body, stand-again, length-packed, encoding-packed}
+use Rattle.run_checkpoint.proofs.LevelForm.{packed_body, stand-again, length-packed}
 use Rattle.run_checkpoint.proofs.Tested.{Tells, tells-or, tells-if, passed, eq-true}
-use Rattle.run_checkpoint.proofs.WrittenAgain.{IsBytes, bytes-drop, bytes-take, piece-length}
+use Rattle.run_checkpoint.proofs.WrittenAgain.{IsBytes, bytes-drop, bytes-take}
 
 -- the checkpoints of packed states one after the other
 unfoldable pub banks_packed : List Plan → List Stand → List ℕ

@@ -3,9 +3,8 @@ use Rattle.std.proofs.Common.{◌≡◌, ℕ, ◌+◌, ◌-◌, ◌≤◌, List,
 use Rattle.std.proofs.lemmas.List.{take_at, drop_at, take-append-drop, length-append, drop-drop}
 use Rattle.sha2.specs.Sha256.{sha256}
 use Rattle.sha2.proofs.Facts256.{length-sha256}
-use Rattle.byteorder.specs.Endian.{big_bytes, big_number}
 use Rattle.run_checkpoint.specs.Encoding.{sealed}
-use Rattle.run_checkpoint.specs.Reading.{piece, number_at, body_of, digest_of}
+use Rattle.run_checkpoint.specs.Reading.{piece, body_of, digest_of}
 
 -- the next part stands at its place
 pub next-part : (xs p q : List ℕ) (place len further : ℕ) → drop place xs ≡ p ++ q → length p ≡ len → further ≡ place + len → (piece place len xs ≡ p) × (drop further xs ≡ q)

@@ -1,12 +1,11 @@
 -- Where the label of a slot, replica and sample stands among the bytes.
-use Rattle.std.proofs.Common.{◌≡◌, ◌⊎◌, ℕ, ◌+◌, ◌*◌, ◌<◌, ◌≤◌, Bool, true, false, cond, List, take, drop, map, length, refl, sym, ap, ◌∙◌, arith, inl, inr}
+use Rattle.std.proofs.Common.{◌≡◌, ℕ, ◌+◌, ◌*◌, ◌<◌, ◌≤◌, cond, List, drop, sym, ap, ◌∙◌, arith, inl, inr}
 use Rattle.std.specs.Prelude.{slice_index, ◌==◌}
 use Rattle.std.proofs.lemmas.List.{get_or-take, get_or-drop, get_or-map}
 use Rattle.spin_model.proofs.Tables.{length-table, get_or-table}
 use Rattle.scalar_rule.specs.Epoch.{slot_at}
-use Rattle.scalar_rule.specs.declared.plain_copy.PlainCopy.{PlainCopy}
 use Rattle.scalar_rule.specs.declared.sample.PlainSlot.{PlainSlot}
-use Rattle.plane_sweep.specs.Packed.{part_slot, part_copy}
+use Rattle.plane_sweep.specs.Packed.{part_slot}
 use Rattle.run_checkpoint.specs.Lengths.{replica_len, slot_len}
 use Rattle.run_checkpoint.specs.Reading.{replica_in, slot_in, slots_in, parts_in}
 use Rattle.run_checkpoint.specs.Tests.{label}

@@ -1,21 +1,20 @@
 -- The clauses of the reader of a checkpoint at one epoch.
-use Rattle.std.proofs.Common.{◌≡◌, ℕ, ◌+◌, ◌*◌, ◌<◌, ◌≤◌, ◌^◌, List, ◌++◌, length, map, drop, Option, Some, None, Result, Ok, Err, refl, sym, ap, subst, ◌∙◌, arith, inl, inr}
+use Rattle.std.proofs.Common.{◌≡◌, ℕ, ◌*◌, ◌<◌, ◌≤◌, List, ◌++◌, length, map, drop, None, Result, Ok, Err, refl, sym, ap, subst, ◌∙◌, arith, inl, inr}
 use Rattle.std.specs.Prelude.{IfOk, IfErr}
 use Rattle.std.proofs.lemmas.List.{length-drop}
 use Rattle.byteorder.specs.Numbers.{big_from-lt}
-use Rattle.glass_edges.specs.Refusals.{or_else, unless, GivesAfterTests}
+use Rattle.glass_edges.specs.Refusals.{GivesAfterTests}
 use Rattle.scalar_rule.specs.Plan.{Plan, slots_of, IsLawfulPlan}
 use Rattle.scalar_rule.specs.Epoch.{slot_at}
-use Rattle.scalar_rule.specs.declared.sample.PlainPair.{PlainPair}
 use Rattle.scalar_rule.specs.declared.sample.PlainSlot.{PlainSlot}
 use Rattle.scalar_rule.specs.declared.sample.Sample.{Sample}
-use Rattle.plane_sweep.specs.Packed.{part, part_slot, part_pair, StandFits, StandsFor, PermutesAt}
+use Rattle.plane_sweep.specs.Packed.{part, part_slot, StandFits, StandsFor, PermutesAt}
 use Rattle.plane_sweep.specs.declared.stand.Stand.{Stand}
 use Rattle.run_checkpoint.specs.Decoding.{level_form, level_refusal, decoded, IsEncoded}
 use Rattle.run_checkpoint.specs.Encoding.{header, sealed, contents, encoding, AreBankStates}
 use Rattle.run_checkpoint.specs.Lengths.{slot_len, contents_len}
-use Rattle.run_checkpoint.specs.Reading.{number_at, parts_in, slots_in, pairs_in, stand_in}
-use Rattle.run_checkpoint.specs.Tests.{wrong_label, late}
+use Rattle.run_checkpoint.specs.Reading.{parts_in, stand_in}
+use Rattle.run_checkpoint.specs.Tests.{wrong_label}
 use Rattle.run_checkpoint.specs.declared.refused.CheckpointRefused.{CheckpointRefused}
 use Rattle.run_checkpoint.specs.declared.refused.CheckpointRefused.TheVariants as refused
 use Rattle.run_checkpoint.proofs.FirstOf.{both-none, none-both}

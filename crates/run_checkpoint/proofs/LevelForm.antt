@@ -1,14 +1,13 @@
 -- The form of a checkpoint at one epoch: its tests together, and both directions.
-use Rattle.std.proofs.Common.{◌≡◌, ℕ, ◌+◌, ◌-◌, ◌*◌, ◌<◌, ◌≤◌, ◌^◌, List, ◌++◌, length, take, drop, Option, Some, None, refl, sym, ap, ◌∙◌, arith, append_assoc, take-add}
-use Rattle.std.proofs.lemmas.List.{length-append, length-take, length-drop, take-append-drop, drop-drop}
+use Rattle.std.proofs.Common.{◌≡◌, ℕ, ◌+◌, ◌≤◌, List, ◌++◌, length, take, drop, None, refl, sym, ap, ◌∙◌, arith, append_assoc}
+use Rattle.std.proofs.lemmas.List.{length-append, length-drop, take-append-drop}
 use Rattle.sha2.specs.Sha256.{sha256}
 use Rattle.sha2.proofs.Facts256.{length-sha256}
 use Rattle.byteorder.specs.Endian.{big_bytes, big_number}
-use Rattle.byteorder.specs.Numbers.{big_number-reads_back, big_from-lt}
-use Rattle.glass_edges.specs.Refusals.{or_else}
-use Rattle.scalar_rule.specs.Plan.{Plan, slots_of, pairs_of, IsLawfulPlan}
+use Rattle.byteorder.specs.Numbers.{big_number-reads_back}
+use Rattle.scalar_rule.specs.Plan.{Plan, slots_of, IsLawfulPlan}
 use Rattle.run_plan.specs.CanonicalPlan.{canonical}
-use Rattle.plane_sweep.specs.Packed.{part, StandFits, PermutesLabels}
+use Rattle.plane_sweep.specs.Packed.{part, StandFits}
 use Rattle.plane_sweep.specs.declared.stand.Stand.{Stand}
 use Rattle.plane_sweep.specs.declared.replica.Duo.{Duo}
 use Rattle.plane_sweep.specs.declared.stand.PairWheels.{PairWheels}
@@ -25,7 +24,7 @@ use Rattle.run_checkpoint.proofs.PartLengths.{length-contents, length-header}
 use Rattle.run_checkpoint.proofs.Pieces.{length-big_bytes}
 use Rattle.run_checkpoint.proofs.ReadAgain.{slots-again, pairs-again}
 use Rattle.run_checkpoint.proofs.Tested.{Tells, tells-or, tells-short, tells-kind, tells-shape, tells-length, tells-digest, tells-plan, long-enough, kind-right, kind-is, shape-right, shape-is, length-right, length-is, digest-right, digest-is, plan-right, plan-is}
-use Rattle.run_checkpoint.proofs.WrittenAgain.{IsBytes, bytes-drop, word-back, long_word-back, contents-back, slots-fit, slots-count, pairs-count, pairs-fit}
+use Rattle.run_checkpoint.proofs.WrittenAgain.{IsBytes, bytes-drop, word-back, long_word-back, contents-back}
 
 -- what the tests of the form say together
 pub record HasForm (plan : Plan) (bytes : List ℕ) : Type 0 where

@@ -18,4 +18,5 @@ pub mod UnevenClauses
 pub mod BankSteps
 pub mod BankForm
 pub mod BankClauses
-mod OneEncoding
+pub mod OneEncoding
+pub mod BankParts

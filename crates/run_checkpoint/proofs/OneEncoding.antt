@@ -1,5 +1,5 @@
 -- States that have one encoding are the same, also those at different epochs and those of banks.
-use Rattle.std.proofs.Common.{◌≡◌, ℕ, ◌+◌, ◌<◌, List, [], ◌∷◌, ◌++◌, All, length, take, drop, refl, sym, ap, ◌∙◌, arith}
+use Rattle.std.proofs.Common.{◌≡◌, ℕ, ◌<◌, List, [], ◌∷◌, ◌++◌, All, length, take, drop, refl, sym, ap, ◌∙◌}
 use Rattle.std.proofs.lemmas.List.{take_at, drop_at}
 use Rattle.std.proofs.lemmas.List.Elements.{All-head, All-tail}
 use Rattle.sha2.specs.Sha256.{sha256}
@@ -52,7 +52,7 @@ parts-one a b c d n long other e = (
   sym (drop_at a b n long) ∙ ap (drop n) e ∙ drop_at c d n other,
 )
 
-length-encoding : (plan : Plan) (states : ℕ → Sample) → IsLawfulPlan plan → AreBankStates plan states → length (encoding plan states) ≡ encoding_len plan.size (slots_of plan)
+pub length-encoding : (plan : Plan) (states : ℕ → Sample) → IsLawfulPlan plan → AreBankStates plan states → length (encoding plan states) ≡ encoding_len plan.size (slots_of plan)
 length-encoding plan states lawful are =
     ap length (states-packed plan states are lawful) ∙ length-sealed (packed_body plan are.stand) ∙ length-packed plan are.stand are.fits
 

@@ -6,16 +6,16 @@ use Rattle.std.specs.Int.{bit_at}
 use Rattle.std.specs.List.{flat_map}
 use Rattle.std.proofs.lemmas.Bool.{cases_lt}
 use Rattle.std.proofs.lemmas.Grind.{flat_map-append}
-use Rattle.std.proofs.lemmas.List.{append-nil, get_or-map, length-map}
+use Rattle.std.proofs.lemmas.List.{append-nil, get_or-map}
 use Rattle.std.proofs.lemmas.List.Concat.{flat_map-cons}
 use Rattle.std.proofs.lemmas.List.Elements.{All-get_or}
 use Rattle.std.proofs.lemmas.Nat.{div_below, mod_below, div-add-mod'}
 use Rattle.std.proofs.lemmas.Nat.Bits.{bit_at_cat_low, bit_at_cat_high, same_from_bits_below}
 use Rattle.multispin_word.proofs.Bits.{one_if-is_set}
 use Rattle.spin_model.specs.Words.{is_set, one_if}
-use Rattle.spin_model.specs.Lattice.{IsLawfulSize, volume, half_plane, colour, z_of, place_in_plane}
+use Rattle.spin_model.specs.Lattice.{IsLawfulSize, volume, half_plane, z_of, place_in_plane}
 use Rattle.spin_model.specs.Steps.{table}
-use Rattle.spin_model.proofs.Tables.{length-table, get_or-table, table-of_items, table-same}
+use Rattle.spin_model.proofs.Tables.{get_or-table, table-of_items, table-same}
 use Rattle.scalar_rule.specs.Epoch.{slot_at, pair_at}
 use Rattle.scalar_rule.specs.Neighbours.{spin}
 use Rattle.scalar_rule.specs.declared.plain_copy.PlainCopy.{PlainCopy}

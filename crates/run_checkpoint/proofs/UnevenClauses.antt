@@ -1,13 +1,11 @@
 -- The clauses of the reader of checkpoints of either kind.
-use Rattle.std.proofs.Common.{◌≡◌, ◌⊎◌, ℕ, ◌+◌, ◌*◌, ◌<◌, ◌≤◌, ◌^◌, Bool, true, false, ◌&&◌, cond, List, [], ◌++◌, length, map, take, drop, get_or, Option, Some, None, Result, Ok, Err, refl, sym, ap, subst, ◌∙◌, arith, inl, inr}
-use Rattle.std.specs.Prelude.{IfOk, IfErr, ◌==◌, slice_index}
+use Rattle.std.proofs.Common.{◌≡◌, ◌⊎◌, ℕ, ◌*◌, ◌<◌, ◌≤◌, ◌^◌, Bool, true, false, ◌&&◌, cond, List, [], ◌++◌, length, map, take, drop, Some, None, Result, Ok, Err, refl, sym, ap, subst, ◌∙◌, arith, inl, inr}
+use Rattle.std.specs.Prelude.{IfOk, IfErr, ◌==◌}
 use Rattle.std.specs.List.{flat_map}
 use Rattle.std.specs.Str.{bytes_eq}
 use Rattle.std.proofs.lemmas.Bool.{eqb-true}
-use Rattle.std.proofs.lemmas.Bool.Decides.{nat_tests}
-use Rattle.std.proofs.lemmas.List.{length-drop, length-map, get_or-drop}
-use Rattle.std.proofs.lemmas.Slice.Eq.{bytes_eq-Decides}
-use Rattle.glass_edges.specs.Refusals.{or_else, unless, first_of, GivesAfterTests}
+use Rattle.std.proofs.lemmas.List.{length-drop, length-map}
+use Rattle.glass_edges.specs.Refusals.{GivesAfterTests}
 use Rattle.scalar_rule.specs.Epoch.{slot_at}
 use Rattle.scalar_rule.specs.Laws.{level_start}
 use Rattle.scalar_rule.specs.Plan.{Plan, slots_of, IsLawfulPlan}
@@ -17,30 +15,30 @@ use Rattle.scalar_rule.specs.declared.sample.PlainSlot.{PlainSlot}
 use Rattle.scalar_rule.specs.declared.sample.Record.{Record}
 use Rattle.scalar_rule.specs.declared.sample.Sample.{Sample}
 use Rattle.scalar_rule.proofs.Extremes.{greatest-at}
-use Rattle.plane_sweep.specs.Packed.{part, part_slot, PermutesAt, StandFits}
+use Rattle.plane_sweep.specs.Packed.{part_slot, PermutesAt, StandFits}
 use Rattle.plane_sweep.specs.Uneven.{position_of, positions_of, uneven_part, level_stand, RaggedStandFits}
 use Rattle.plane_sweep.specs.declared.stand.Stand.{Stand}
 use Rattle.plane_sweep.specs.declared.uneven.Place.{Place}
 use Rattle.plane_sweep.specs.declared.uneven.RaggedStand.{RaggedStand}
 use Rattle.plane_sweep.proofs.LevelStands.{level-part, level-fits}
-use Rattle.run_checkpoint.specs.Decoding.{level_refusal, IsEncoded}
+use Rattle.run_checkpoint.specs.Decoding.{level_refusal}
 use Rattle.run_checkpoint.specs.Encoding.{level_kind, contents, sealed, encoding, AreBankStates}
 use Rattle.run_checkpoint.specs.Lengths.{slot_len, contents_len}
-use Rattle.run_checkpoint.specs.Reading.{number_at, parts_in, slots_in, pairs_in, stand_in}
-use Rattle.run_checkpoint.specs.Tests.{short, wrong_label, late}
-use Rattle.run_checkpoint.specs.UnevenDecoding.{epoch_in, phase_in, places_in, records_in, count_in, slots_place, records_place, uneven_in, is_wrong_place, wrong_place_at, wrong_place, HasRightPlaces, other_orders, other_count, uneven_form, uneven_refusal, is_uneven, any_refusal, any_in, any_decoded, IsUnevenEncoded, IsLevelEncoded, IsAnyEncoded}
+use Rattle.run_checkpoint.specs.Reading.{number_at, parts_in, stand_in}
+use Rattle.run_checkpoint.specs.Tests.{short, wrong_label}
+use Rattle.run_checkpoint.specs.UnevenDecoding.{epoch_in, phase_in, places_in, count_in, slots_place, records_place, uneven_in, is_wrong_place, wrong_place_at, wrong_place, HasRightPlaces, other_orders, other_count, uneven_form, uneven_refusal, is_uneven, any_refusal, any_in, any_decoded, IsUnevenEncoded, IsAnyEncoded}
 use Rattle.run_checkpoint.specs.UnevenEncoding.{uneven_kind, uneven_header, uneven_encoding, position_bytes, record_bytes, AreUnevenStates}
 use Rattle.run_checkpoint.specs.declared.refused.CheckpointRefused.{CheckpointRefused}
 use Rattle.run_checkpoint.specs.declared.refused.CheckpointRefused.TheVariants as refused
-use Rattle.run_checkpoint.proofs.FirstOf.{both-none, none-both, cases-bool}
+use Rattle.run_checkpoint.proofs.FirstOf.{both-none, none-both}
 use Rattle.run_checkpoint.proofs.LabelTests.{right-labels, labels-right}
 use Rattle.run_checkpoint.proofs.LevelClauses.{none-is, packed-none, level-tells, states-packed, states-epoch}
-use Rattle.run_checkpoint.proofs.LevelForm.{packed_body, HasForm, stand-again, form-again as level_form-again, form-long}
+use Rattle.run_checkpoint.proofs.LevelForm.{packed_body, stand-again, form-again as level_form-again, form-long}
 use Rattle.run_checkpoint.proofs.PackedParts.{contents-same}
-use Rattle.run_checkpoint.proofs.Tested.{Tells, tells-or, tells-if, tells-first, tells-label, tells-late, tells-short, late-is, in-time, long-enough, unless-ok, memory-or, passed, both-true, eq-true, same-text, is-same}
-use Rattle.run_checkpoint.proofs.UnevenForm.{HasUnevenForm, uneven-long, form-is, form-right, form-tells, uneven_body, uneven-packed, few-records, count-again, uneven_form-again, orders-again, uneven-again, uneven-back, phases-again}
+use Rattle.run_checkpoint.proofs.Tested.{Tells, tells-or, tells-if, tells-first, tells-label, tells-late, tells-short, late-is, in-time, long-enough, unless-ok, memory-or, passed, both-true, eq-true, same-text}
+use Rattle.run_checkpoint.proofs.UnevenForm.{HasUnevenForm, uneven-long, form-is, form-right, form-tells, uneven_body, uneven-packed, count-again, uneven_form-again, orders-again, uneven-again, uneven-back, phases-again}
 use Rattle.run_checkpoint.proofs.UnevenParts.{records-count, records-fit}
-use Rattle.run_checkpoint.proofs.UnevenPlaces.{RightPlace, positions-count, position-at, right-places, places-none, step-right}
+use Rattle.run_checkpoint.proofs.UnevenPlaces.{positions-count, position-at, right-places, places-none, step-right}
 use Rattle.run_checkpoint.proofs.WrittenAgain.{IsBytes, bytes-drop, slots-fit, slots-count, pairs-count, pairs-fit}
 
 -- ---- orders and the number of records

@@ -1,11 +1,11 @@
 -- Positions and records: their bytes are read again, and what was read is written as it stood.
-use Rattle.std.proofs.Common.{◌≡◌, ◌⊎◌, ℕ, ◌+◌, ◌-◌, ◌*◌, ◌^◌, ◌<◌, ◌≤◌, Bool, true, false, cond, ℤ, pos, List, [], ◌∷◌, ◌++◌, All, length, map, take, drop, get_or, refl, sym, ap, subst, ◌∙◌, arith, append_assoc, take-add, inl, inr}
+use Rattle.std.proofs.Common.{◌≡◌, ◌⊎◌, ℕ, ◌+◌, ◌*◌, ◌^◌, ◌<◌, ◌≤◌, Bool, true, false, cond, ℤ, pos, List, [], ◌∷◌, ◌++◌, All, length, map, take, drop, get_or, refl, sym, ap, subst, ◌∙◌, arith, append_assoc, take-add, inl, inr}
 use Rattle.std.specs.Prelude.{◌==◌, slice_index, FitsSigned}
 use Rattle.std.specs.Int.{w32, cast_signed, cast_unsigned}
 use Rattle.std.specs.List.{flat_map}
 use Rattle.std.proofs.lemmas.Int.{of_z-to_z, to_z-of_z}
 use Rattle.std.proofs.Math.Facts.{sfits_to_z}
-use Rattle.std.proofs.lemmas.List.{take_at, drop_at, take_more, get_or-drop, get_or_at, length-append, length-take, length-drop}
+use Rattle.std.proofs.lemmas.List.{take_more, get_or-drop, get_or_at, length-append, length-drop}
 use Rattle.std.proofs.lemmas.List.Folds.{flat_map-map}
 use Rattle.byteorder.specs.Endian.{big_bytes, big_number}
 use Rattle.byteorder.specs.Numbers.{big_number-reads_back, big_from-lt}
@@ -13,7 +13,7 @@ use Rattle.scalar_rule.specs.Ragged.{Position}
 use Rattle.scalar_rule.specs.declared.sample.Record.{Record}
 use Rattle.plane_sweep.specs.Uneven.{position_of, FitsRecord}
 use Rattle.plane_sweep.specs.declared.uneven.Place.{Place}
-use Rattle.run_checkpoint.specs.Reading.{piece, number_at}
+use Rattle.run_checkpoint.specs.Reading.{piece}
 use Rattle.run_checkpoint.specs.Rooms.{RoomView, Puts}
 use Rattle.run_checkpoint.specs.UnevenDecoding.{place_in, record_in, signed_at}
 use Rattle.run_checkpoint.specs.UnevenEncoding.{position_bytes, record_bytes, signed_bytes}

@@ -1,6 +1,6 @@
 -- Positions among the bytes: what they are, and that none is wrong exactly where they are in step.
-use Rattle.std.proofs.Common.{◌≡◌, ◌⊎◌, ℕ, zero, suc, ◌+◌, ◌-◌, ◌*◌, ◌<◌, ◌≤◌, Bool, true, false, not, ◌&&◌, ◌||◌, cond, List, drop, map, length, get_or, Option, Some, None, refl, sym, ap, subst, ◌∙◌, arith, inl, inr}
-use Rattle.std.specs.Prelude.{◌==◌, nat_lt, slice_index}
+use Rattle.std.proofs.Common.{◌≡◌, ◌⊎◌, ℕ, ◌+◌, ◌-◌, ◌*◌, ◌<◌, ◌≤◌, Bool, true, false, not, ◌&&◌, ◌||◌, cond, List, drop, map, length, Some, None, refl, sym, ap, subst, ◌∙◌, arith, inl, inr}
+use Rattle.std.specs.Prelude.{◌==◌, nat_lt}
 use Rattle.std.proofs.Math.Nat.{mul-le-mul_right}
 use Rattle.std.proofs.lemmas.Bool.{eqb-true, ltb-false}
 use Rattle.std.proofs.lemmas.Bool.Decides.{nat_tests}
@@ -9,12 +9,11 @@ use Rattle.spin_model.specs.Steps.{count_below}
 use Rattle.spin_model.proofs.Tables.{length-table, get_or-table}
 use Rattle.scalar_rule.specs.Epoch.{has_turn, has_partner}
 use Rattle.scalar_rule.specs.Ragged.{Position}
-use Rattle.scalar_rule.specs.Positions.{turns, done, position_in, least, greatest, floor_of, deepest_of, pending_count, is_pending, AreInStep, HasSameTurns}
-use Rattle.scalar_rule.proofs.Extremes.{least-at, greatest-at, least-some}
+use Rattle.scalar_rule.specs.Positions.{turns, done, position_in, least, floor_of, deepest_of, pending_count, is_pending, AreInStep, HasSameTurns}
+use Rattle.scalar_rule.proofs.Extremes.{least-at, greatest-at}
 use Rattle.scalar_rule.proofs.InStep.{steps-short}
 use Rattle.scalar_rule.proofs.SlotPartners.{turns-say, turns-from}
 use Rattle.plane_sweep.specs.Uneven.{position_of}
-use Rattle.plane_sweep.specs.declared.uneven.Place.{Place}
 use Rattle.run_checkpoint.specs.UnevenDecoding.{epoch_in, phase_in, place_in, places_in, is_wrong_place, wrong_place_at, wrong_place, HasRightPlaces}
 use Rattle.run_checkpoint.specs.declared.refused.CheckpointRefused.{CheckpointRefused}
 use Rattle.run_checkpoint.proofs.FirstOf.{first-all, all-none, cases-bool, or-none, same}

@@ -1,5 +1,5 @@
 -- The states that the bytes of a checkpoint of several banks are, or their first refusal.
-use Rattle.std.specs.Prelude.{◌≡◌, ◌≤◌, ℕ, zero, suc, ◌+◌, ◌*◌, ◌==◌, if◌then◌else◌, List, [], ◌∷◌, length, drop, Option, Some, None, Result}
+use Rattle.std.specs.Prelude.{◌≡◌, ◌≤◌, ℕ, zero, suc, ◌+◌, ◌==◌, if◌then◌else◌, List, [], ◌∷◌, length, drop, Option, Some, None, Result}
 use Rattle.glass_edges.specs.Refusals.{or_else, unless}
 use Rattle.scalar_rule.specs.Plan.{Plan}
 use Rattle.plane_sweep.specs.declared.stand.Stand.{Stand}

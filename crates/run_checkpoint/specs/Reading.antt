@@ -1,5 +1,5 @@
 -- What the bytes of a checkpoint say, part by part at its place.
-use Rattle.std.specs.Prelude.{ℕ, ◌+◌, ◌-◌, ◌*◌, List, map, length, take, drop}
+use Rattle.std.specs.Prelude.{ℕ, ◌-◌, ◌*◌, List, map, length, take, drop}
 use Rattle.byteorder.specs.Endian.{big_number}
 use Rattle.spin_model.specs.Lattice.{half_plane}
 use Rattle.spin_model.specs.Steps.{table}

@@ -15,7 +15,6 @@ use Rattle.plane_sweep.specs.declared.uneven.RaggedStand.{RaggedStand}
 use Rattle.run_checkpoint.specs.declared.refused.CheckpointRefused.{CheckpointRefused}
 use Rattle.run_checkpoint.specs.declared.refused.CheckpointRefused.TheVariants as refused
 use Rattle.run_checkpoint.specs.Decoding.{level_refusal, IsEncoded}
-use Rattle.run_checkpoint.specs.Encoding.{level_kind}
 use Rattle.run_checkpoint.specs.Lengths.{contents_len, position_len, record_len, uneven_len, encoding_len}
 use Rattle.run_checkpoint.specs.Reading.{number_at, items_at, slots_in, pairs_in, parts_in, stand_in}
 use Rattle.run_checkpoint.specs.Tests.{short, other_kind, other_shape, other_length, damaged, other_plan, wrong_label, late}

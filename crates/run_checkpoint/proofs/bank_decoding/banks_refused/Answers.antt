@@ -1,5 +1,5 @@
 -- No bank before this one is refused.
-use Rattle.std.proofs.Common.{drop, map, ap, ◌+◌, ◌∙◌}
+use Rattle.std.proofs.Common.{ap, ◌∙◌}
 use Rattle.std.specs.Arc.{arc_value}
 use Rattle.run_checkpoint.specs.Reading.{piece}
 use Rattle.run_checkpoint.proofs.BankSteps.{next-item, no-item, refusal-same, refused-found, refused-more, refused-none}

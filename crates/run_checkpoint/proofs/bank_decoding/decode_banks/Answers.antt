@@ -1,6 +1,6 @@
 -- What is read is encoded so, and what is encoded so is read.
 use Rattle.std.specs.Arc.{arc_value}
-use Rattle.std.proofs.Common.{arith, length, map, ◌<◌, ◌≤◌}
+use Rattle.std.proofs.Common.{arith, map}
 use Rattle.std.proofs.lemmas.List.{length-map}
 use Rattle.run_checkpoint.proofs.BankClauses.{banks-found, banks-only}
 use Rattle.run_checkpoint.proofs.bank_decoding.decode_banks.Goals as goal

@@ -1,8 +1,7 @@
 -- No test answers that memory ran out, and the plans have one shape.
 use Rattle.std.specs.Arc.{arc_value}
 use Rattle.std.specs.Global.{Vec}
-use Rattle.std.proofs.Common.{◌≡◌, Err, refl, ap, sym, map, length, drop, arith, ◌∙◌}
-use Rattle.std.proofs.lemmas.List.{length-map}
+use Rattle.std.proofs.Common.{◌≡◌, Err, refl, ap, sym, map, drop, arith, ◌∙◌}
 use Rattle.glass_edges.proofs.FirstRefusals.{gives-after-tests-refusal, is-found}
 use Rattle.plane_sweep.specs.declared.stand.Stand.{Stand}
 use Rattle.scalar_rule.specs.Plan.{Plan, slots_of}

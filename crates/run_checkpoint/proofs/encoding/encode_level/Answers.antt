@@ -1,14 +1,12 @@
 -- The pieces are those of the encoding.
 use Rattle.std.proofs.Common.{sym, ap, ◌∙◌, ◌++◌, arith, List, ℕ}
-use Rattle.std.proofs.lemmas.List.{get_or_read}
-use Rattle.plane_sweep.specs.declared.uneven.Place.{Place}
 use Rattle.run_checkpoint.specs.Encoding.{header, sealed, flattened}
 use Rattle.run_checkpoint.specs.PackedBytes.{packed_contents}
 use Rattle.run_checkpoint.proofs.LevelForm.{packed_body, encoding-packed, length-packed}
 use Rattle.run_checkpoint.proofs.Forms.{length-sealed}
 use Rattle.run_checkpoint.proofs.Pieces.{puts-same}
 use Rattle.run_checkpoint.proofs.PartLengths.{slots-short}
-use Rattle.run_checkpoint.proofs.UnevenForm.{level-epoch, level-some}
+use Rattle.run_checkpoint.proofs.UnevenForm.{level-epoch}
 use Rattle.run_checkpoint.proofs.encoding.encode_level.Goals as goal
 
 pub put_level-requires-clause-planes : goal.put_level-requires-clause-planes

@@ -1,5 +1,5 @@
 -- The pieces are those of the header.
-use Rattle.std.proofs.Common.{ap, ◌∙◌, codes}
+use Rattle.std.proofs.Common.{ap, ◌∙◌}
 use Rattle.byteorder.specs.Endian.{big_bytes}
 use Rattle.run_checkpoint.specs.Encoding.{header}
 use Rattle.run_checkpoint.proofs.Pieces.{puts-both, puts-same}

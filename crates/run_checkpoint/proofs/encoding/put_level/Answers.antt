@@ -1,5 +1,5 @@
 -- The pieces are those of the encoding.
-use Rattle.std.proofs.Common.{arith, ◌++◌, length, length-append}
+use Rattle.std.proofs.Common.{arith, length-append}
 use Rattle.run_checkpoint.specs.Encoding.{header}
 use Rattle.run_checkpoint.specs.PackedBytes.{packed_contents}
 use Rattle.run_checkpoint.proofs.PartLengths.{length-header}

@@ -1,8 +1,5 @@
 -- The byte at the place is the label.
-use Rattle.std.proofs.Common.{◌≡◌, ◌<◌, ◌*◌, ◌+◌, ℕ, length, ap, ◌∙◌, subst}
-use Rattle.std.specs.Prelude.{slice_index}
-use Rattle.run_checkpoint.specs.Lengths.{slot_len}
-use Rattle.run_checkpoint.proofs.LabelPlaces.{label-at, label-within, replica_place}
+use Rattle.run_checkpoint.proofs.LabelPlaces.{label-at, label-within}
 use Rattle.run_checkpoint.proofs.labels.label.Goals as goal
 
 pub bounds-bytes-slot_len : goal.bounds-bytes-slot_len

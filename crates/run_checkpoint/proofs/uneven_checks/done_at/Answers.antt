@@ -1,6 +1,5 @@
 -- The position of the slot is what its bytes are.
 use Rattle.std.proofs.Common.{sym, ◌∙◌, ap, ◌+◌}
-use Rattle.spin_model.specs.Words.{one_if}
 use Rattle.scalar_rule.specs.Positions.{done}
 use Rattle.run_checkpoint.specs.UnevenDecoding.{epoch_in}
 use Rattle.run_checkpoint.proofs.UnevenPlaces.{position-at}

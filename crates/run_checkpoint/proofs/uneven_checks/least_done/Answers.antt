@@ -1,9 +1,9 @@
-use Rattle.std.proofs.Common.{sym, ◌∙◌, ap, arith, min, ◌≤◌, map, subst}
+use Rattle.std.proofs.Common.{sym, ◌∙◌, ap, arith, min, map}
 use Rattle.scalar_rule.specs.Positions.{least, done, position_in}
 use Rattle.scalar_rule.proofs.Extremes.{least-zero, least-more}
 use Rattle.plane_sweep.specs.Uneven.{position_of}
 use Rattle.run_checkpoint.specs.UnevenDecoding.{places_in}
-use Rattle.run_checkpoint.proofs.UnevenPlaces.{positions-count, last-number}
+use Rattle.run_checkpoint.proofs.UnevenPlaces.{last-number}
 use Rattle.run_checkpoint.proofs.uneven_checks.least_done.Goals as goal
 
 pub slots-init : goal.slots-init

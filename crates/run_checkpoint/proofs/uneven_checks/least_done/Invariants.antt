@@ -1,4 +1,4 @@
-use Rattle.std.proofs.Common.{◌≡◌, ◌≤◌, map}
+use Rattle.std.proofs.Common.{◌≡◌, map}
 use Rattle.plane_sweep.specs.Uneven.{position_of}
 use Rattle.scalar_rule.specs.Positions.{least, done, position_in}
 use Rattle.run_checkpoint.specs.UnevenDecoding.{places_in}

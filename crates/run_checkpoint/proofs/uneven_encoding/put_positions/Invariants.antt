@@ -1,4 +1,4 @@
-use Rattle.std.proofs.Common.{take, map, ◌*◌, ◌+◌, ◌≡◌}
+use Rattle.std.proofs.Common.{take, ◌*◌, ◌+◌, ◌≡◌}
 use Rattle.std.specs.List.{flat_map}
 use Rattle.plane_sweep.specs.Uneven.{position_of}
 use Rattle.run_checkpoint.specs.Rooms.{Puts}
