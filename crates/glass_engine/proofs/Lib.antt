@@ -1,6 +1,8 @@
 pub mod Steps
 pub mod Driven
 pub mod WholeRuns
+pub mod SavedRuns
+pub mod Savings
 pub mod Joined
 pub mod Pieces
 pub mod Putting

@@ -5,6 +5,7 @@ use Rattle.exchange_board.specs.Content.{plan_of, IsLawfulOrigin}
 use Rattle.turn_cell.specs.Seats.{AreOpened}
 use Rattle.shared_board.specs.Shared.{lock_id}
 use Rattle.glass_engine.specs.Runs.{RunView, AreRunOrders, DoneView, IsOriginOf, IsEnd}
+use Rattle.glass_engine.specs.Saves.{kind_of, KeepsSaving}
 use Rattle.glass_engine.specs.declared.run.Run.TheInside as run
 use Rattle.glass_engine.specs.declared.done.Done.TheInside as done
 
@@ -15,7 +16,7 @@ run_view r = record {
   orders = r.orders;
   until = r.opened.value.origin.window.until;
   takes = r.opened.value.origin.window.takes;
-  saves = r.save;
+  saves = kind_of r.saving;
 }
 
 -- a run has a shared board that was opened at the places of its starting state, with its seats, which nobody took yet
@@ -26,6 +27,7 @@ pub record KeepsRun (r : run.Inside) : Type 0 where
   pub places : r.opened.value.places ≡ stages_of r.opened.value.origin.base
   pub some_seats : 0 < length r.seats.items
   pub seats : AreOpened (lock_id r.board) r.opened.value.origin (length r.opened.value.places) (length r.seats.items) 0 r.seats.items
+  pub saving : KeepsSaving (run_view r) r.saving
 
 abbrev pub done_view : done.Inside → DoneView
 done_view d = record {
@@ -35,7 +37,7 @@ done_view d = record {
     orders = d.orders;
     until = d.ended.origin.window.until;
     takes = d.ended.origin.window.takes;
-    saves = d.save;
+    saves = kind_of d.saving;
   };
   ended = d.ended;
 }
@@ -44,3 +46,4 @@ done_view d = record {
 pub record KeepsDone (d : done.Inside) : Type 0 where
   pub orders : AreRunOrders d.orders
   pub ended : IsEnd (done_view d).run d.ended
+  pub saving : KeepsSaving (done_view d).run d.saving

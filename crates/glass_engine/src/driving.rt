@@ -32,14 +32,14 @@ pub fn drive<R: Threads + Wait + Sync, G: Gate + Sync>(
         mut seats,
         opened: _,
         orders,
-        save,
+        saving,
     } = run;
     work_all(rt, gate, &board, plan, pieces, seats.as_mut_slice());
     match board.close(seats).into_ragged() {
         Ok(ended) => Done {
             ended,
             orders,
-            save,
+            saving,
         },
         Err(_) => unreachable!(),
     }

@@ -5,16 +5,22 @@ mod done;
 mod driving;
 mod laws;
 mod opening;
+mod placing;
 mod report;
 mod rows;
 mod run;
+mod saving;
 #[cfg(test)]
 mod tests;
 mod workers;
 
 pub use done::Done;
 pub use driving::drive;
-pub use laws::{level_report_is_serial, level_run_is_serial, unstopped_run_is_whole};
+pub use laws::{
+    level_checkpoint_is_serial, level_report_is_serial, level_run_is_serial,
+    unstopped_run_is_whole, whole_checkpoint_is_the_rules,
+};
 pub use opening::open;
+pub use placing::save;
 pub use report::write_report;
 pub use run::{Run, SaveKind};

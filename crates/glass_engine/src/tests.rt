@@ -1,6 +1,7 @@
 ghost use Rattle.std.specs.Prelude.{◌≡◌, ◌+◌, ◌≤◌, length, IfOk};
 ghost use Rattle.std.specs.Arc.{arc_value};
 ghost use Rattle.glass_engine.specs.Runs.{AreRunOrders};
+ghost use Rattle.glass_engine.specs.declared.run.SaveKind.TheVariants as saves;
 ghost use Rattle.plane_sweep.specs.Packed.{StandFits};
 ghost use Rattle.run_plan.specs.Amounts.{row_count};
 ghost use Rattle.run_plan.specs.RunFile.{AreLawfulOrders};
@@ -19,6 +20,8 @@ use std::sync::{Arc, Wait};
 use std::test::Fail;
 use std::thread::Threads;
 use threshold_table::{RuleKind, RuleRow, RuleTable, SwapTable};
+
+mod saving;
 
 const ALL: u64 = 4294967296;
 
@@ -51,6 +54,7 @@ fn begun(
     until: u64,
     takes: u64,
     workers: u32,
+    save: SaveKind,
 ) -> Result<Run, NoMemory>
     requires orders { AreRunOrders orders.now }
     requires some { 1 ≤ slots_of (arc_value plan.now) }
@@ -60,19 +64,12 @@ fn begun(
     requires takes { takes ≤ 32000000000 }
     requires workers { (1 ≤ workers) × (workers ≤ 64) }
     requires rows { row_count (arc_value plan.now) orders.now stand.epoch until ≤ 4194304 }
-    ensures { IfOk result (λ run. run.plan ≡ arc_value plan.now) }
+    requires whole { save ≡ saves.Level → takes ≡ 32000000000 }
+    ensures plan { IfOk result (λ run. run.plan ≡ arc_value plan.now) }
+    ensures saves { IfOk result (λ run. run.saves ≡ save) }
 {
     let base = RaggedStand::level(alloc, stand)?;
-    open(
-        alloc,
-        plan,
-        orders,
-        base,
-        until,
-        takes,
-        workers,
-        SaveKind::Never,
-    )
+    open(alloc, plan, orders, base, until, takes, workers, save)
 }
 
 /// A hook that adds 1 at the bit of the slot and the epoch, eight slots an epoch.
@@ -119,7 +116,16 @@ fn reported<R: Threads + Wait + Sync, G: Gate + Sync>(
         return Ok(out);
     }
     let plan = Arc::new(alloc, plan)?;
-    let run = begun(alloc, &plan, orders, stand, until, takes, workers)?;
+    let run = begun(
+        alloc,
+        &plan,
+        orders,
+        stand,
+        until,
+        takes,
+        workers,
+        SaveKind::Never,
+    )?;
     let done = drive(rt, run, &plan, 3, gate);
     let _ = write_report(&done, &plan, &mut out);
     Ok(out)

@@ -1,0 +1,110 @@
+//! The checkpoints that a run places.
+
+ghost use Rattle.std.specs.Prelude.{◌≡◌, ◌≢◌, ◌≤◌};
+ghost use Rattle.glass_engine.specs.declared.run.SaveKind.TheVariants as saves;
+
+use super::{AGAINST, ALL, ORDERS, UP, begun};
+use crate::{SaveKind, drive, save};
+use coupling_set::Couplings;
+use glass_edges::{Fetched, MemoryShelf, NoMemory, OpenGate, Shelf};
+use lattice_geometry::Lattice;
+use plane_sweep::Stand;
+use run_plan::check_amount;
+use scalar_rule::Plan;
+use std::alloc::Global;
+use std::sync::{Arc, Wait};
+use std::test::Fail;
+use std::thread::Threads;
+use threshold_table::{RuleKind, RuleTable, SwapTable};
+
+/// The last bytes of the checkpoints at epochs 1 and 2, by an independent program.
+const DIGEST_AT_1: [u8; 32] = [
+    0xf5, 0x06, 0x13, 0x20, 0x74, 0x24, 0x01, 0xe6, 0x1d, 0x10, 0xbc, 0x11, 0x79, 0x09, 0x49, 0x5b,
+    0x59, 0x7f, 0xa5, 0x00, 0x26, 0xb5, 0x73, 0x89, 0x7d, 0x9c, 0x4c, 0x90, 0x02, 0x97, 0xdb, 0xd3,
+];
+
+const DIGEST_AT_2: [u8; 32] = [
+    0xde, 0x1f, 0x29, 0x72, 0x2e, 0x9c, 0x43, 0xa5, 0x89, 0x22, 0x2f, 0xc2, 0x34, 0x41, 0x2f, 0x65,
+    0x59, 0xae, 0x06, 0xb1, 0x6d, 0x13, 0xe1, 0x18, 0x7e, 0xc0, 0x6f, 0xde, 0x26, 0x29, 0x63, 0x3c,
+];
+
+/// The plan of two slots that swap at each turn.
+fn two_slots(alloc: Global) -> Result<Option<Plan>, NoMemory> {
+    let rules = RuleTable::from_rows(alloc, RuleKind::Heat, &[AGAINST, UP])?;
+    let swaps = SwapTable::from_rows(alloc, &[[ALL]])?;
+    let Ok(lattice) = Lattice::of(4) else {
+        return Ok(None);
+    };
+    let couplings = Couplings::plus(alloc, lattice)?;
+    Ok(Some(Plan::new(lattice, rules, swaps, couplings, 1, 7)))
+}
+
+/// A store in which two saves of a run of two slots are placed.
+fn placed_twice<R: Threads + Wait + Sync>(
+    rt: &R,
+    alloc: Global,
+    until: u64,
+    takes: u64,
+    kind: SaveKind,
+) -> Result<MemoryShelf, NoMemory>
+    requires until { until ≤ 1000000000 }
+    requires takes { takes ≤ 32000000000 }
+    requires whole { kind ≡ saves.Level → takes ≡ 32000000000 }
+    requires some { kind ≢ saves.Never }
+{
+    let mut shelf = MemoryShelf::new(alloc, Vec::new(alloc));
+    shelf.room("first", 20000)?;
+    shelf.room("second", 20000)?;
+    let Some(plan) = two_slots(alloc)? else {
+        return Ok(shelf);
+    };
+    let stand = Stand::opening(alloc, &plan, ORDERS.start)?;
+    if stand.epoch > until || check_amount(&plan, &ORDERS, stand.epoch, until).is_err() {
+        return Ok(shelf);
+    }
+    let plan = Arc::new(alloc, plan)?;
+    let run = begun(alloc, &plan, &ORDERS, stand, until, takes, 2, kind)?;
+    let mut done = drive(rt, run, &plan, 1, &OpenGate);
+    let _ = save(&mut done, &plan, &mut shelf, "first");
+    let _ = save(&mut done, &plan, &mut shelf, "second");
+    Ok(shelf)
+}
+
+/// The bytes of a name; none where there are none.
+fn bytes_of(alloc: Global, shelf: &mut MemoryShelf, name: &str) -> Vec<u8> {
+    match shelf.fetch(alloc, name, 20000) {
+        Fetched::Held(bytes) => bytes,
+        _ => Vec::new(alloc),
+    }
+}
+
+#[test]
+fn a_second_save_places_the_same_bytes(rt: HostRuntime) -> Result<(), Fail> {
+    let alloc = rt.alloc();
+    let mut shelf = placed_twice(&rt, alloc, 1, 32000000000, SaveKind::Level)?;
+    let first = bytes_of(alloc, &mut shelf, "first");
+    assert_eq!(rt; first.len(), 10688);
+    assert!(rt; first.as_slice().ends_with(DIGEST_AT_1.as_slice()));
+    assert_eq!(rt; bytes_of(alloc, &mut shelf, "second"), first);
+    Ok(())
+}
+
+#[test]
+fn save_at_the_epoch_behind_a_swap(rt: HostRuntime) -> Result<(), Fail> {
+    let alloc = rt.alloc();
+    let mut shelf = placed_twice(&rt, alloc, 2, 32000000000, SaveKind::Level)?;
+    let first = bytes_of(alloc, &mut shelf, "first");
+    assert!(rt; first.as_slice().ends_with(DIGEST_AT_2.as_slice()));
+    Ok(())
+}
+
+// One slot waits, and its record is kept ahead.
+#[test]
+fn save_of_a_run_that_stops(rt: HostRuntime) -> Result<(), Fail> {
+    let alloc = rt.alloc();
+    let mut shelf = placed_twice(&rt, alloc, 2, 1, SaveKind::Ragged)?;
+    let first = bytes_of(alloc, &mut shelf, "first");
+    assert_eq!(rt; first.len(), 10728);
+    assert_eq!(rt; bytes_of(alloc, &mut shelf, "second"), first);
+    Ok(())
+}
