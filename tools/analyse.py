@@ -49,8 +49,8 @@ class Report:
         slots, samples = self.header.slots, self.header.samples
         self.volume = self.header.size ** 3
         self.energies = [[[0] * samples for _ in range(slots)] for _ in range(2)]
-        self.squares = [0] * slots
-        self.fourth_powers = [0] * slots
+        self.squares = [[0] * samples for _ in range(slots)]
+        self.fourth_powers = [[0] * samples for _ in range(slots)]
         self.tried, self.made = [0] * slots, [0] * slots
         self.parities = [None] * samples
         self.labels = [[None, None] for _ in range(samples)]
@@ -134,8 +134,8 @@ class Report:
         if self.epoch >= self.skip:
             for replica in range(2):
                 self.energies[replica][slot][sample] += values[replica]
-            self.squares[slot] += values[2] ** 2
-            self.fourth_powers[slot] += values[2] ** 4
+            self.squares[slot][sample] += values[2] ** 2
+            self.fourth_powers[slot][sample] += values[2] ** 4
 
     def take_label(self, slot, label, before, seen):
         """Pair k could exchange after epoch e where k and e are equal modulo 2."""
@@ -238,7 +238,7 @@ def slot_means(reports, slot):
         energies.append(math.fsum(values) / len(values))
         spreads.append(deviation(values))
     number = len(reports) * first.counted * first.header.samples
-    squares, fourth = (sum(sums[slot] for sums in lists) for lists in
+    squares, fourth = (sum(sum(sums[slot]) for sums in lists) for lists in
                        ([r.squares for r in reports], [r.fourth_powers for r in reports]))
     tried, made = sum(r.tried[slot] for r in reports), sum(r.made[slot] for r in reports)
     return Means(energies, spreads, squares / (number * first.volume ** 2), fourth / (number * first.volume ** 4),

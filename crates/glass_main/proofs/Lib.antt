@@ -9,3 +9,6 @@ pub mod Amounts
 pub mod RunEndings
 pub mod SaidWords
 pub mod Reports
+pub mod ReportRows
+pub mod ReportSpins
+pub mod LawfulReports

@@ -9,3 +9,4 @@ pub mod Statuses
 pub mod Gathers
 pub mod ReadCommand
 pub mod Opened
+pub mod LawfulRuns

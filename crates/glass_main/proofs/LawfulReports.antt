@@ -1,0 +1,208 @@
+-- The report of a run is a lawful report.
+use Rattle.std.proofs.Common.{arith, ◌≡◌, ℕ, ◌+◌, ◌-◌, ◌*◌, ◌<◌, ◌≤◌, ◌⊎◌, inl, Bool, true, false, cond, List, [], ◌∷◌, ◌++◌, map, length, get_or, refl, sym, ap, subst, ◌∙◌, flat_map, append-nil, append_assoc, unsigned_abs, pos, ◌-ℤ◌, if◌then◌else◌}
+use Rattle.std.proofs.lemmas.Int.{ints}
+use Rattle.std.specs.List.{concat}
+use Rattle.spin_model.specs.Lattice.{volume, bond_count}
+use Rattle.spin_model.specs.Couplings.{Bonds}
+use Rattle.spin_model.specs.Steps.{table}
+use Rattle.spin_model.proofs.Tables.{length-table, get_or-table}
+use Rattle.coupling_set.specs.CouplingWords.{bonds_of}
+use Rattle.threshold_table.specs.declared.rule_table.RuleKind.{RuleKind}
+use Rattle.threshold_table.specs.declared.rule_table.RuleKind.TheVariants as kinds
+use Rattle.scalar_rule.specs.Epoch.{slot_at, swept_slot, swept_slots, record_of, epoch_records}
+use Rattle.scalar_rule.specs.Opening.{opening, opening_pair}
+use Rattle.scalar_rule.specs.Plan.{Plan, IsLawfulPlan, slots_of, pairs_of}
+use Rattle.scalar_rule.specs.Records.{is_recorded, measured_from}
+use Rattle.scalar_rule.specs.Serial.{serial}
+use Rattle.scalar_rule.specs.Sums.{is_unsatisfied, energy, overlap}
+use Rattle.scalar_rule.specs.Neighbours.{agree, spin}
+use Rattle.scalar_rule.proofs.Extremes.{count-most}
+use Rattle.scalar_rule.specs.declared.sample.PlainSlot.{PlainSlot}
+use Rattle.scalar_rule.specs.declared.sample.Record.{Record}
+use Rattle.scalar_rule.specs.declared.sample.Sample.{Sample}
+use Rattle.plane_sweep.specs.Packed.{PermutesLabels}
+use Rattle.plane_sweep.proofs.BeginningStates.{opening-labels}
+use Rattle.plane_sweep.proofs.LabelEpochs.{serial-permutes}
+use Rattle.report_text.specs.Lines as text
+use Rattle.run_plan.specs.RunFile.{AreLawfulOrders}
+use Rattle.glass_engine.specs.Report.{record_at, sample_rows, epoch_rows, rows_in_order, all_spins, report}
+use Rattle.sample_average.specs.declared.header.Header.{Header}
+use Rattle.sample_average.specs.declared.header.Rule.{Rule}
+use Rattle.sample_average.specs.declared.header.Rule.TheVariants as rules_of
+use Rattle.sample_average.specs.declared.row.Row.{Row}
+use Rattle.sample_average.specs.LawfulReport.{IsInRange, IsLawfulHeader, Report, Spells, AreSpins, header_line, row_line, end_line, rule_text, spin_lines, report_lines, rows_of}
+use Rattle.glass_main.specs.LawfulRuns.{IsLawfulText}
+use Rattle.glass_main.specs.Texts.{run_text}
+use Rattle.glass_main.specs.declared.planned.Planned.{Planned}
+use Rattle.glass_main.proofs.ReportRows.{IsTable, group_rows, group-is, groups_of, groups-are, groups-text, joined-text, concat-map, concat-append}
+use Rattle.glass_main.proofs.ReportSpins.{spin_list, slot_text, spins-text, spins-are}
+
+-- ---- the same lines
+
+abbrev rule_as : RuleKind → Rule
+rule_as kinds.Heat = rules_of.Heat
+rule_as kinds.Metropolis = rules_of.Metropolis
+
+abbrev header_as : Plan → ℕ → ℕ → ℕ → Header
+header_as plan samples from to = record { size = plan.size; slots = slots_of plan; samples = samples; rule = rule_as plan.rules.kind; from = from; to = to }
+
+abbrev row_as : ℕ → ℕ → ℕ → Record → Row
+row_as epoch b t r = record {
+  epoch = epoch;
+  sample = b;
+  slot = t;
+  first_energy = r.first_energy;
+  second_energy = r.second_energy;
+  overlap = r.overlap;
+  first_replica = r.first_replica;
+  second_replica = r.second_replica;
+}
+
+kind-text : (kind : RuleKind) → text.kind_text kind ≡ rule_text (rule_as kind)
+kind-text kinds.Heat = refl
+kind-text kinds.Metropolis = refl
+
+header-text : (plan : Plan) (samples from to : ℕ) → text.header_line plan samples from to ≡ header_line (header_as plan samples from to)
+unfolding text.header_line header_line
+header-text plan samples from to = rw (kind-text plan.rules.kind) refl
+
+row-text : (epoch b t : ℕ) (r : Record) → row_line (row_as epoch b t r) ≡ text.row_line epoch b t r
+unfolding text.row_line row_line
+row-text epoch b t r = refl
+
+end-text : (epoch : ℕ) → text.end_line epoch ≡ end_line epoch
+unfolding text.end_line end_line
+end-text epoch = refl
+
+-- ---- a report over any records and contents
+
+-- the records of sample b at epoch f, one for each slot, within the ranges
+pub record AreMeasured (plan : Plan) (samples from to : ℕ) (measured : ℕ → ℕ → List Record) : Type 0 where
+  pub sized : (b f : ℕ) → length (measured b f) ≡ slots_of plan
+  pub range : (b f t : ℕ) → b < samples → from ≤ f → f < to → t < slots_of plan → IsInRange (header_as plan samples from to) (row_as f b t (record_at (measured b f) t))
+
+rows-text : (plan : Plan) (samples : ℕ) (measured : ℕ → ℕ → List Record) → ((b f : ℕ) → length (measured b f) ≡ slots_of plan)
+    → (f : ℕ) → flat_map row_line (group_rows (λ b t. row_as f b t (record_at (measured b f) t)) samples (slots_of plan)) ≡ epoch_rows measured samples f
+rows-text plan samples measured sized f =
+    joined-text row_line (λ b. flat_map (λ t. row_as f b t (record_at (measured b f) t) ∷ []) (table (λ t. t) (slots_of plan))) (λ b. sample_rows f b (measured b f)) samples (λ b less.
+    joined-text row_line (λ t. row_as f b t (record_at (measured b f) t) ∷ []) (λ t. text.row_line f b t (record_at (measured b f) t)) (slots_of plan)
+    (λ t below. append-nil (row_line (row_as f b t (record_at (measured b f) t))) ∙ row-text f b t (record_at (measured b f) t))
+    ∙ ap (λ n. flat_map (λ t. text.row_line f b t (record_at (measured b f) t)) (table (λ t. t) n)) (sym (sized b f)))
+
+spins-chosen : (h : Header) (first second : ℕ → ℕ → List Bool) (with : Bool) → AreSpins h (cond with (spin_list h first second) [])
+spins-chosen h first second true = spins-are h first second
+spins-chosen h first second false = inl refl
+
+chosen-text : (h : Header) (first second : ℕ → ℕ → List Bool) (with : Bool)
+    → cond with (flat_map (λ b. flat_map (slot_text h first second b) (table (λ t. t) h.slots)) (table (λ b. b) h.samples)) [] ≡ concat (spin_lines h 0 (cond with (spin_list h first second) []))
+chosen-text h first second true = sym (spins-text h first second)
+chosen-text h first second false = refl
+
+header-lawful : (plan : Plan) (samples from to : ℕ) → IsLawfulPlan plan → 1 ≤ samples → samples ≤ 256 → from ≤ to → to ≤ 1000000000 → IsLawfulHeader (header_as plan samples from to)
+header-lawful plan samples from to lawful some few rising until = record {
+  even = lawful.size.2;
+  least = lawful.size.0;
+  most = lawful.size.1;
+  some_slots = lawful.rules.some;
+  few_slots = lawful.rules.few;
+  some_samples = some;
+  few_samples = few;
+  rising = rising;
+  until = until;
+}
+
+four-parts : (a b c d : List ℕ) → a ++ (b ++ (c ++ d)) ≡ a ++ b ++ c ++ d
+four-parts a b c d = sym (append_assoc a b (c ++ d)) ∙ sym (append_assoc (a ++ b) c d)
+
+window-end : (from to : ℕ) → from ≤ to → from + (to - from) ≤ to
+window-end from to rising = omega (arith, rising)
+
+pub composed : (plan : Plan) (samples every from to : ℕ) (measured : ℕ → ℕ → List Record) (contents : ℕ → List PlainSlot) (with : Bool) → IsLawfulPlan plan → 1 ≤ samples → samples ≤ 256 → from ≤ to → to ≤ 1000000000
+    → AreMeasured plan samples from to measured
+    → IsLawfulText (text.header_line plan samples from to ++ rows_in_order measured samples every from to ++ text.end_line to ++ (if with then all_spins plan samples contents else []))
+composed plan samples every from to measured contents with lawful some few rising until are =
+    let h : Header = header_as plan samples from to in
+    let row : ℕ → ℕ → ℕ → Row = λ f b t. row_as f b t (record_at (measured b f) t) in
+    let group : ℕ → List Row = λ f. group_rows (row f) samples (slots_of plan) in
+    let groups : List (List Row) = groups_of group (is_recorded every) from (to - from) in
+    let first : ℕ → ℕ → List Bool = λ b t. (slot_at (contents b) t).first.spins in
+    let second : ℕ → ℕ → List Bool = λ b t. (slot_at (contents b) t).second.spins in
+    let spins : List (List ℕ) = cond with (spin_list h first second) [] in
+    let found : Report = record { header = h; groups = groups; spins = spins } in
+    let in_groups = groups-are h group (is_recorded every) from from (to - from) (omega arith) (window-end from to rising) (λ f past below told.
+    group-is h f (row f) (record {
+      epoch = λ b t less under. refl;
+      sample = λ b t less under. refl;
+      slot = λ b t less under. refl;
+      range = λ b t less under. are.range b f t less past below under;
+    })) in
+    let rows : concat (map row_line (rows_of found)) ≡ rows_in_order measured samples every from to =
+    concat-map row_line (rows_of found) ∙ groups-text row_line group (is_recorded every) (epoch_rows measured samples) from (to - from) (rows-text plan samples measured are.sized) in
+    let last : concat (end_line to ∷ spin_lines h 0 spins) ≡ text.end_line to ++ (if with then all_spins plan samples contents else []) =
+    ap (λ xs. xs ++ concat (spin_lines h 0 spins)) (sym (end-text to)) ∙ ap (λ xs. text.end_line to ++ xs) (sym (chosen-text h first second with)) in
+    let whole : concat (report_lines found) ≡ text.header_line plan samples from to ++ rows_in_order measured samples every from to ++ text.end_line to ++ (if with then all_spins plan samples contents else []) =
+    ap (λ xs. xs ++ concat (map row_line (rows_of found) ++ (end_line to ∷ spin_lines h 0 spins))) (sym (header-text plan samples from to))
+    ∙ ap (λ xs. text.header_line plan samples from to ++ xs) (concat-append (map row_line (rows_of found)) (end_line to ∷ spin_lines h 0 spins)
+    ∙ ap (λ xs. xs ++ concat (end_line to ∷ spin_lines h 0 spins)) rows ∙ ap (λ xs. rows_in_order measured samples every from to ++ xs) last)
+    ∙ four-parts (text.header_line plan samples from to) (rows_in_order measured samples every from to) (text.end_line to) (if with then all_spins plan samples contents else []) in (
+      found,
+      record {
+        lawful = record { header = header-lawful plan samples from to lawful some few rising until; groups = in_groups; spins = spins-chosen h first second with };
+        text = sym whole;
+      },
+    )
+
+-- ---- what is measured lies within the ranges
+
+twice-less : (u n : ℕ) → u ≤ n → unsigned_abs (pos (2 * u) -ℤ pos n) ≤ n
+twice-less u n few = omega (arith, ints, few)
+
+energy-within : (l : ℕ) (bonds : Bonds) (spins : List Bool) → unsigned_abs (energy l bonds spins) ≤ 3 * volume l
+energy-within l bonds spins = twice-less _ (bond_count l) (count-most (is_unsatisfied l bonds spins) (bond_count l))
+
+overlap-within : (l : ℕ) (a b : List Bool) → unsigned_abs (overlap l a b) ≤ volume l
+overlap-within l a b = twice-less _ (volume l) (count-most (λ i. agree (spin a i) (spin b i)) (volume l))
+
+-- the record of a slot whose labels are slots' numbers
+pub record-within : (plan : Plan) (samples from to f b t bit : ℕ) (slot : PlainSlot) → slot.first.replica < slots_of plan → slot.second.replica < slots_of plan
+    → IsInRange (header_as plan samples from to) (row_as f b t (record_of plan bit slot))
+record-within plan samples from to f b t bit slot one other = record {
+  first_energy = energy-within plan.size (bonds_of plan.couplings bit) slot.first.spins;
+  second_energy = energy-within plan.size (bonds_of plan.couplings bit) slot.second.spins;
+  overlap = overlap-within plan.size slot.first.spins slot.second.spins;
+  first_replica = one;
+  second_replica = other;
+}
+
+swept-labels : (plan : Plan) (b t : ℕ) (slot : PlainSlot) → ((swept_slot plan b t slot).first.replica ≡ slot.first.replica) × ((swept_slot plan b t slot).second.replica ≡ slot.second.replica)
+unfolding swept_slot
+swept-labels plan b t slot = (refl, refl)
+
+-- ---- a run from its opening states
+
+epoch-range : (plan : Plan) (samples from to f b t : ℕ) (s : Sample) → PermutesLabels plan s → t < slots_of plan
+    → IsInRange (header_as plan samples from to) (row_as f b t (record_at (epoch_records plan s) t))
+epoch-range plan samples from to f b t s labels below =
+    let n : ℕ = slots_of plan in
+    let R : Record → Type 0 = λ r. IsInRange (header_as plan samples from to) (row_as f b t r) in
+    let slot : PlainSlot = swept_slot plan s.bit t (slot_at s.slots t) in
+    let at : slot_at (swept_slots plan s) t ≡ slot = get_or-table (λ k. swept_slot plan s.bit k (slot_at s.slots k)) n t _ below in
+    let is : record_at (epoch_records plan s) t ≡ record_of plan s.bit slot = get_or-table (λ k. record_of plan s.bit (slot_at (swept_slots plan s) k)) n t _ below ∙ ap (record_of plan s.bit) at in
+    let kept = swept-labels plan s.bit t (slot_at s.slots t) in
+    subst R (sym is) (record-within plan samples from to f b t s.bit slot
+    (subst (λ q. q < n) (sym kept.0) (labels.first.below t below)) (subst (λ q. q < n) (sym kept.1) (labels.second.below t below)))
+
+opening-measured : (plan : Plan) (start : ℕ → Sample) (samples from to : ℕ) → ((b : ℕ) → length (start b).pairs ≡ pairs_of plan) → ((b : ℕ) → PermutesLabels plan (start b))
+    → AreMeasured plan samples from to (measured_from plan start)
+opening-measured plan start samples from to paired labels = record {
+  sized = λ b f. length-table (λ t. record_of plan (serial plan (start b) f).bit (slot_at (swept_slots plan (serial plan (start b) f)) t)) (slots_of plan);
+  range = λ b f t less past below under. epoch-range plan samples from to f b t (serial plan (start b) f) (serial-permutes plan (start b) f (paired b) (labels b)) under;
+}
+
+pub run-lawful : (planned : Planned) (until : ℕ) → IsLawfulPlan planned.plan → AreLawfulOrders planned.orders → until ≤ 1000000000 → IsLawfulText (run_text planned until)
+unfolding report
+run-lawful planned until lawful orders within =
+    let plan : Plan = planned.plan in
+    let start : ℕ → Sample = opening plan planned.orders.start 0 in
+    composed plan planned.orders.samples planned.orders.every 0 until (measured_from plan start) (λ b. (serial plan (start b) until).slots) planned.orders.spins lawful orders.some_samples (omega (arith, orders.few_samples)) (omega arith) within
+    (opening-measured plan start planned.orders.samples 0 until (λ b. length-table (opening_pair plan 0) (pairs_of plan)) (λ b. opening-labels plan planned.orders.start b))

@@ -1,0 +1,212 @@
+#!/usr/bin/env python3
+"""Prints means with jackknife errors for each temperature slot, from the sums that `glass average`
+prints or from a report.
+
+    glass average report.txt 16 | python3 tools/jackknife.py --temperatures 1.2 1.5
+    python3 tools/jackknife.py report.txt --blocks 16 --temperatures 1.2 1.5
+
+Both print the same. For each slot, the coldest first, each with its error:
+  energy    mean energy per site of one replica, in units of the coupling
+  q^2, q^4  mean powers of the overlap of the two replicas, q per site, from -1 to 1
+  Binder    (3 - [q^4] / [q^2]^2) / 2, with [..] the mean over epochs and samples
+
+The samples are divided into blocks of consecutive ones. A value x is computed from all rows, and as
+x_k from the rows of all samples but those of block k. With K blocks and the mean m of the x_k its
+error is the root of (K - 1) / K times the sum of (x_k - m)^2 (B. Efron, The Jackknife, the Bootstrap
+and Other Resampling Plans, SIAM 1982). With one block there is none.
+
+The error is over the disorder: it takes the samples as independent. Those of one run share each
+random number, so compare it with that of several seeds (tools/analyse.py).
+"""
+import argparse
+import math
+import re
+import sys
+from collections import namedtuple
+from fractions import Fraction
+
+sys.dont_write_bytecode = True
+from analyse import LONGEST_LINE, Report, spelled  # noqa: E402
+from make_tables import OneLineParser, Refusal, add_temperatures, inverse_temperatures  # noqa: E402
+
+# The number of rows, and the sums over them of both energies, of the squared overlap and of its square.
+Sums = namedtuple("Sums", "rows energy squares fourths")
+# Of each slot the sums over all rows, and for each block those over the rows outside it.
+Averages = namedtuple("Averages", "size slots samples blocks rows totals without")
+
+COUNT = rb"(0|[1-9][0-9]{0,38})"
+SIGNED = rb"(0|-?[1-9][0-9]{0,38})"
+FIRST = re.compile(rb"average 1 size=%b slots=%b samples=%b blocks=%b rows=%b" % ((COUNT,) * 5))
+SUMS = b",".join([COUNT, SIGNED, COUNT, COUNT])
+MOST_BLOCKS = 256
+
+
+# ---------------------------------------------------------------- sums
+
+
+def together(parts):
+    return Sums(*(sum(values) for values in zip(*parts)))
+
+
+def outside(total, part):
+    return Sums(*(a - b for a, b in zip(total, part)))
+
+
+class SumsFile:
+    """The lines that `glass average` prints."""
+
+    def __init__(self, name, stream):
+        self.name, self.stream, self.line_number = name, stream, 0
+
+    def damaged(self, text):
+        return Refusal(f"{self.name}, line {self.line_number}: {text}")
+
+    def next_line(self):
+        line = self.stream.readline(LONGEST_LINE)
+        self.line_number += 1
+        if not line.endswith(b"\n"):
+            raise self.damaged("the sums end before they are whole")
+        return line[:-1]
+
+    def sums(self, front, what):
+        found = re.fullmatch(re.escape(front) + SUMS, self.next_line())
+        if not found:
+            raise self.damaged(f"the sums {what} are due")
+        return Sums(*map(int, found.groups()))
+
+    def read(self):
+        found = FIRST.fullmatch(self.next_line())
+        if not found:
+            raise self.damaged("this is no first line of sums")
+        size, slots, samples, blocks, rows = map(int, found.groups())
+        if not (4 <= size <= 64 and size % 2 == 0 and 1 <= slots <= 32 and 1 <= blocks <= samples <= MOST_BLOCKS):
+            raise self.damaged("a number of the first line isn't lawful")
+        totals, without = [], []
+        for slot in range(slots):
+            totals.append(self.sums(b"sum,%d," % slot, f"of slot {slot}"))
+            without.append([self.sums(b"without,%d,%d," % (slot, block), f"of slot {slot} without block {block}")
+                            for block in range(blocks)])
+            if together(outside(totals[slot], part) for part in without[slot]) != totals[slot]:
+                raise self.damaged(f"the blocks of slot {slot} don't make up its sums")
+        if sum(total.rows for total in totals) != rows:
+            raise self.damaged("the slots don't make up the number of rows")
+        if self.next_line() != b"end":
+            raise self.damaged("the end is due")
+        if self.stream.readline(1):
+            raise self.damaged("the sums have ended before this line")
+        return Averages(size, slots, samples, blocks, rows, totals, without)
+
+
+def sums_of_report(name, stream, blocks, skip):
+    """The same sums of a report, each line of which is checked."""
+    report = Report(name, stream, skip)
+    h = report.header
+    if blocks > h.samples:
+        raise Refusal(f"{name} has {h.samples} samples, too few for {blocks} blocks")
+    totals, without = [], []
+    for slot in range(h.slots):
+        parts = [[] for _ in range(blocks)]
+        for sample in range(h.samples):
+            energy = report.energies[0][slot][sample] + report.energies[1][slot][sample]
+            parts[sample * blocks // h.samples].append(
+                Sums(report.counted, energy, report.squares[slot][sample], report.fourth_powers[slot][sample]))
+        blocked = [together(part) for part in parts]
+        totals.append(together(blocked))
+        without.append([outside(totals[slot], part) for part in blocked])
+    return Averages(h.size, h.slots, h.samples, blocks, report.counted * h.samples * h.slots, totals, without)
+
+
+def read(name, stream, options):
+    """Sums or a report, by its first bytes."""
+    if stream.peek(8)[:8] == b"average ":
+        if options.blocks is not None or options.skip:
+            raise Refusal(f"{name} has sums: their blocks and rows are chosen already")
+        return SumsFile(name, stream).read()
+    if options.blocks is None:
+        raise Refusal(f"{name} has no sums of glass average; for a report give --blocks")
+    return sums_of_report(name, stream, options.blocks, options.skip)
+
+
+# ---------------------------------------------------------------- values and errors
+
+
+def values_of(sums, volume):
+    """Energy, q^2, q^4 and Binder ratio; None where no row or no overlap defines one."""
+    if not sums.rows:
+        return [None] * 4
+    values = [Fraction(sums.energy, 2 * sums.rows * volume), Fraction(sums.squares, sums.rows * volume ** 2),
+              Fraction(sums.fourths, sums.rows * volume ** 4)]
+    binder = (3 - Fraction(sums.rows * sums.fourths, sums.squares ** 2)) / 2 if sums.squares else None
+    return [float(value) for value in values] + [None if binder is None else float(binder)]
+
+
+def jackknife_error(values):
+    """The error of a value from those without each block."""
+    if len(values) < 2 or None in values:
+        return None
+    mean = math.fsum(values) / len(values)
+    return math.sqrt((len(values) - 1) / len(values) * math.fsum((value - mean) ** 2 for value in values))
+
+
+def print_averages(averages, names, head):
+    volume = averages.size ** 3
+    print(f"size {averages.size}, slots {averages.slots}, samples {averages.samples}, blocks {averages.blocks}, "
+          f"rows {averages.rows}")
+    print(f"slot {head:>10}" + "".join(f" {what:>10} {'error':>9}" for what in ("energy", "q^2", "q^4", "Binder")))
+    for slot, name in enumerate(names):
+        values = values_of(averages.totals[slot], volume)
+        parts = [values_of(part, volume) for part in averages.without[slot]]
+        line = f"{slot:>4} {name:>10}"
+        for k, value in enumerate(values):
+            line += f" {spelled(value, 6, 10)} {spelled(jackknife_error([part[k] for part in parts]), 6, 9)}"
+        print(line)
+
+
+# ---------------------------------------------------------------- the program
+
+
+def jackknife(options):
+    betas = inverse_temperatures(options)
+    if options.blocks is not None and not 1 <= options.blocks <= MOST_BLOCKS:
+        raise Refusal(f"{options.blocks} blocks, and there are 1 to {MOST_BLOCKS}")
+    if options.file == "-":
+        averages = read("standard input", sys.stdin.buffer, options)
+    else:
+        try:
+            with open(options.file, "rb") as stream:
+                averages = read(options.file, stream, options)
+        except OSError as fault:
+            raise Refusal(f"{options.file} can't be read: {fault.strerror}") from None
+    if betas and len(betas) != averages.slots:
+        raise Refusal(f"{len(betas)} temperatures, and there are {averages.slots} slots")
+    if not averages.rows:
+        raise Refusal("there is no row" + (f" from epoch {options.skip} on" if options.skip else ""))
+    head = "beta" if options.betas else "T" if options.temperatures else ""
+    print_averages(averages, options.betas or options.temperatures or [""] * averages.slots, head)
+
+
+def main(words=None):
+    parser = OneLineParser(prog="jackknife", description=__doc__, allow_abbrev=False,
+                           formatter_class=argparse.RawDescriptionHelpFormatter)
+    parser.add_argument("file", nargs="?", default="-", metavar="FILE",
+                        help="what glass average printed, or a report; - for standard input (the default)")
+    add_temperatures(parser)
+    parser.add_argument("--blocks", type=int, metavar="K", help="of a report: the number of blocks of its samples")
+    parser.add_argument("--skip", type=int, default=0, metavar="EPOCH",
+                        help="of a report: leave out the epochs before this one")
+    parser.add_argument("--self-test", action="store_true",
+                        help="compare with sums taken row by row from reports of an independent program")
+    try:
+        options = parser.parse_args(words)
+        if options.self_test:
+            from jackknife_test import self_test
+            return self_test(main)
+        jackknife(options)
+    except Refusal as refusal:
+        print(f"jackknife: {refusal}", file=sys.stderr)
+        return 2
+    return 0
+
+
+if __name__ == "__main__":
+    sys.exit(main())
