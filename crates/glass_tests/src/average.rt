@@ -3,7 +3,9 @@
 use crate::called::{Called, ample, call, call_with, call_words_of, output};
 use crate::files::{RUN, changed, store};
 use glass_edges::MemoryShelf;
+use std::sync::Wait;
 use std::test::Fail;
+use std::thread::Threads;
 
 // The report of two temperature slots of the ferromagnet over two epochs, which exchanged once.
 const HEADER: &str = "glass 1 size=4 slots=2 samples=1 rule=heat from=0 to=2\n";
@@ -30,19 +32,23 @@ end
 ";
 
 // A store of one report, which fails at one call.
-fn shelf_failing(rt: &HostRuntime, report: &[u8], failing: u64) -> Result<MemoryShelf, Fail> {
+fn shelf_failing<R: AllocGlobal>(rt: &R, report: &[u8], failing: u64) -> Result<MemoryShelf, Fail> {
     let mut shelf = MemoryShelf::new(rt.alloc(), [failing].to_vec(rt.alloc())?);
     shelf.add("report.txt", report)?;
     Ok(shelf)
 }
 
 // A call over a report.
-fn call_on(rt: &HostRuntime, line: &str, report: &str) -> Result<Called, Fail> {
+fn call_on<R: AllocGlobal + Threads + Wait + Sync>(
+    rt: &R,
+    line: &str,
+    report: &str,
+) -> Result<Called, Fail> {
     call_with(rt, line, shelf_failing(rt, report.as_bytes(), u64::MAX)?)
 }
 
 // The report of two slots.
-fn two_slots(rt: &HostRuntime) -> Result<String, Fail> {
+fn two_slots<R: AllocGlobal>(rt: &R) -> Result<String, Fail> {
     Ok(format!(in rt.alloc(); "{HEADER}{FIRST_ROW}{REST}")?)
 }
 
