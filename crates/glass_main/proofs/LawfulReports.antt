@@ -32,7 +32,7 @@ use Rattle.sample_average.specs.declared.header.Rule.TheVariants as rules_of
 use Rattle.sample_average.specs.declared.row.Row.{Row}
 use Rattle.sample_average.specs.LawfulReport.{IsInRange, IsLawfulHeader, Report, Spells, AreSpins, header_line, row_line, end_line, rule_text, spin_lines, report_lines, rows_of}
 use Rattle.glass_main.specs.LawfulRuns.{IsLawfulText}
-use Rattle.glass_main.specs.Texts.{run_text}
+use Rattle.glass_main.specs.Beginnings.{opened_by, run_text}
 use Rattle.glass_main.specs.declared.planned.Planned.{Planned}
 use Rattle.glass_main.proofs.ReportRows.{IsTable, group_rows, group-is, groups_of, groups-are, groups-text, joined-text, concat-map, concat-append}
 use Rattle.glass_main.proofs.ReportSpins.{spin_list, slot_text, spins-text, spins-are}
@@ -199,7 +199,7 @@ opening-measured plan start samples from to paired labels = record {
   range = λ b f t less past below under. epoch-range plan samples from to f b t (serial plan (start b) f) (serial-permutes plan (start b) f (paired b) (labels b)) under;
 }
 
-pub run-lawful : (planned : Planned) (until : ℕ) → IsLawfulPlan planned.plan → AreLawfulOrders planned.orders → until ≤ 1000000000 → IsLawfulText (run_text planned until)
+pub run-lawful : (planned : Planned) (until : ℕ) → IsLawfulPlan planned.plan → AreLawfulOrders planned.orders → until ≤ 1000000000 → IsLawfulText (run_text planned (opened_by planned) until)
 unfolding report
 run-lawful planned until lawful orders within =
     let plan : Plan = planned.plan in

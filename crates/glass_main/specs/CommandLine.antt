@@ -11,13 +11,15 @@ pub record PlainOrder : Type 0 where
   pub seed : ℕ
   pub thresholds : List ℕ
 
--- a run: the name of its run file, the workers, the pieces that the planes of a sweep are cut into, and the epoch to stop at
--- where it isn't the run file's
+-- a run: the name of its run file, the workers, the pieces that the planes of a sweep are cut into, the epoch to stop at
+-- where it isn't the run file's, the checkpoint to go on from, and the name to save the run's own under
 pub record RunOrder : Type 0 where
   pub run : List ℕ
   pub workers : ℕ
   pub pieces : ℕ
   pub until : Option ℕ
+  pub from : Option (List ℕ)
+  pub save : Option (List ℕ)
 
 -- averages: the name of the report, and the number of blocks of its samples
 pub record AverageOrder : Type 0 where
@@ -76,16 +78,18 @@ pub record RunWords : Type 0 where
   pub workers : Option ℕ
   pub pieces : Option ℕ
   pub until : Option ℕ
+  pub from : Option (List ℕ)
+  pub save : Option (List ℕ)
 
 abbrev pub nothing_said : RunWords
-nothing_said = record { run = None; waiting = None; workers = None; pieces = None; until = None }
+nothing_said = record { run = None; waiting = None; workers = None; pieces = None; until = None; from = None; save = None }
 
 -- what comes of a thing that may be said once
 abbrev pub once : {A B : Type 0} → Option A → Option B → Option B
 once None next = next
 once (Some earlier) next = None
 
--- an option with its value, each at most once: 1 to 64 workers, 1 to 16 pieces, an epoch up to 1000000000
+-- an option with its value, each at most once: 1 to 64 workers, 1 to 16 pieces, an epoch up to 1000000000, names of files
 abbrev pub with_workers : RunWords → List ℕ → Option RunWords
 with_workers said value = once said.workers (option_map (λ n. record said { waiting = None; workers = Some n }) (number_word 1 64 value))
 
@@ -95,11 +99,23 @@ with_pieces said value = once said.pieces (option_map (λ n. record said { waiti
 abbrev pub with_until : RunWords → List ℕ → Option RunWords
 with_until said value = once said.until (option_map (λ n. record said { waiting = None; until = Some n }) (number_word 0 1000000000 value))
 
+-- the name of a file
+abbrev pub file_word : List ℕ → Option (List ℕ)
+file_word value = if is_file_name value then Some value else None
+
+abbrev pub with_from : RunWords → List ℕ → Option RunWords
+with_from said value = once said.from (option_map (λ name. record said { waiting = None; from = Some name }) (file_word value))
+
+abbrev pub with_save : RunWords → List ℕ → Option RunWords
+with_save said value = once said.save (option_map (λ name. record said { waiting = None; save = Some name }) (file_word value))
+
 unfoldable pub with_option : RunWords → List ℕ → List ℕ → Option RunWords
 with_option said name value =
     if bytes_eq name (codes "--workers") then with_workers said value
     else if bytes_eq name (codes "--pieces") then with_pieces said value
     else if bytes_eq name (codes "--until") then with_until said value
+    else if bytes_eq name (codes "--from") then with_from said value
+    else if bytes_eq name (codes "--save") then with_save said value
     else None
 
 -- 61 is the equals sign
@@ -133,10 +149,17 @@ said_by words = fold with_word (Some nothing_said) words
 -- the run file must be named, and no option may wait; there is one worker and one piece where nothing else is said
 abbrev pub order_in : Option (List ℕ) → Option (List ℕ) → RunWords → Option RunOrder
 order_in (Some run) None said =
-    Some (record { run = run; workers = unwrap_or said.workers 1; pieces = unwrap_or said.pieces 1; until = said.until })
+    Some (record {
+      run = run;
+      workers = unwrap_or said.workers 1;
+      pieces = unwrap_or said.pieces 1;
+      until = said.until;
+      from = said.from;
+      save = said.save;
+    })
 order_in _ _ said = None
 
--- `run RUN` with `--workers N`, `--pieces P` and `--until E` in any order
+-- `run RUN` with `--workers N`, `--pieces P`, `--until E`, `--from NAME` and `--save NAME` in any order
 unfoldable pub run_order : List (List ℕ) → Option RunOrder
 run_order words = given (said_by (drop 1 words)) (λ said. order_in said.run said.waiting said)
 
@@ -150,3 +173,11 @@ command_of words =
     else if bytes_eq (word_at words 0) (codes "run") then option_map Run (run_order words)
     else if bytes_eq (word_at words 0) (codes "average") then option_map Average (average_order words)
     else None
+
+-- the name under which words ask for a checkpoint to be saved
+abbrev pub saved_name : Option Command → Option (List ℕ)
+saved_name None = None
+saved_name (Some (Plain order)) = None
+saved_name (Some (Check name)) = None
+saved_name (Some (Run order)) = order.save
+saved_name (Some (Average order)) = None

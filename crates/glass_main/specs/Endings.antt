@@ -1,5 +1,5 @@
 -- Which endings words may have, over any store: what holds also where no file is observable.
-use Rattle.std.specs.Prelude.{◌≡◌, ◌⊎◌, ℕ, ◌<◌, List, Option, Some, None, option_map, IfSome, Err}
+use Rattle.std.specs.Prelude.{◌≡◌, ◌≢◌, ◌⊎◌, ℕ, ◌<◌, List, Option, Some, None, option_map, IfSome, Err}
 use Rattle.glass_edges.specs.Contents.{Files}
 use Rattle.coupling_set.specs.CouplingsFile.{couplings_in}
 use Rattle.coupling_set.specs.declared.refused.CouplingsRefused.{CouplingsRefused}
@@ -8,6 +8,9 @@ use Rattle.threshold_table.specs.Tables.{RuleView, rule_table, swap_table}
 use Rattle.threshold_table.specs.declared.refused.TableRefused.{TableRefused}
 use Rattle.threshold_table.specs.declared.refused.TableRefused.TheVariants as table
 use Rattle.threshold_table.specs.declared.rule_table.RuleKind.{RuleKind}
+use Rattle.run_checkpoint.specs.UnevenDecoding.{any_refusal}
+use Rattle.run_checkpoint.specs.declared.refused.CheckpointRefused.{CheckpointRefused}
+use Rattle.run_checkpoint.specs.declared.refused.CheckpointRefused.TheVariants as checkpoint
 use Rattle.run_plan.specs.RunFile.{run_file}
 use Rattle.run_plan.specs.declared.refused.PlanRefused.{PlanRefused}
 use Rattle.run_plan.specs.declared.refused.PlanRefused.TheVariants as plan
@@ -15,14 +18,15 @@ use Rattle.run_plan.specs.declared.run_file.RunFile.{RunFile}
 use Rattle.sample_average.specs.Averages.{IsRefusal}
 use Rattle.sample_average.specs.declared.refused.ReportRefused.{ReportRefused}
 use Rattle.sample_average.specs.declared.refused.ReportRefused.TheVariants as report
-use Rattle.glass_main.specs.CommandLine.{AverageOrder, Command, Plain, Check, Run, Average}
-use Rattle.glass_main.specs.Request.{limit_of, and_then, IsAccepted, run_file_at, rules_at, swaps_at, tables_at}
+use Rattle.scalar_rule.specs.Plan as rule
+use Rattle.glass_main.specs.CommandLine.{RunOrder, AverageOrder, Command, Plain, Check, Run, Average}
+use Rattle.glass_main.specs.Request.{limit_of, and_then, IsAccepted, run_file_at, rules_at, swaps_at, tables_at, plan_at}
 use Rattle.glass_main.specs.declared.role.Role.{Role}
 use Rattle.glass_main.specs.declared.role.Role.TheVariants as roles
 use Rattle.glass_main.specs.declared.refusal.Refusal.{Refusal}
 use Rattle.glass_main.specs.declared.refusal.Refusal.TheVariants as refused
 use Rattle.glass_main.specs.declared.ending.Ending.{Ending}
-use Rattle.glass_main.specs.declared.ending.Ending.TheVariants.{Done, Refused, Unread, Unwritten, NoMemory}
+use Rattle.glass_main.specs.declared.ending.Ending.TheVariants.{Done, Refused, Unread, Unwritten, Unsaved, NoMemory}
 
 -- ---- refusals
 
@@ -46,6 +50,11 @@ pub record IsOfCouplings (e : CouplingsRefused) : Type 0 where
   pub refusal : ¬ (e ≡ couplings.NoMemory)
   pub cause : (size : ℕ) × (bytes : List ℕ) × (couplings_in size 0 bytes ≡ Err e)
 
+-- some checkpoint is refused so, for some plan, orders and last epoch
+pub record IsOfCheckpoint (e : CheckpointRefused) : Type 0 where
+  pub refusal : ¬ (e ≡ checkpoint.NoMemory)
+  pub cause : (plan : rule.Plan) × (samples : ℕ) × (every : ℕ) × (until : ℕ) × (bytes : List ℕ) × (any_refusal plan samples every until bytes ≡ Some e)
+
 -- some report is refused so, by its grammar or for too few samples
 pub record IsOfReport (blocks : ℕ) (e : ReportRefused) : Type 0 where
   pub refusal : ¬ (e ≡ report.NoMemory)
@@ -65,6 +74,7 @@ IsOfFile (refused.Plan e) = IsOfRunFile e
 IsOfFile (refused.Rules e) = IsOfRules e
 IsOfFile (refused.Swaps e) = IsOfSwaps e
 IsOfFile (refused.Couplings e) = IsOfCouplings e
+IsOfFile (refused.Checkpoint e) = IsOfCheckpoint e
 IsOfFile (refused.Report e) = ⊥
 
 -- a refusal of a report, of which averages in so many blocks are asked for
@@ -95,6 +105,7 @@ IsReachedAfterRules file rules held roles.RuleTable = ⊥
 IsReachedAfterRules file rules held roles.SwapTable = Unit {0}
 IsReachedAfterRules file rules held roles.Report = ⊥
 IsReachedAfterRules file rules held roles.Couplings = IfSome (option_map (swaps_at file rules) held) IsAccepted
+IsReachedAfterRules file rules held roles.Checkpoint = ⊥
 
 -- which tables and couplings of a run file
 abbrev pub IsReachedAfter : RunFile → Option Files → Role → Type 0
@@ -103,6 +114,7 @@ IsReachedAfter file held roles.RuleTable = Unit {0}
 IsReachedAfter file held roles.SwapTable = IfSome (option_map (rules_at file) held) IsAccepted
 IsReachedAfter file held roles.Report = ⊥
 IsReachedAfter file held roles.Couplings = IfSome (option_map (tables_at file) held) IsAccepted
+IsReachedAfter file held roles.Checkpoint = ⊥
 
 -- which files from a run file's name on
 abbrev pub IsReached : List ℕ → Option Files → Role → Type 0
@@ -113,6 +125,17 @@ IsReached name held roles.SwapTable =
 IsReached name held roles.Report = ⊥
 IsReached name held roles.Couplings =
     IfSome (option_map (λ files. and_then (run_file_at name files) (λ file. tables_at file files)) held) IsAccepted
+IsReached name held roles.Checkpoint = ⊥
+
+-- the checkpoint, where one is named
+pub record FetchesCheckpoint (name : Option (List ℕ)) (role : Role) : Type 0 where
+  pub role_is : role ≡ roles.Checkpoint
+  pub named : name ≢ None
+
+-- that of an order: no step before refuses
+pub record IsResumed (order : RunOrder) (held : Option Files) (role : Role) : Type 0 where
+  pub fetches : FetchesCheckpoint order.from role
+  pub reached : IfSome (option_map (plan_at order.run) held) IsAccepted
 
 -- ---- commands
 
@@ -128,8 +151,15 @@ MayRefuse (Average order) told = IsOfAverages order.blocks told
 abbrev pub MayFetch : Command → Option Files → Role → Type 0
 MayFetch (Plain order) held role = ⊥
 MayFetch (Check name) held role = IsReached name held role
-MayFetch (Run order) held role = IsReached order.run held role
+MayFetch (Run order) held role = IsReached order.run held role ⊎ IsResumed order held role
 MayFetch (Average order) held role = role ≡ roles.Report
+
+-- the commands that may fail at their checkpoint: runs that save one
+abbrev pub MaySave : Command → Type 0
+MaySave (Plain order) = ⊥
+MaySave (Check name) = ⊥
+MaySave (Run order) = order.save ≢ None
+MaySave (Average order) = ⊥
 
 -- how a command may end, where the store holds these files
 abbrev pub MayEnd : Command → Option Files → Ending → Type 0
@@ -137,6 +167,7 @@ MayEnd command held Done = Unit {0}
 MayEnd command held (Refused told) = MayRefuse command told
 MayEnd command held (Unread role) = MayFetch command held role
 MayEnd command held Unwritten = Unit {0}
+MayEnd command held Unsaved = MaySave command
 MayEnd command held NoMemory = Unit {0}
 
 -- words that read no file: those of `plain`, and those that are no command

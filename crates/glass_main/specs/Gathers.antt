@@ -10,7 +10,7 @@ use Rattle.glass_main.specs.declared.role.Role.{Role}
 use Rattle.glass_main.specs.declared.refusal.Refusal.{Refusal}
 use Rattle.glass_main.specs.declared.refusal.Refusal.TheVariants.{Absent, TooLong}
 use Rattle.glass_main.specs.declared.ending.Ending.{Ending}
-use Rattle.glass_main.specs.declared.ending.Ending.TheVariants.{Done, Refused, Unread, Unwritten, NoMemory}
+use Rattle.glass_main.specs.declared.ending.Ending.TheVariants.{Done, Refused, Unread, Unwritten, Unsaved, NoMemory}
 
 -- a step that fetches at most one file
 abbrev pub Fetches : Role → Role → Type 0
@@ -32,6 +32,7 @@ Stops asked fetches (Refused told) old new =
     (IsOfFile told × IfSome asked (λ a. IsRefusedBy a told)) × (new.faults ≡ old.faults) × TellsLength old.lengths told
 Stops asked fetches (Unread role) old new = fetches role × Rose old.faults new.faults
 Stops asked fetches Unwritten old new = ⊥
+Stops asked fetches Unsaved old new = ⊥
 Stops asked fetches NoMemory old new = new.faults ≡ old.faults
 
 -- the step gives what is asked for and counts no fault, or stops; no file changes, and no length that is told of one

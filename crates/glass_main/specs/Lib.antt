@@ -1,12 +1,14 @@
 pub mod Words
 pub mod CommandLine
 pub mod Texts
+pub mod Beginnings
 pub mod Outside
 pub mod Request
 pub mod Lines
 pub mod Endings
 pub mod Statuses
 pub mod Gathers
+pub mod Resumes
 pub mod ReadCommand
 pub mod Opened
 pub mod LawfulRuns

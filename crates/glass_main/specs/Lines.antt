@@ -7,6 +7,8 @@ use Rattle.run_plan.specs.declared.refused.PlanRefused.TheVariants as plan
 use Rattle.hex.specs.Hex.{encode_lower}
 use Rattle.coupling_set.specs.declared.refused.CouplingsRefused.{CouplingsRefused}
 use Rattle.coupling_set.specs.declared.refused.CouplingsRefused.TheVariants as couplings
+use Rattle.run_checkpoint.specs.declared.refused.CheckpointRefused.{CheckpointRefused}
+use Rattle.run_checkpoint.specs.declared.refused.CheckpointRefused.TheVariants as checkpoint
 use Rattle.threshold_table.specs.declared.refused.TableRefused.{TableRefused}
 use Rattle.threshold_table.specs.declared.refused.TableRefused.TheVariants as table
 use Rattle.sample_average.specs.declared.refused.ReportRefused.{ReportRefused}
@@ -14,9 +16,9 @@ use Rattle.sample_average.specs.declared.refused.ReportRefused.TheVariants as re
 use Rattle.glass_main.specs.declared.role.Role.{Role}
 use Rattle.glass_main.specs.declared.role.Role.TheVariants as roles
 use Rattle.glass_main.specs.declared.refusal.Refusal.{Refusal}
-use Rattle.glass_main.specs.declared.refusal.Refusal.TheVariants.{Words, Absent, TooLong, Plan, Rules, Swaps, Couplings, Report}
+use Rattle.glass_main.specs.declared.refusal.Refusal.TheVariants.{Words, Absent, TooLong, Plan, Rules, Swaps, Couplings, Checkpoint, Report}
 use Rattle.glass_main.specs.declared.ending.Ending.{Ending}
-use Rattle.glass_main.specs.declared.ending.Ending.TheVariants.{Done, Refused, Unread, Unwritten, NoMemory}
+use Rattle.glass_main.specs.declared.ending.Ending.TheVariants.{Done, Refused, Unread, Unwritten, Unsaved, NoMemory}
 
 -- a file by what it is read as
 unfoldable pub role_name : Role → List ℕ
@@ -24,6 +26,7 @@ role_name roles.RunFile = codes "run file"
 role_name roles.RuleTable = codes "rule table"
 role_name roles.SwapTable = codes "swap table"
 role_name roles.Couplings = codes "couplings file"
+role_name roles.Checkpoint = codes "checkpoint"
 role_name roles.Report = codes "report"
 
 unfoldable pub memory_line : List ℕ
@@ -78,6 +81,34 @@ couplings_line (couplings.Digest stored computed) =
     file_front roles.Couplings ++ codes " is damaged: " ++ encode_lower stored ++ codes " stored, " ++ encode_lower computed ++ codes " computed\n"
 couplings_line couplings.NoMemory = memory_line
 
+-- why a checkpoint was refused
+unfoldable pub checkpoint_line : CheckpointRefused → List ℕ
+checkpoint_line (checkpoint.Short len) = file_front roles.Checkpoint ++ codes " is too short: " ++ decimal len ++ codes " bytes\n"
+checkpoint_line checkpoint.Magic = file_front roles.Checkpoint ++ codes " is of another kind\n"
+checkpoint_line (checkpoint.Shape size slots) =
+    file_front roles.Checkpoint ++ codes " has size " ++ decimal size ++ codes " and " ++ decimal slots ++ codes " slots\n"
+checkpoint_line (checkpoint.Length found wanted) =
+    file_front roles.Checkpoint ++ codes " has " ++ decimal found ++ codes " bytes, not " ++ decimal wanted ++ codes "\n"
+checkpoint_line (checkpoint.Digest stored computed) =
+    file_front roles.Checkpoint ++ codes " is damaged: " ++ encode_lower stored ++ codes " stored, " ++ encode_lower computed ++ codes " computed\n"
+checkpoint_line (checkpoint.OtherPlan stored mine) =
+    file_front roles.Checkpoint ++ codes " is of another plan: " ++ encode_lower stored ++ codes " stored, " ++ encode_lower mine ++ codes " here\n"
+checkpoint_line (checkpoint.Replicas slot copy sample) =
+    file_front roles.Checkpoint ++ codes " has a wrong replica at slot " ++ decimal slot ++ codes ", copy " ++ decimal copy
+    ++ codes ", sample " ++ decimal sample ++ codes "\n"
+checkpoint_line (checkpoint.Late epoch until) =
+    file_front roles.Checkpoint ++ codes " is at epoch " ++ decimal epoch ++ codes ", past " ++ decimal until ++ codes "\n"
+checkpoint_line checkpoint.NoMemory = memory_line
+checkpoint_line (checkpoint.Places slot) = file_front roles.Checkpoint ++ codes " has a wrong place at slot " ++ decimal slot ++ codes "\n"
+checkpoint_line (checkpoint.Orders samples every) =
+    file_front roles.Checkpoint ++ codes " is of samples=" ++ decimal samples ++ codes " every=" ++ decimal every ++ codes "\n"
+checkpoint_line (checkpoint.Pending found wanted) =
+    file_front roles.Checkpoint ++ codes " has " ++ decimal found ++ codes " pending records, not " ++ decimal wanted ++ codes "\n"
+checkpoint_line (checkpoint.BankCount found wanted) =
+    file_front roles.Checkpoint ++ codes " has " ++ decimal found ++ codes " banks, not " ++ decimal wanted ++ codes "\n"
+checkpoint_line (checkpoint.BankEpoch bank epoch first) =
+    file_front roles.Checkpoint ++ codes " has bank " ++ decimal bank ++ codes " at epoch " ++ decimal epoch ++ codes ", not " ++ decimal first ++ codes "\n"
+
 -- why a report was refused
 unfoldable pub report_line : ReportRefused → List ℕ
 report_line (report.Line line) = file_front roles.Report ++ codes " is wrong at line " ++ decimal line ++ codes "\n"
@@ -93,6 +124,7 @@ refusal_line (Plan refused) = plan_line refused
 refusal_line (Rules refused) = table_line roles.RuleTable refused
 refusal_line (Swaps refused) = table_line roles.SwapTable refused
 refusal_line (Couplings refused) = couplings_line refused
+refusal_line (Checkpoint refused) = checkpoint_line refused
 refusal_line (Report refused) = report_line refused
 refusal_line (Absent role) = file_front role ++ codes " is not held\n"
 
@@ -102,4 +134,5 @@ line_of Done = []
 line_of (Refused refusal) = refusal_line refusal
 line_of (Unread role) = codes "glass: reading the " ++ role_name role ++ codes " failed\n"
 line_of Unwritten = codes "glass: writing the report failed\n"
+line_of Unsaved = codes "glass: placing the checkpoint failed\n"
 line_of NoMemory = memory_line

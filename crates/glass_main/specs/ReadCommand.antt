@@ -1,5 +1,6 @@
 -- A command of the program as a command of the definitions, and the limits of its numbers.
-use Rattle.std.specs.Prelude.{◌≤◌, option_map, IfSome}
+use Rattle.std.specs.Borrow.{Bor}
+use Rattle.std.specs.Prelude.{ℕ, ◌≤◌, List, Option, option_map, IfSome}
 use Rattle.glass_main.specs.CommandLine as model
 use Rattle.glass_main.specs.declared.average_words.AverageOrder.{AverageOrder}
 use Rattle.glass_main.specs.declared.command_line.PlainOrder.{PlainOrder}
@@ -12,9 +13,20 @@ use Rattle.glass_main.specs.declared.run_words.RunWords.{RunWords}
 abbrev pub read_order : PlainOrder → model.PlainOrder
 read_order order = record { size = order.lattice; sweeps = order.sweeps; seed = order.seed; thresholds = order.thresholds }
 
+-- the bytes of a name, where there is one
+abbrev pub name_bytes : Option (Bor (List ℕ)) → Option (List ℕ)
+name_bytes name = option_map (λ (n : Bor (List ℕ)). n.now) name
+
 -- the order of `run`
 abbrev pub read_run_order : RunOrder → model.RunOrder
-read_run_order order = record { run = order.run.now; workers = order.workers; pieces = order.pieces; until = order.until }
+read_run_order order = record {
+  run = order.run.now;
+  workers = order.workers;
+  pieces = order.pieces;
+  until = order.until;
+  from = name_bytes order.from;
+  save = name_bytes order.save;
+}
 
 -- the order of `average`
 abbrev pub read_average_order : AverageOrder → model.AverageOrder
@@ -35,6 +47,8 @@ read_said said = record {
   workers = said.workers;
   pieces = said.pieces;
   until = said.until;
+  from = name_bytes said.from;
+  save = name_bytes said.save;
 }
 
 -- 1 to 64 workers, 1 to 16 pieces, an epoch up to 1000000000

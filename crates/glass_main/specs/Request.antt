@@ -17,7 +17,8 @@ use Rattle.run_plan.specs.PlanOf.{plan_with}
 use Rattle.sample_average.specs.Averages.{AveragesView, averages_text}
 use Rattle.sample_average.specs.ReadReport.{averages_in}
 use Rattle.glass_main.specs.CommandLine.{PlainOrder, RunOrder, AverageOrder, Command, Plain, Check, Run, Average, command_of}
-use Rattle.glass_main.specs.Texts.{plain_text, check_text, run_text}
+use Rattle.glass_main.specs.Beginnings.{Beginning, opened_by, resumed_by, begins_at, run_text, run_checkpoint}
+use Rattle.glass_main.specs.Texts.{plain_text, check_text}
 use Rattle.glass_main.specs.declared.planned.Planned.{Planned}
 use Rattle.glass_main.specs.declared.role.Role.{Role}
 use Rattle.glass_main.specs.declared.role.Role.TheVariants as roles
@@ -30,15 +31,22 @@ use Rattle.glass_main.specs.declared.refusal.Refusal.TheVariants as refused
 pub data Work : Type 0 where
   PlainWork : PlainOrder → Work
   CheckWork : Planned → Work
-  RunWork : Planned → ℕ → Work
+  RunWork : Planned → Beginning → ℕ → Work
   AverageWork : AveragesView → Work
 
 -- the text that the work prints
 abbrev pub text_of : Work → List ℕ
 text_of (PlainWork order) = plain_text order
 text_of (CheckWork planned) = check_text planned
-text_of (RunWork planned until) = run_text planned until
+text_of (RunWork planned from until) = run_text planned from until
 text_of (AverageWork averages) = averages_text averages
+
+-- the checkpoint that it saves, where it is asked to
+abbrev pub saved_of : Work → List ℕ
+saved_of (PlainWork order) = []
+saved_of (CheckWork planned) = []
+saved_of (RunWork planned from until) = run_checkpoint planned from until
+saved_of (AverageWork averages) = []
 
 -- ---- steps
 
@@ -63,6 +71,7 @@ limit_of roles.RunFile = 1048576
 limit_of roles.RuleTable = 65536
 limit_of roles.SwapTable = 4194304
 limit_of roles.Couplings = 25165872
+limit_of roles.Checkpoint = 544943596
 limit_of roles.Report = 67108864
 
 -- the bytes of a file, unless the name isn't held or they are too many
@@ -119,13 +128,31 @@ plan_after_file file files = and_then (rules_at file files) (λ rules. plan_afte
 unfoldable pub plan_at : List ℕ → Files → Result Planned Refusal
 plan_at name files = and_then (run_file_at name files) (λ file. plan_after_file file files)
 
--- a run until an epoch, unless it would print too much
-unfoldable pub run_work : Planned → ℕ → Result Work Refusal
-run_work planned until = told_as refused.Plan (unless (amount_refusal planned.plan planned.orders 0 until) (RunWork planned until))
+-- the states of the checkpoint of a name, where one is named; else the opening states
+unfoldable pub checkpoint_at : Planned → ℕ → List ℕ → Files → Result Beginning Refusal
+checkpoint_at planned until name files =
+    and_then (bytes_at roles.Checkpoint name files) (λ bytes. told_as refused.Checkpoint (resumed_by planned until bytes))
+
+abbrev pub beginning_at : Option (List ℕ) → Planned → ℕ → Files → Result Beginning Refusal
+beginning_at None planned until files = Ok (opened_by planned)
+beginning_at (Some name) planned until files = checkpoint_at planned until name files
+
+-- a run from there until an epoch, unless it would print too much
+unfoldable pub run_work : Planned → ℕ → Beginning → Result Work Refusal
+run_work planned until from =
+    told_as refused.Plan (unless (amount_refusal planned.plan planned.orders (begins_at from) until) (RunWork planned from until))
 
 -- the epoch at which a run ends: that of the words, or where they have none that of the run file
 abbrev pub until_of : RunOrder → Planned → ℕ
 until_of order planned = unwrap_or order.until planned.orders.epochs
+
+-- what a run asks for: its plan, what it starts from, and no more than it may print
+abbrev pub run_from : RunOrder → Planned → Files → Result Work Refusal
+run_from order planned held =
+    and_then (beginning_at order.from planned (until_of order planned) held) (run_work planned (until_of order planned))
+
+abbrev pub run_at : RunOrder → Files → Result Work Refusal
+run_at order held = and_then (plan_at order.run held) (λ planned. run_from order planned held)
 
 -- the averages of the report of a name, in so many blocks of its samples
 unfoldable pub averages_at : AverageOrder → Files → Result AveragesView Refusal
@@ -137,7 +164,7 @@ averages_at order files = and_then (bytes_at roles.Report order.report files) (�
 abbrev pub request_of : Command → Option Files → Option (Result Work Refusal)
 request_of (Plain order) files = Some (Ok (PlainWork order))
 request_of (Check name) files = option_map (λ held. and_then (plan_at name held) (λ planned. Ok (CheckWork planned))) files
-request_of (Run order) files = option_map (λ held. and_then (plan_at order.run held) (λ planned. run_work planned (until_of order planned))) files
+request_of (Run order) files = option_map (run_at order) files
 request_of (Average order) files = option_map (λ held. and_then (averages_at order held) (λ averages. Ok (AverageWork averages))) files
 
 -- the same of words that may be no command
@@ -153,3 +180,8 @@ request words files = request_for (command_of words) files
 abbrev pub text_asked : Result Work Refusal → List ℕ
 text_asked (Ok work) = text_of work
 text_asked (Err refusal) = []
+
+-- the checkpoint that is asked for
+abbrev pub saved_asked : Result Work Refusal → List ℕ
+saved_asked (Ok work) = saved_of work
+saved_asked (Err refusal) = []

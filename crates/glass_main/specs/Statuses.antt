@@ -1,18 +1,18 @@
 -- How a call ends: its status, what causes it, and what it leaves.
-use Rattle.std.specs.Prelude.{◌≡◌, ◌⊎◌, ℕ, ◌<◌, ◌≤◌, List, Option, IfSome, Result, Ok, Err}
+use Rattle.std.specs.Prelude.{◌≡◌, ◌⊎◌, ℕ, ◌<◌, ◌≤◌, List, Option, IfSome, Result, Ok, Err, Some, None}
 use Rattle.glass_edges.specs.Causes.{Rose}
-use Rattle.glass_edges.specs.Contents.{appended, AppendsPrefix}
-use Rattle.glass_main.specs.CommandLine.{Command}
+use Rattle.glass_edges.specs.Contents.{appended, AppendsPrefix, Placed, SameElsewhere}
+use Rattle.glass_main.specs.CommandLine.{Command, saved_name}
 use Rattle.glass_main.specs.Endings.{Reads, TellsLength}
 use Rattle.glass_main.specs.Outside.{Output, Store}
-use Rattle.glass_main.specs.Request.{Work, limit_of, IsAccepted, text_of, text_asked, request_for}
+use Rattle.glass_main.specs.Request.{Work, limit_of, IsAccepted, text_of, text_asked, saved_of, saved_asked, request_for}
 use Rattle.glass_main.specs.Lines.{line_of}
 use Rattle.glass_main.specs.declared.role.Role.{Role}
-use Rattle.glass_main.specs.declared.role.Role.TheVariants.{RunFile, RuleTable, SwapTable, Couplings as CouplingsFile, Report as ReportFile}
+use Rattle.glass_main.specs.declared.role.Role.TheVariants.{RunFile, RuleTable, SwapTable, Couplings as CouplingsFile, Checkpoint as CheckpointFile, Report as ReportFile}
 use Rattle.glass_main.specs.declared.refusal.Refusal.{Refusal}
-use Rattle.glass_main.specs.declared.refusal.Refusal.TheVariants.{Words, Absent, TooLong, Plan, Rules, Swaps, Couplings, Report}
+use Rattle.glass_main.specs.declared.refusal.Refusal.TheVariants.{Words, Absent, TooLong, Plan, Rules, Swaps, Couplings, Checkpoint, Report}
 use Rattle.glass_main.specs.declared.ending.Ending.{Ending}
-use Rattle.glass_main.specs.declared.ending.Ending.TheVariants.{Done, Refused, Unread, Unwritten, NoMemory}
+use Rattle.glass_main.specs.declared.ending.Ending.TheVariants.{Done, Refused, Unread, Unwritten, Unsaved, NoMemory}
 
 -- ---- the exit status
 
@@ -22,6 +22,7 @@ role_status RunFile = 3
 role_status RuleTable = 4
 role_status SwapTable = 4
 role_status CouplingsFile = 5
+role_status CheckpointFile = 6
 role_status ReportFile = 12
 
 -- of a refusal
@@ -33,6 +34,7 @@ refusal_status (Plan refused) = 3
 refusal_status (Rules refused) = 4
 refusal_status (Swaps refused) = 4
 refusal_status (Couplings refused) = 5
+refusal_status (Checkpoint refused) = 6
 refusal_status (Report refused) = 12
 
 -- of an ending
@@ -41,6 +43,7 @@ status_of Done = 0
 status_of (Refused refusal) = refusal_status refusal
 status_of (Unread role) = 8
 status_of Unwritten = 9
+status_of Unsaved = 10
 status_of NoMemory = 11
 
 -- ---- the cause
@@ -55,6 +58,7 @@ IsTold (Plan refused) told = told ≡ Plan refused
 IsTold (Rules refused) told = told ≡ Rules refused
 IsTold (Swaps refused) told = told ≡ Swaps refused
 IsTold (Couplings refused) told = told ≡ Couplings refused
+IsTold (Checkpoint refused) told = told ≡ Checkpoint refused
 IsTold (Report refused) told = told ≡ Report refused
 
 -- what is asked for is refused, and this is told
@@ -68,6 +72,7 @@ Fits asked Done = IsAccepted asked
 Fits asked (Refused told) = IsRefusedBy asked told
 Fits asked (Unread role) = Unit {0}
 Fits asked Unwritten = IsAccepted asked
+Fits asked Unsaved = IsAccepted asked
 Fits asked NoMemory = Unit {0}
 
 -- what the output got: the whole text; nothing; or a prefix of the text and then a fault, and no fault with any other
@@ -79,16 +84,30 @@ Printed asked (Refused told) old new = new ≡ old
 Printed asked (Unread role) old new = new ≡ old
 Printed asked Unwritten old new =
     Rose old.faults new.faults × IfSome asked (λ a. AppendsPrefix old.taken new.taken (text_asked a))
+Printed asked Unsaved old new =
+    (new.faults ≡ old.faults) × IfSome asked (λ a. new.taken ≡ appended old.taken (text_asked a))
 Printed asked NoMemory old new = new ≡ old
 
--- what became of the store: its files are as before, and a fault was counted where one could not be read, and with no
--- other ending
-abbrev pub Kept : Ending → Store → Store → Type 0
-Kept Done old new = (new.holds ≡ old.holds) × (new.faults ≡ old.faults)
-Kept (Refused told) old new = (new.holds ≡ old.holds) × (new.faults ≡ old.faults)
-Kept (Unread role) old new = (new.holds ≡ old.holds) × Rose old.faults new.faults
-Kept Unwritten old new = (new.holds ≡ old.holds) × (new.faults ≡ old.faults)
-Kept NoMemory old new = (new.holds ≡ old.holds) × (new.faults ≡ old.faults)
+-- the files after all is done: as before where no checkpoint is asked for; else, where they are observable, the name has
+-- exactly the checkpoint, and all else is as before
+abbrev pub Saved : Option (List ℕ) → Option (Result Work Refusal) → Store → Store → Type 0
+Saved None asked old new = new.holds ≡ old.holds
+Saved (Some name) asked old new = IfSome asked (λ a. Placed old.holds new.holds name (saved_asked a))
+
+-- the files after a place that failed: that name may hold anything
+abbrev pub Unplaced : Option (List ℕ) → Store → Store → Type 0
+Unplaced None old new = new.holds ≡ old.holds
+Unplaced (Some name) old new = SameElsewhere old.holds new.holds name
+
+-- what became of the store: its files are as before but for the checkpoint, and a fault was counted where a file could not be
+-- read or the checkpoint not be placed, and with no other ending
+abbrev pub Kept : Option (List ℕ) → Option (Result Work Refusal) → Ending → Store → Store → Type 0
+Kept name asked Done old new = Saved name asked old new × (new.faults ≡ old.faults)
+Kept name asked (Refused told) old new = (new.holds ≡ old.holds) × (new.faults ≡ old.faults)
+Kept name asked (Unread role) old new = (new.holds ≡ old.holds) × Rose old.faults new.faults
+Kept name asked Unwritten old new = (new.holds ≡ old.holds) × (new.faults ≡ old.faults)
+Kept name asked Unsaved old new = Unplaced name old new × Rose old.faults new.faults
+Kept name asked NoMemory old new = (new.holds ≡ old.holds) × (new.faults ≡ old.faults)
 
 -- what holds of a refusal that is told
 abbrev pub IfRefused : Ending → (Refusal → Type 0) → Type 0
@@ -100,7 +119,7 @@ pub record Ends (command : Option Command) (ending : Ending) (held holds : Store
   pub words : Reads command held.holds ending
   pub cause : IfSome (request_for command held.holds) (λ asked. Fits asked ending)
   pub out : Printed (request_for command held.holds) ending before now
-  pub files : Kept ending held holds
+  pub files : Kept (saved_name command) (request_for command held.holds) ending held holds
   pub length : IfRefused ending (TellsLength held.lengths)
   pub later : (held.faults ≤ holds.faults) × (before.faults ≤ now.faults)
 
@@ -118,6 +137,7 @@ Told Done old new = new ≡ old
 Told (Refused told) old new = Says (line_of (Refused told)) old new
 Told (Unread role) old new = Says (line_of (Unread role)) old new
 Told Unwritten old new = Says (line_of Unwritten) old new
+Told Unsaved old new = Says (line_of Unsaved) old new
 Told NoMemory old new = Says (line_of NoMemory) old new
 
 -- ---- the call
@@ -129,24 +149,24 @@ pub record Answers (command : Option Command) (status : ℕ) (held holds : Store
   pub ends : Ends command ending held holds before now
   pub err : Told ending err_before err_now
 
--- all of the work is done: the output got its text, the error output nothing, the files are as before, and no fault was
--- counted
-pub record DoesWork (work : Work) (held holds : Store) (before now err_before err_now : Output) : Type 0 where
+-- all of the work is done: the output got its text, the error output nothing, the files are as before but for the checkpoint
+-- that is to be saved, and no fault was counted
+pub record DoesWork (name : Option (List ℕ)) (work : Work) (held holds : Store) (before now err_before err_now : Output) : Type 0 where
   pub out : now.taken ≡ appended before.taken (text_of work)
   pub err : err_now ≡ err_before
-  pub files : holds.holds ≡ held.holds
+  pub files : Saved name (Some (Ok work)) held holds
   pub passed : (now.faults ≡ before.faults) × (holds.faults ≡ held.faults)
 
--- each fault is told by the status: one of the store by 8, one of the output by 9, and with 0 the error output counted none
+-- each fault is told by the status: one of the store by 8 or 10, one of the output by 9, and with 0 the error output counted none
 pub record TellsFaults (status : ℕ) (held holds : Store) (before now err_before err_now : Output) : Type 0 where
-  pub store : ¬ (status ≡ 8) → holds.faults ≡ held.faults
+  pub store : ¬ (status ≡ 8) → ¬ (status ≡ 10) → holds.faults ≡ held.faults
   pub out : ¬ (status ≡ 9) → now.faults ≡ before.faults
   pub err : status ≡ 0 → err_now.faults ≡ err_before.faults
 
 -- what is asked for is work, and it is done
-abbrev pub Does : Result Work Refusal → Store → Store → Output → Output → Output → Output → Type 0
-Does (Err refusal) held holds before now err_before err_now = ⊥
-Does (Ok work) held holds before now err_before err_now = DoesWork work held holds before now err_before err_now
+abbrev pub Does : Option (List ℕ) → Result Work Refusal → Store → Store → Output → Output → Output → Output → Type 0
+Does name (Err refusal) held holds before now err_before err_now = ⊥
+Does name (Ok work) held holds before now err_before err_now = DoesWork name work held holds before now err_before err_now
 
 -- where the store did not fail a refusal is told, and where the output did not either the work is done, but for want of
 -- memory

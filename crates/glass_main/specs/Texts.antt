@@ -9,9 +9,7 @@ use Rattle.scalar_rule.specs.PlainRun.{plain_configuration}
 use Rattle.scalar_rule.specs.SpinDigits.{spin_digits}
 use Rattle.scalar_rule.specs.Sums.{energy}
 use Rattle.scalar_rule.specs.Plan.{Plan, slots_of}
-use Rattle.scalar_rule.specs.Opening.{opening}
 use Rattle.report_text.specs.Lines.{kind_text}
-use Rattle.glass_engine.specs.Report.{report}
 use Rattle.glass_main.specs.CommandLine.{PlainOrder}
 use Rattle.glass_main.specs.declared.planned.Planned.{Planned}
 
@@ -53,7 +51,3 @@ plan_digest plan = codes " digest=" ++ encode_lower (sha256 (canonical plan))
 -- what `check` prints
 abbrev pub check_text : Planned → List ℕ
 check_text planned = plan_sizes planned ++ plan_dynamics planned.plan ++ plan_digest planned.plan ++ codes "\n"
-
--- what `run` prints: the report of the serial dynamics, sample by sample from the state that each begins with
-abbrev pub run_text : Planned → ℕ → List ℕ
-run_text planned until = report planned.plan (opening planned.plan planned.orders.start 0) planned.orders until

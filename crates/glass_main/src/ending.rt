@@ -17,6 +17,8 @@ pub enum Ending {
     Unread(Role),
     /// The output failed, with a prefix of the text on it.
     Unwritten,
+    /// The store failed at the checkpoint, with the whole text on the output.
+    Unsaved,
     /// There was not enough memory, and nothing was written.
     NoMemory,
 }
@@ -30,6 +32,7 @@ pub(crate) fn status(ending: &Ending) -> u8
         Ending::Refused(refusal) => refusal_status(refusal),
         Ending::Unread(_) => 8,
         Ending::Unwritten => 9,
+        Ending::Unsaved => 10,
         Ending::NoMemory => 11,
     }
 }

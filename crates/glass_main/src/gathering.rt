@@ -202,8 +202,8 @@ fn make_random(alloc: Global, lattice: Lattice, seed: u64) -> Result<Couplings, 
     Ok(couplings)
 }
 
-// Fetches the bytes of a file that a run reads. A fetch that failed is not tried again.
-fn gather_bytes<H: Shelf>(
+/// Fetches the bytes of a file that a run reads. A fetch that failed is not tried again.
+pub(crate) fn gather_bytes<H: Shelf>(
     alloc: Global,
     shelf: &mut H,
     role: Role,

@@ -5,6 +5,7 @@ ghost use Rattle.glass_main.specs.Lines.{role_name, file_front, line_of, refusal
 ghost use Rattle.glass_main.specs.Outside.{output};
 ghost use Rattle.glass_main.specs.Statuses.{status_of, Says, Told};
 
+use crate::checkpoint_lines::say_checkpoint;
 use crate::couplings_lines::say_couplings;
 use crate::ending::{Ending, status};
 use crate::plan_lines::say_plan;
@@ -24,6 +25,7 @@ pub(crate) fn tell<E: Sink>(err: &mut E, ending: &Ending)
         Ending::Refused(refusal) => say_refusal(err, refusal),
         Ending::Unread(role) => say_role(err, b"glass: reading the ", *role, b" failed\n"),
         Ending::Unwritten => say(err, b"glass: writing the report failed\n"),
+        Ending::Unsaved => say(err, b"glass: placing the checkpoint failed\n"),
         Ending::NoMemory => say(err, b"glass: no memory\n"),
     }
 }
@@ -57,6 +59,7 @@ fn say_refusal<E: Sink>(err: &mut E, refusal: &Refusal)
         Refusal::Rules(refused) => say_table(err, Role::RuleTable, refused),
         Refusal::Swaps(refused) => say_table(err, Role::SwapTable, refused),
         Refusal::Couplings(refused) => say_couplings(err, refused),
+        Refusal::Checkpoint(refused) => say_checkpoint(err, refused),
         Refusal::Report(refused) => say_report(err, refused),
     }
 }
@@ -112,6 +115,27 @@ pub(crate) fn say_file_number<E: Sink>(
     let mut line = Line::new();
     add_file(&mut line, role);
     say_number(err, &mut line, before, number, after);
+}
+
+/// Writes a line on a file with two numbers in it.
+pub(crate) fn say_file_numbers<E: Sink>(
+    err: &mut E,
+    role: Role,
+    before: &[u8],
+    first: u64,
+    between: &[u8],
+    second: u64,
+    after: &[u8],
+)
+    requires { length before.now + length between.now + length after.now ≤ 100 }
+    ensures { Says (file_front role ++ before.now ++ decimal first ++ between.now ++ decimal second ++ after.now)
+        (output E.taken E.faults err.old) (output E.taken E.faults err.new) }
+{
+    let mut line = Line::new();
+    add_file(&mut line, role);
+    line.add(before);
+    line.number(first);
+    say_number(err, &mut line, between, second, after);
 }
 
 /// Writes what the buffer has, and behind it a number between two texts.

@@ -5,6 +5,7 @@ ghost use Rattle.glass_main.specs.Statuses.{role_status, refusal_status};
 
 use crate::role::Role;
 use coupling_set::CouplingsRefused;
+use run_checkpoint::CheckpointRefused;
 use run_plan::PlanRefused;
 use sample_average::ReportRefused;
 use threshold_table::TableRefused;
@@ -26,6 +27,8 @@ pub enum Refusal {
     Swaps(TableRefused),
     /// The couplings file is refused.
     Couplings(CouplingsRefused),
+    /// The checkpoint is refused.
+    Checkpoint(CheckpointRefused),
     /// The report is refused.
     Report(ReportRefused),
 }
@@ -42,6 +45,7 @@ pub(crate) fn refusal_status(refusal: &Refusal) -> u8
         Refusal::Rules(_) => 4,
         Refusal::Swaps(_) => 4,
         Refusal::Couplings(_) => 5,
+        Refusal::Checkpoint(_) => 6,
         Refusal::Report(_) => 12,
     }
 }
@@ -54,6 +58,7 @@ fn role_status(role: Role) -> u8
         Role::RuleTable => 4,
         Role::SwapTable => 4,
         Role::Couplings => 5,
+        Role::Checkpoint => 6,
         Role::Report => 12,
     }
 }

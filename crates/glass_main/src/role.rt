@@ -11,6 +11,7 @@ pub enum Role {
     RuleTable,
     SwapTable,
     Couplings,
+    Checkpoint,
     Report,
 }
 
@@ -26,6 +27,7 @@ impl Role {
             Role::RuleTable => b"rule table",
             Role::SwapTable => b"swap table",
             Role::Couplings => b"couplings file",
+            Role::Checkpoint => b"checkpoint",
             Role::Report => b"report",
         }
     }
@@ -39,6 +41,7 @@ impl Role {
             Role::RuleTable => 65536,
             Role::SwapTable => 4194304,
             Role::Couplings => 25165872,
+            Role::Checkpoint => 544943596,
             Role::Report => 67108864,
         }
     }

@@ -1,27 +1,30 @@
-//! The command `run`: the run that a run file, its tables and its couplings describe, and its report.
+//! The command `run`: the run that a run file, its tables and its couplings describe, from their opening
+//! state or from a checkpoint, its report, and its own checkpoint.
 
-ghost use Rattle.std.specs.Prelude.{◌≡◌, ℕ, ◌≤◌, None, Some, IfOk, IfErr, OnOk, OnErr, unwrap_or};
+ghost use Rattle.std.specs.Prelude.{◌≡◌, ℕ, ◌≤◌, None, Some, IfOk, IfErr, unwrap_or};
 ghost use Rattle.std.specs.Arc.{arc_value};
-ghost use Rattle.glass_edges.specs.Causes.{HasCause};
-ghost use Rattle.glass_edges.specs.Contents.{appended, AppendsPrefix};
+ghost use Rattle.plane_sweep.specs.Uneven.{positions_of};
 ghost use Rattle.run_plan.specs.Amounts.{amount_refusal, row_count};
 ghost use Rattle.run_plan.specs.RunFile.{AreLawfulOrders};
+ghost use Rattle.scalar_rule.specs.Positions.{floor_of};
+ghost use Rattle.glass_main.specs.Beginnings.{Beginning, begins_at};
 ghost use Rattle.glass_main.specs.CommandLine as commands;
-ghost use Rattle.glass_main.specs.Opened.{IsOpened, IsUnopened, IsOfOpenRun, Reports};
+ghost use Rattle.glass_main.specs.Opened.{saves_as, IsOpened, IsUnopened};
 ghost use Rattle.glass_main.specs.Outside.{output, store};
-ghost use Rattle.glass_main.specs.ReadCommand.{read_run_order, IsLawfulOrder};
+ghost use Rattle.glass_main.specs.ReadCommand.{name_bytes, read_run_order, IsLawfulOrder};
+ghost use Rattle.glass_main.specs.Resumes.{IsResumable};
 ghost use Rattle.glass_main.specs.Statuses.{Ends};
-ghost use Rattle.glass_main.specs.Texts.{run_text};
-ghost use Rattle.glass_main.specs.declared.planned.Planned as model;
 
 use crate::ending::Ending;
+use crate::finishing::{Opened, finish_run};
 use crate::gathering::gather_plan;
 use crate::planned::Planned;
 use crate::refusal::Refusal;
+use crate::resuming::gather_base;
 use crate::run_words::RunOrder;
-use glass_edges::{Fault, Gate, NoMemory, Shelf, Sink};
-use glass_engine::{Run, SaveKind, drive, level_report_is_serial, open, write_report};
-use plane_sweep::{RaggedStand, Stand};
+use glass_edges::{Gate, NoMemory, Shelf, Sink};
+use glass_engine::{SaveKind, open};
+use plane_sweep::RaggedStand;
 use run_plan::{Orders, check_amount};
 use scalar_rule::Plan;
 use std::alloc::Global;
@@ -31,14 +34,8 @@ use std::thread::Threads;
 /// So many hand-outs of a slot stop no run.
 const EVERY_TAKE: u64 = 32000000000;
 
-/// A run that was opened, and its plan.
-#[derive(Drop)]
-pub(crate) struct Opened {
-    plan: Arc<Plan, Global>,
-    run: Run,
-}
-
-/// Reads the run file of an order and what it names, runs it, and prints the report.
+/// Reads the run file of an order and what it names, and its checkpoint; runs it, prints the report, and
+/// places its own checkpoint.
 pub(crate) fn run<R: Threads + Wait + Sync, H: Shelf, O: Sink, G: Gate + Sync>(
     rt: &R,
     alloc: Global,
@@ -57,11 +54,15 @@ pub(crate) fn run<R: Threads + Wait + Sync, H: Shelf, O: Sink, G: Gate + Sync>(
         Err(ending) => return ending,
     };
     let until = until_of(order, &planned.orders);
-    let opened = match open_run(alloc, planned, until, order.workers) {
+    let base = match gather_base(alloc, shelf, &planned, until, order.from) {
+        Ok(base) => base,
+        Err(ending) => return ending,
+    };
+    let opened = match open_run(alloc, planned, base, until, order) {
         Ok(opened) => opened,
         Err(ending) => return ending,
     };
-    finish_run(rt, out, gate, opened, order.pieces)
+    finish_run(rt, shelf, out, gate, opened, order)
 }
 
 // The epoch at which a run ends.
@@ -74,42 +75,59 @@ fn until_of(order: &RunOrder<'_>, orders: &Orders) -> u64
     order.until.unwrap_or(orders.epochs)
 }
 
-// Opens a run from its opening state, unless it would print too much.
-fn open_run(alloc: Global, planned: Planned, until: u64, workers: u32) -> Result<Opened, Ending>
+// Opens a run from a state, unless it would print too much.
+fn open_run(
+    alloc: Global,
+    planned: Planned,
+    base: RaggedStand,
+    until: u64,
+    order: &RunOrder<'_>,
+) -> Result<Opened, Ending>
     requires orders { AreLawfulOrders planned.orders }
+    requires base { IsResumable planned until base }
     requires until { until ≤ 1000000000 }
-    requires some_workers { 1 ≤ workers }
-    requires few_workers { workers ≤ 64 }
-    ensures accepted { IfOk result (λ opened. amount_refusal planned.plan planned.orders 0 until ≡ None) }
-    ensures opened { IfOk result (IsOpened planned until) }
-    ensures stopped { IfErr result (IsUnopened planned until) }
+    requires order { IsLawfulOrder order.now }
+    ensures accepted { IfOk result (λ opened. amount_refusal planned.plan planned.orders (floor_of (positions_of base)) until ≡ None) }
+    ensures opened { IfOk result (IsOpened planned base until (name_bytes order.now.save)) }
+    ensures stopped { (from : Beginning) → begins_at from ≡ floor_of (positions_of base) → IfErr result (IsUnopened planned from until) }
 {
-    if let Err(refused) = check_amount(&planned.plan, &planned.orders, 0, until) {
+    let from = floor_of(&planned, &base, until);
+    if let Err(refused) = check_amount(&planned.plan, &planned.orders, from, until) {
         return Err(Ending::Refused(Refusal::Plan(refused)));
     }
-    match open_planned(alloc, planned, until, workers) {
+    match open_planned(alloc, planned, base, until, order) {
         Ok(opened) => Ok(opened),
         Err(_) => Err(Ending::NoMemory),
     }
 }
 
-// Opens a run from its opening state.
+// The least epoch that all slots have completed.
+fn floor_of(planned: &Planned, base: &RaggedStand, until: u64) -> u64
+    requires base { IsResumable planned.now until base.now }
+    requires until { until ≤ 1000000000 }
+    ensures value { result ≡ floor_of (positions_of base.now) }
+    ensures within { result ≤ until }
+{
+    // A plan has a slot.
+    let _ = planned.plan.slots();
+    base.floor()
+}
+
+// Opens a run from a state.
 fn open_planned(
     alloc: Global,
     planned: Planned,
+    base: RaggedStand,
     until: u64,
-    workers: u32,
+    order: &RunOrder<'_>,
 ) -> Result<Opened, NoMemory>
     requires orders { AreLawfulOrders planned.orders }
+    requires base { IsResumable planned until base }
     requires until { until ≤ 1000000000 }
-    requires rows { row_count planned.plan planned.orders 0 until ≤ 4194304 }
-    requires some_workers { 1 ≤ workers }
-    requires few_workers { workers ≤ 64 }
-    ensures { IfOk result (IsOpened planned until) }
+    requires rows { row_count planned.plan planned.orders (floor_of (positions_of base)) until ≤ 4194304 }
+    requires order { IsLawfulOrder order.now }
+    ensures { IfOk result (IsOpened planned base until (name_bytes order.now.save)) }
 {
-    let _ = planned.plan.slots();
-    let stand = Stand::opening(alloc, &planned.plan, planned.orders.start)?;
-    let base = RaggedStand::level(alloc, stand)?;
     let plan = Arc::new(alloc, planned.plan)?;
     let run = open(
         alloc,
@@ -118,56 +136,18 @@ fn open_planned(
         base,
         until,
         EVERY_TAKE,
-        workers,
-        SaveKind::Never,
+        order.workers,
+        kind_of(order.save),
     )?;
     Ok(Opened { plan, run })
 }
 
-// Drives an open run to its end and prints its report. It is given no allocator, and does not end for
-// want of memory.
-fn finish_run<R: Threads + Wait + Sync, O: Sink, G: Gate + Sync>(
-    rt: &R,
-    out: &mut O,
-    gate: &G,
-    opened: Opened,
-    pieces: u32,
-) -> Ending
-    requires some_pieces { 1 ≤ pieces }
-    requires few_pieces { pieces ≤ 16 }
-    requires plan { arc_value opened.plan ≡ opened.run.plan }
-    ensures ending { IsOfOpenRun result }
-    ensures report { (planned : model.Planned) (until : ℕ) → AreLawfulOrders planned.orders → IsOpened planned until opened
-        → Reports (run_text planned until) result
-        (output O.taken O.faults out.old) (output O.taken O.faults out.new) }
-    ensures later { O.faults out.old ≤ O.faults out.new }
+// Which checkpoint is saved under a name.
+fn kind_of(name: Option<&str>) -> SaveKind
+    ensures { result ≡ saves_as (name_bytes name.entry) }
 {
-    match put_run(rt, out, gate, opened, pieces) {
-        Ok(()) => Ending::Done,
-        Err(_) => Ending::Unwritten,
+    match name {
+        None => SaveKind::Never,
+        Some(_) => SaveKind::Level,
     }
-}
-
-// Drives a run to its end and prints its report.
-fn put_run<R: Threads + Wait + Sync, O: Sink, G: Gate + Sync>(
-    rt: &R,
-    out: &mut O,
-    gate: &G,
-    opened: Opened,
-    pieces: u32,
-) -> Result<(), Fault>
-    requires some_pieces { 1 ≤ pieces }
-    requires few_pieces { pieces ≤ 16 }
-    requires plan { arc_value opened.plan ≡ opened.run.plan }
-    ensures whole { (planned : model.Planned) (until : ℕ) → AreLawfulOrders planned.orders → IsOpened planned until opened
-        → OnOk result (O.taken out.new ≡ appended (O.taken out.old) (run_text planned until)) }
-    ensures prefix { (planned : model.Planned) (until : ℕ) → AreLawfulOrders planned.orders → IsOpened planned until opened
-        → OnErr result (AppendsPrefix (O.taken out.old) (O.taken out.new) (run_text planned until)) }
-    ensures cause { HasCause (O.faults out.old) (O.faults out.new) result }
-{
-    let Opened { plan, run } = opened;
-    let done = drive(rt, run, &plan, pieces, gate);
-    // From an opening state the report of such a run is that of the serial dynamics.
-    level_report_is_serial();
-    write_report(&done, &plan, out)
 }

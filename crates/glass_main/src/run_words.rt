@@ -18,6 +18,10 @@ pub struct RunOrder<'a> {
     pub pieces: u32,
     /// The epoch at which the run ends, at most 1000000000; none for that of the run file.
     pub until: Option<u64>,
+    /// The name of the checkpoint to go on from; none for the opening state.
+    pub from: Option<&'a str>,
+    /// The name under which the checkpoint of the end is saved; none for no checkpoint.
+    pub save: Option<&'a str>,
 }
 
 /// What the words have said so far; an option without a value waits for the next word.
@@ -28,6 +32,8 @@ struct RunWords<'a> {
     workers: Option<u32>,
     pieces: Option<u32>,
     until: Option<u64>,
+    from: Option<&'a str>,
+    save: Option<&'a str>,
 }
 
 /// Reads the words of `run`, of which the first is the command's name.
@@ -58,6 +64,8 @@ fn said_by(words: &[String]) -> Option<RunWords<'_>>
         workers: None,
         pieces: None,
         until: None,
+        from: None,
+        save: None,
     };
     'words: for k in 0..words.len() {
         said = with_word(said, word_at(words, k))?;
@@ -78,6 +86,8 @@ fn order_in(said: RunWords<'_>) -> Option<RunOrder<'_>>
             workers: said.workers.unwrap_or(1),
             pieces: said.pieces.unwrap_or(1),
             until: said.until,
+            from: said.from,
+            save: said.save,
         }),
         _ => None,
     }
@@ -130,7 +140,7 @@ fn with_run<'a>(said: RunWords<'a>, word: &'a str) -> Option<RunWords<'a>>
 
 // An option with its value.
 #[tactic(auto, unfolding(crate::specs::CommandLine::with_option))]
-fn with_option<'a>(said: RunWords<'a>, name: &str, value: &str) -> Option<RunWords<'a>>
+fn with_option<'a>(said: RunWords<'a>, name: &str, value: &'a str) -> Option<RunWords<'a>>
     requires { AreLawfulWords said }
     ensures value { option_map read_said result ≡ model.with_option (read_said said.entry) name.now value.now }
     ensures lawful { IfSome result AreLawfulWords }
@@ -139,6 +149,8 @@ fn with_option<'a>(said: RunWords<'a>, name: &str, value: &str) -> Option<RunWor
         "--workers" => with_workers(said, value),
         "--pieces" => with_pieces(said, value),
         "--until" => with_until(said, value),
+        "--from" => with_from(said, value),
+        "--save" => with_save(said, value),
         _ => None,
     }
 }
@@ -187,6 +199,36 @@ fn with_until<'a>(said: RunWords<'a>, value: &str) -> Option<RunWords<'a>>
     Some(RunWords {
         waiting: None,
         until: Some(until),
+        ..said
+    })
+}
+
+fn with_from<'a>(said: RunWords<'a>, value: &'a str) -> Option<RunWords<'a>>
+    requires { AreLawfulWords said }
+    ensures value { option_map read_said result ≡ model.with_from (read_said said.entry) value.now }
+    ensures lawful { IfSome result AreLawfulWords }
+{
+    if said.from.is_some() || !is_file_name(value) {
+        return None;
+    }
+    Some(RunWords {
+        waiting: None,
+        from: Some(value),
+        ..said
+    })
+}
+
+fn with_save<'a>(said: RunWords<'a>, value: &'a str) -> Option<RunWords<'a>>
+    requires { AreLawfulWords said }
+    ensures value { option_map read_said result ≡ model.with_save (read_said said.entry) value.now }
+    ensures lawful { IfSome result AreLawfulWords }
+{
+    if said.save.is_some() || !is_file_name(value) {
+        return None;
+    }
+    Some(RunWords {
+        waiting: None,
+        save: Some(value),
         ..said
     })
 }

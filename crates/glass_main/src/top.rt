@@ -1,7 +1,7 @@
 //! The top call.
 
 ghost use Rattle.std.specs.Prelude.{◌≡◌, ◌↔◌, None, IfSome};
-ghost use Rattle.glass_main.specs.CommandLine.{command_of};
+ghost use Rattle.glass_main.specs.CommandLine.{command_of, saved_name};
 ghost use Rattle.glass_main.specs.Endings.{ReadsNoFile};
 ghost use Rattle.glass_main.specs.Outside.{output, store};
 ghost use Rattle.glass_main.specs.Request.{request};
@@ -25,9 +25,11 @@ use std::thread::Threads;
 /// status.
 ///
 /// Status 0: all is done, and `err` got nothing. Status 2: the words are no command. Status 3: the
-/// run file is refused, or the amount that a run would print. Status 4: a table is refused. Status
-/// 7: the store holds no file of the name that is read next. Status 8: the store failed. Status 9:
-/// the output failed. Status 11: memory ran out, which no clause ties to a growth that failed. Status
+/// run file is refused, or the amount that a run would print. Status 4: a table is refused. Status 5:
+/// the couplings file is. Status 6: the checkpoint is. Status 7: the store holds no file of the name that
+/// is read next. Status 8: the store failed at a file. Status 9: the output failed. Status 10: the store
+/// failed at the checkpoint that is saved. Status 11: memory ran out, which no clause ties to a growth
+/// that failed. Status
 /// 12: the report is refused. With a status other than 0 `err` got one line, or a prefix of it where
 /// it failed itself.
 ///
@@ -55,9 +57,9 @@ pub fn glass<R: Threads + Wait + Sync, H: Shelf, O: Sink, E: Sink, G: Gate + Syn
         (output O.taken O.faults out.old) (output O.taken O.faults out.new)
         (output E.taken E.faults err.old) (output E.taken E.faults err.new) }
 
-    // With status 0 the output got the text that the request asks for.
+    // With status 0 the output got the text that the request asks for, and the store its checkpoint.
     ensures done { result ≡ 0 → IfSome (request (texts words.now) (H.holds shelf.old)) (λ asked.
-        Does asked
+        Does (saved_name (command_of (texts words.now))) asked
         (store H.holds H.faults H.lengths shelf.old) (store H.holds H.faults H.lengths shelf.new)
         (output O.taken O.faults out.old) (output O.taken O.faults out.new)
         (output E.taken E.faults err.old) (output E.taken E.faults err.new)) }

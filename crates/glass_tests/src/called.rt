@@ -51,6 +51,17 @@ pub fn call_words<R: AllocGlobal + Threads + Wait + Sync>(
     out: MemorySink,
     err: MemorySink,
 ) -> Called {
+    call_words_on(rt, words, &mut shelf, out, err)
+}
+
+/// The same over a store that is used further.
+fn call_words_on<R: AllocGlobal + Threads + Wait + Sync>(
+    rt: &R,
+    words: &[String],
+    shelf: &mut MemoryShelf,
+    out: MemorySink,
+    err: MemorySink,
+) -> Called {
     let mut called = Called {
         status: 0,
         out,
@@ -60,7 +71,7 @@ pub fn call_words<R: AllocGlobal + Threads + Wait + Sync>(
         rt,
         rt.alloc(),
         words,
-        &mut shelf,
+        shelf,
         &mut called.out,
         &mut called.err,
         &OpenGate,
@@ -78,6 +89,16 @@ pub fn call_words_of<R: AllocGlobal + Threads + Wait + Sync>(
 ) -> Result<Called, Fail> {
     let words = words_of(rt, line)?;
     Ok(call_words(rt, &words, shelf, out, err))
+}
+
+/// Calls the program with the words of a line, over a store that is used further.
+pub fn call_on<R: AllocGlobal + Threads + Wait + Sync>(
+    rt: &R,
+    line: &str,
+    shelf: &mut MemoryShelf,
+) -> Result<Called, Fail> {
+    let words = words_of(rt, line)?;
+    Ok(call_words_on(rt, &words, shelf, ample(rt)?, ample(rt)?))
 }
 
 /// Calls the program with no words, over an empty store.

@@ -8,6 +8,8 @@ mod called;
 #[cfg(test)]
 mod check;
 #[cfg(test)]
+mod checkpoints;
+#[cfg(test)]
 mod couplings;
 #[cfg(test)]
 mod files;
@@ -15,6 +17,8 @@ mod files;
 mod plain;
 #[cfg(test)]
 mod report;
+#[cfg(test)]
+mod resuming;
 #[cfg(test)]
 mod samples_alone;
 #[cfg(test)]

@@ -285,8 +285,9 @@ fn options_in_either_form_and_bad_command_lines(rt: HostRuntime) -> Result<(), F
         "run b --until 1000000001",
         "run b --until=",
         "run --until b",
-        "run b --from c",
-        "run b --save c",
+        "run b --from",
+        "run b --save=",
+        "run b --save c --save c",
         "run b --seed 1",
     ] {
         let called = call_with(&rt, line, store(&rt, RUN, DOWN, "")?)?;

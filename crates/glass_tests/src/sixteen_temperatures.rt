@@ -1,6 +1,7 @@
 //! A spin glass at sixteen temperatures, whose report an independent program made too.
 
-use crate::called::call_with;
+use crate::called::{call_on, call_with};
+use crate::checkpoints::{bytes_of, ends_with};
 use crate::files::store;
 use sha2::{Digest, Sha256};
 use std::test::Fail;
@@ -69,5 +70,40 @@ fn sixteen_temperatures_64_samples(rt: HostRuntime) -> Result<(), Fail> {
     assert_eq!(rt; called.status, 0);
     assert_eq!(rt; called.out.taken().len(), 60821);
     assert_eq!(rt; Sha256::digest(called.out.taken()), DIGEST);
+    Ok(())
+}
+
+// The last bytes of the checkpoints at epochs 10 and 20, by an independent program.
+const DIGEST_AT_10: [u8; 32] = [
+    0x0d, 0xd5, 0xc8, 0xae, 0xfb, 0x07, 0x2d, 0xac, 0xc5, 0xc5, 0x3d, 0x2a, 0x0c, 0xee, 0xd3, 0xa2,
+    0x64, 0xaa, 0x6e, 0xf1, 0x0d, 0x20, 0xb8, 0x1c, 0x07, 0x5a, 0xd3, 0xe1, 0x8a, 0x2f, 0xf9, 0xf4,
+];
+
+const DIGEST_AT_20: [u8; 32] = [
+    0x8e, 0x40, 0xdc, 0xcf, 0x5f, 0xce, 0xe9, 0x05, 0x6a, 0xe5, 0xa0, 0x3f, 0x88, 0xd4, 0x08, 0x72,
+    0xe1, 0x31, 0x54, 0x0f, 0x7f, 0x74, 0x61, 0x2b, 0x09, 0xb2, 0xb0, 0x5b, 0x14, 0xdf, 0x04, 0x7d,
+];
+
+#[test]
+fn sixteen_temperatures_stopped_and_resumed(rt: HostRuntime) -> Result<(), Fail> {
+    let mut shelf = store(&rt, RUN, rules(&rt)?.as_str(), swaps(&rt)?.as_str())?;
+    shelf.room("c", 265456)?;
+    shelf.room("d", 265456)?;
+    let first = call_on(&rt, "run run.toml --until 10 --save c", &mut shelf)?;
+    assert_eq!(rt; first.status, 0);
+    assert!(rt;
+        ends_with(
+            bytes_of(&rt, &mut shelf, "c").as_slice(),
+            DIGEST_AT_10.as_slice()
+        )
+    );
+    let second = call_on(&rt, "run run.toml --from c --save d", &mut shelf)?;
+    assert_eq!(rt; second.status, 0);
+    assert!(rt;
+        ends_with(
+            bytes_of(&rt, &mut shelf, "d").as_slice(),
+            DIGEST_AT_20.as_slice()
+        )
+    );
     Ok(())
 }

@@ -1,16 +1,46 @@
-use Rattle.std.proofs.Common.{subst}
-use Rattle.glass_main.proofs.RunEndings.{ends-unopened, ends-finished}
-use Rattle.glass_main.specs.Opened.{IsUnopened}
+use Rattle.std.proofs.Common.{◌≡◌, ℕ, None, Ok, Err, option_map, subst}
+use Rattle.plane_sweep.specs.Uneven.{positions_of}
+use Rattle.run_plan.specs.Amounts.{amount_refusal}
+use Rattle.scalar_rule.specs.Positions.{floor_of}
+use Rattle.glass_main.proofs.OpenedRuns.{run-of}
+use Rattle.glass_main.proofs.RunEndings.{has-begun, ends-unbegun, ends-unopened, ends-finished}
+use Rattle.glass_main.specs.Beginnings.{run_text, run_checkpoint}
+use Rattle.glass_main.specs.Opened.{IsUnopened, Leaves}
+use Rattle.glass_main.specs.Outside.{output, store}
 use Rattle.glass_main.specs.ReadCommand.{read_run_order}
+use Rattle.glass_main.specs.Request.{beginning_at}
+use Rattle.glass_main.specs.Resumes.{Begins}
 use Rattle.glass_main.proofs.run.run.Goals as goal
+
+pub returns-in-Err-gather_base : goal.returns-in-Err-gather_base
+returns-in-Err-gather_base g c =
+    let order = read_run_order c.args.order.now in
+    let planned = c.in-Ok.planned in
+    let B : ℕ → Type 0 = λ e. Begins order.from planned.plan (option_map (beginning_at order.from planned e) (g.H.Shelf.holds c.gather_plan.new.shelf)) (Err c.in-Err-gather_base.ending) (store g.H.Shelf.holds g.H.Shelf.faults g.H.Shelf.lengths c.gather_plan.new.shelf) (store g.H.Shelf.holds g.H.Shelf.faults g.H.Shelf.lengths c.gather_base.new.shelf) in
+    ends-unbegun order planned c.in-Err-gather_base.ending _ _ _ _ c.in-Ok.ensures.asked (subst B c.until_of-until.ensures.value c.in-Err-gather_base.ensures.asked)
 
 pub returns-in-Err-open_run : goal.returns-in-Err-open_run
 returns-in-Err-open_run g c =
-    ends-unopened (read_run_order c.args.order.now) c.in-Ok.planned c.in-Err-open_run.ending _ _ _ c.in-Ok.ensures.asked
-    (subst (λ e. IsUnopened c.in-Ok.planned e c.in-Err-open_run.ending) c.until_of-until.ensures.value c.in-Err-open_run.ensures.stopped)
+    let order = read_run_order c.args.order.now in
+    let planned = c.in-Ok.planned in
+    let base = c.in-Ok-gather_base.base in
+    let B : ℕ → Type 0 = λ e. Begins order.from planned.plan (option_map (beginning_at order.from planned e) (g.H.Shelf.holds c.gather_plan.new.shelf)) (Ok base) (store g.H.Shelf.holds g.H.Shelf.faults g.H.Shelf.lengths c.gather_plan.new.shelf) (store g.H.Shelf.holds g.H.Shelf.faults g.H.Shelf.lengths c.gather_base.new.shelf) in
+    let begun = has-begun order planned base _ _ _ c.in-Ok.ensures.asked (subst B c.until_of-until.ensures.value c.in-Ok-gather_base.ensures.asked) c.in-Ok-gather_base.ensures.resumable.some in
+    ends-unopened order planned base c.in-Err-open_run.ending _ _ _ begun
+    (λ from begins. subst (λ e. IsUnopened planned from e c.in-Err-open_run.ending) c.until_of-until.ensures.value (c.in-Err-open_run.ensures.stopped from begins))
 
 pub returns : goal.returns
 returns g c =
-    ends-finished (read_run_order c.args.order.now) c.in-Ok.planned c.until_of-until.result c.finish_run.result _ _ _ _ c.in-Ok.ensures.asked c.until_of-until.ensures.value
-    c.in-Ok-open_run.ensures.accepted (c.finish_run.ensures.report c.in-Ok.planned c.until_of-until.result c.in-Ok.ensures.orders c.in-Ok-open_run.ensures.opened)
-    c.finish_run.ensures.later
+    let order = read_run_order c.args.order.now in
+    let planned = c.in-Ok.planned in
+    let base = c.in-Ok-gather_base.base in
+    let until = c.until_of-until.result in
+    let same = c.until_of-until.ensures.value in
+    let B : ℕ → Type 0 = λ e. Begins order.from planned.plan (option_map (beginning_at order.from planned e) (g.H.Shelf.holds c.gather_plan.new.shelf)) (Ok base) (store g.H.Shelf.holds g.H.Shelf.faults g.H.Shelf.lengths c.gather_plan.new.shelf) (store g.H.Shelf.holds g.H.Shelf.faults g.H.Shelf.lengths c.gather_base.new.shelf) in
+    let begun = has-begun order planned base _ _ _ c.in-Ok.ensures.asked (subst B same c.in-Ok-gather_base.ensures.asked) c.in-Ok-gather_base.ensures.resumable.some in
+    let A : ℕ → Type 0 = λ e. amount_refusal planned.plan planned.orders (floor_of (positions_of base)) e ≡ None in
+    ends-finished order planned base c.finish_run.result _ _ _ _ _ begun (subst A same c.in-Ok-open_run.ensures.accepted) c.finish_run.ensures.ending
+    (λ from b. subst (λ e. Leaves order.save (run_text planned from e) (run_checkpoint planned from e) c.finish_run.result (store g.H.Shelf.holds g.H.Shelf.faults g.H.Shelf.lengths c.gather_base.new.shelf) (store g.H.Shelf.holds g.H.Shelf.faults g.H.Shelf.lengths c.finish_run.new.shelf)
+    (output g.O.Sink.taken g.O.Sink.faults c.args.out.now) (output g.O.Sink.taken g.O.Sink.faults c.finish_run.new.out)) same
+    (c.finish_run.ensures.leaves planned from until (run-of planned base until order.save c.in-Ok-open_run.opened from c.in-Ok-open_run.ensures.opened b)))
+    c.finish_run.ensures.later_store c.finish_run.ensures.later

@@ -1,0 +1,131 @@
+//! The lines of a refused checkpoint.
+
+ghost use Rattle.std.specs.Prelude.{◌≡◌, ◌++◌, codes, decimal};
+ghost use Rattle.glass_main.specs.Lines.{file_front, checkpoint_line};
+ghost use Rattle.glass_main.specs.Outside.{output};
+ghost use Rattle.glass_main.specs.Statuses.{Says};
+
+use crate::digest_lines::{say_damage, say_digests};
+use crate::lines::{add_file, say, say_end, say_file_number, say_file_numbers, say_number};
+use crate::role::Role;
+use glass_edges::{Line, Sink};
+use run_checkpoint::CheckpointRefused;
+
+/// Writes why the checkpoint was refused.
+#[tactic(auto, unfolding(crate::specs::Lines::checkpoint_line, crate::specs::Lines::memory_line))]
+pub(crate) fn say_checkpoint<E: Sink>(err: &mut E, refused: &CheckpointRefused)
+    ensures { Says (checkpoint_line refused.now) (output E.taken E.faults err.old)
+        (output E.taken E.faults err.new) }
+{
+    let file = Role::Checkpoint;
+    match *refused {
+        CheckpointRefused::Short { len } => {
+            say_file_number(err, file, b" is too short: ", len, b" bytes\n");
+        }
+        CheckpointRefused::Magic => say_end(err, file, b" is of another kind\n"),
+        CheckpointRefused::Shape { size, slots } => {
+            let size = size as u64;
+            say_file_numbers(
+                err,
+                file,
+                b" has size ",
+                size,
+                b" and ",
+                slots as u64,
+                b" slots\n",
+            );
+        }
+        CheckpointRefused::Length { found, wanted } => {
+            say_file_numbers(err, file, b" has ", found, b" bytes, not ", wanted, b"\n");
+        }
+        CheckpointRefused::Digest { stored, computed } => say_damage(err, file, &stored, &computed),
+        CheckpointRefused::OtherPlan { stored, mine } => {
+            say_digests(
+                err,
+                file,
+                b" is of another plan: ",
+                &stored,
+                &mine,
+                b" here\n",
+            );
+        }
+        CheckpointRefused::Replicas { slot, copy, sample } => say_label(err, slot, copy, sample),
+        CheckpointRefused::Late { epoch, until } => {
+            say_file_numbers(err, file, b" is at epoch ", epoch, b", past ", until, b"\n");
+        }
+        CheckpointRefused::NoMemory => say(err, b"glass: no memory\n"),
+        CheckpointRefused::Places { slot } => {
+            say_file_number(
+                err,
+                file,
+                b" has a wrong place at slot ",
+                slot as u64,
+                b"\n",
+            );
+        }
+        CheckpointRefused::Orders { samples, every } => {
+            let samples = samples as u64;
+            say_file_numbers(
+                err,
+                file,
+                b" is of samples=",
+                samples,
+                b" every=",
+                every,
+                b"\n",
+            );
+        }
+        CheckpointRefused::Pending { found, wanted } => {
+            say_file_numbers(
+                err,
+                file,
+                b" has ",
+                found,
+                b" pending records, not ",
+                wanted,
+                b"\n",
+            );
+        }
+        CheckpointRefused::BankCount { found, wanted } => {
+            let found = found as u64;
+            say_file_numbers(
+                err,
+                file,
+                b" has ",
+                found,
+                b" banks, not ",
+                wanted as u64,
+                b"\n",
+            );
+        }
+        CheckpointRefused::BankEpoch { bank, epoch, first } => say_bank(err, bank, epoch, first),
+    }
+}
+
+fn say_label<E: Sink>(err: &mut E, slot: u32, copy: u32, sample: u32)
+    ensures { Says (file_front Role.Checkpoint ++ codes " has a wrong replica at slot " ++ decimal slot
+        ++ codes ", copy " ++ decimal copy ++ codes ", sample " ++ decimal sample ++ codes "\n")
+        (output E.taken E.faults err.old) (output E.taken E.faults err.new) }
+{
+    let mut line = Line::new();
+    add_file(&mut line, Role::Checkpoint);
+    line.add(b" has a wrong replica at slot ");
+    line.number(slot as u64);
+    line.add(b", copy ");
+    line.number(copy as u64);
+    say_number(err, &mut line, b", sample ", sample as u64, b"\n");
+}
+
+fn say_bank<E: Sink>(err: &mut E, bank: u32, epoch: u64, first: u64)
+    ensures { Says (file_front Role.Checkpoint ++ codes " has bank " ++ decimal bank
+        ++ codes " at epoch " ++ decimal epoch ++ codes ", not " ++ decimal first ++ codes "\n")
+        (output E.taken E.faults err.old) (output E.taken E.faults err.new) }
+{
+    let mut line = Line::new();
+    add_file(&mut line, Role::Checkpoint);
+    line.add(b" has bank ");
+    line.number(bank as u64);
+    line.add(b" at epoch ");
+    line.number(epoch);
+    say_number(err, &mut line, b", not ", first, b"\n");
+}
