@@ -3,16 +3,15 @@
 
 usage() {
     cat <<'END'
-usage: bench/checkpoint.sh [--cpu CPU] [--sizes SIZE] [--turns N] [--limit RATIO]
+usage: bench/checkpoint.sh [--cpu CPU] [--turns N] [--limit RATIO]
 
-Times processes that make the beginning of a run and then do one piece of work: none, the plan's digest, the
-checkpoint written, and, once it is written, its digest taken by the crate sha2 or its bytes read. The differences
-of their least processor times are the times of the pieces. It prints them, the ratios of writing and reading
-to sha2, and the most memory that the one that reads took. First a state that was read is written again, and
-must be the same bytes.
+Times processes that make the beginning of a run at size 64 with 32 slots, the greatest of all, and then do one
+piece of work: none, the plan's digest, the checkpoint written, and, once it is written, its digest taken by the
+crate sha2 or its bytes read. The differences of their least processor times are the times of the pieces. It
+prints them, the ratios of writing and reading to sha2, and the most memory that the one that reads took. First
+a state that was read is written again, and must be the same bytes.
 
   --cpu CPU      x86-64-v2 (as if left out) or x86-64-v3
-  --sizes SIZE   the size, 64 if left out; there are 32 slots
   --turns N      turns, 5 if left out
   --limit RATIO  the greatest ratio that is right, 1.5 if left out
 
@@ -22,20 +21,18 @@ wrong word or where the program can't be built. Needs rt and GNU time as /usr/bi
 END
 }
 
-passes=1
 limit=1.5
-sizes=64
 . "$(dirname "$0")/common.sh"
 read_words "$@"
 begin_build
 build_crate bench_checkpoint
 program="$build/bench_checkpoint"
-read -r _ _ bytes _ <<< "$("$program" "$sizes" again)" || fail "a run failed: again"
-[ -n "$bytes" ] || { echo "the state that was read is not written as the same bytes"; exit 1; }
+told=$("$program" 64 again) || { echo "the state that was read is not written as the same bytes"; exit 1; }
+bytes=$(awk '{ print $3 }' <<< "$told")
 
 # One run with a piece of work: its name, the seconds of processor time and the most kilobytes.
 run_work() {
-    /usr/bin/time -f "$1 %U %S %M" "$program" "$sizes" "$1" 2>&1 > /dev/null || fail "a run failed: $1"
+    /usr/bin/time -f "$1 %U %S %M" "$program" 64 "$1" 2>&1 > /dev/null || fail "a run failed: $1"
 }
 
 # Turns come first, so that a busy moment of the machine doesn't fall on all those of one piece of work.
@@ -46,7 +43,7 @@ for _ in $(seq "$turns"); do
 done > "$build/checkpoint.times"
 
 # The state has the spins and the generators of its file in as many bytes, 12 more for each generator.
-awk -v bytes="$bytes" -v limit="$limit" -v cpu="$cpu" -v size="$sizes" '
+awk -v bytes="$bytes" -v limit="$limit" -v cpu="$cpu" '
     { at = $2 + $3; if (!($1 in least) || at < least[$1]) least[$1] = at; if ($4 > most[$1]) most[$1] = $4 }
     END {
         plan = least["plan"] - least["opening"]
@@ -54,7 +51,7 @@ awk -v bytes="$bytes" -v limit="$limit" -v cpu="$cpu" -v size="$sizes" '
         sha2 = least["sha2"] - least["encode"]
         decode = least["decode"] - least["encode"]
         wanted = 2 * bytes / 1024
-        printf "%s size %d, 32 slots: %d bytes\n", cpu, size, bytes
+        printf "%s size 64, 32 slots: %d bytes\n", cpu, bytes
         printf "digest of the plan %.2f s, sha2 alone %.2f s\n", plan, sha2
         printf "written %.2f s, ratio %.2f; read %.2f s, ratio %.2f\n", encode, encode / sha2, decode, decode / sha2
         printf "most memory of the one that reads: %d KB, %.3f of the file and the state\n", most["decode"], most["decode"] / wanted
