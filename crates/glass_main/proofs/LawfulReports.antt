@@ -39,14 +39,14 @@ use Rattle.glass_main.proofs.ReportSpins.{spin_list, slot_text, spins-text, spin
 
 -- ---- the same lines
 
-abbrev rule_as : RuleKind → Rule
+abbrev pub rule_as : RuleKind → Rule
 rule_as kinds.Heat = rules_of.Heat
 rule_as kinds.Metropolis = rules_of.Metropolis
 
-abbrev header_as : Plan → ℕ → ℕ → ℕ → Header
+abbrev pub header_as : Plan → ℕ → ℕ → ℕ → Header
 header_as plan samples from to = record { size = plan.size; slots = slots_of plan; samples = samples; rule = rule_as plan.rules.kind; from = from; to = to }
 
-abbrev row_as : ℕ → ℕ → ℕ → Record → Row
+abbrev pub row_as : ℕ → ℕ → ℕ → Record → Row
 row_as epoch b t r = record {
   epoch = epoch;
   sample = b;
@@ -174,7 +174,7 @@ record-within plan samples from to f b t bit slot one other = record {
   second_replica = other;
 }
 
-swept-labels : (plan : Plan) (b t : ℕ) (slot : PlainSlot) → ((swept_slot plan b t slot).first.replica ≡ slot.first.replica) × ((swept_slot plan b t slot).second.replica ≡ slot.second.replica)
+pub swept-labels : (plan : Plan) (b t : ℕ) (slot : PlainSlot) → ((swept_slot plan b t slot).first.replica ≡ slot.first.replica) × ((swept_slot plan b t slot).second.replica ≡ slot.second.replica)
 unfolding swept_slot
 swept-labels plan b t slot = (refl, refl)
 

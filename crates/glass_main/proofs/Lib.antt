@@ -13,3 +13,4 @@ pub mod Reports
 pub mod ReportRows
 pub mod ReportSpins
 pub mod LawfulReports
+pub mod UnevenReports

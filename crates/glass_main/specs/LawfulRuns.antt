@@ -1,8 +1,14 @@
 -- The report of a run, as a report that can be read.
-use Rattle.std.specs.Prelude.{ℕ, ◌≤◌, List}
+use Rattle.std.specs.Prelude.{ℕ, ◌*◌, ◌<◌, ◌≤◌, unsigned_abs, List, All}
+use Rattle.spin_model.specs.Lattice.{volume}
+use Rattle.scalar_rule.specs.Plan.{Plan, IsLawfulPlan, slots_of}
+use Rattle.scalar_rule.specs.declared.sample.Record.{Record}
+use Rattle.plane_sweep.specs.Uneven.{positions_of}
 use Rattle.run_plan.specs.RunFile.{AreLawfulOrders}
+use Rattle.exchange_board.specs.Views.{RaggedEndedView}
+use Rattle.glass_engine.specs.Report.{run_report}
+use Rattle.glass_engine.specs.Runs.{RunView, IsEnd}
 use Rattle.sample_average.specs.LawfulReport.{Report, Spells}
-use Rattle.scalar_rule.specs.Plan.{IsLawfulPlan}
 use Rattle.glass_main.specs.Beginnings.{opened_by, run_text}
 use Rattle.glass_main.specs.declared.planned.Planned.{Planned}
 
@@ -13,3 +19,16 @@ IsLawfulText bytes = (r : Report) × Spells bytes r
 -- a run from its opening states, of any lawful plan and to any epoch, prints a lawful report
 abbrev pub RunReportsAreLawful : Type 0
 RunReportsAreLawful = (planned : Planned) (until : ℕ) → IsLawfulPlan planned.plan → AreLawfulOrders planned.orders → until ≤ 1000000000 → IsLawfulText (run_text planned (opened_by planned) until)
+
+-- energies from -3V to 3V, an overlap from -V to V, and labels that are slots' numbers
+pub record IsWithin (plan : Plan) (values : Record) : Type 0 where
+  pub first_energy : unsigned_abs values.first_energy ≤ 3 * volume plan.size
+  pub second_energy : unsigned_abs values.second_energy ≤ 3 * volume plan.size
+  pub overlap : unsigned_abs values.overlap ≤ volume plan.size
+  pub first_replica : values.first_replica < slots_of plan
+  pub second_replica : values.second_replica < slots_of plan
+
+-- and so does any run that was driven to its end or stopped, also from slots at epochs of their own, where the records
+-- that its starting state has ahead are within these ranges
+abbrev pub EndedReportsAreLawful : Type 0
+EndedReportsAreLawful = (run : RunView) (d : RaggedEndedView) → IsEnd run d → All (IsWithin run.plan) run.base.pending → IsLawfulText (run_report run (positions_of d.stand))

@@ -31,7 +31,7 @@ mod words;
 pub use average_words::AverageOrder;
 pub use command_line::{Command, PlainOrder};
 pub use ending::Ending;
-pub use laws::run_reports_are_lawful;
+pub use laws::{ended_reports_are_lawful, run_reports_are_lawful};
 pub use lines::no_memory;
 pub use planned::Planned;
 pub use refusal::Refusal;
