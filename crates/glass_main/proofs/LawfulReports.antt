@@ -1,5 +1,5 @@
 -- The report of a run is a lawful report.
-use Rattle.std.proofs.Common.{arith, ◌≡◌, ℕ, ◌+◌, ◌-◌, ◌*◌, ◌<◌, ◌≤◌, ◌⊎◌, inl, Bool, true, false, cond, List, [], ◌∷◌, ◌++◌, map, length, get_or, refl, sym, ap, subst, ◌∙◌, flat_map, append-nil, append_assoc, unsigned_abs, pos, ◌-ℤ◌, if◌then◌else◌}
+use Rattle.std.proofs.Common.{arith, ◌≡◌, ℕ, ◌+◌, ◌-◌, ◌*◌, ◌<◌, ◌≤◌, inl, Bool, true, false, cond, List, [], ◌∷◌, ◌++◌, map, length, refl, sym, ap, subst, ◌∙◌, flat_map, append-nil, append_assoc, unsigned_abs, pos, ◌-ℤ◌, if◌then◌else◌}
 use Rattle.std.proofs.lemmas.Int.{ints}
 use Rattle.std.specs.List.{concat}
 use Rattle.spin_model.specs.Lattice.{volume, bond_count}
@@ -30,11 +30,11 @@ use Rattle.sample_average.specs.declared.header.Header.{Header}
 use Rattle.sample_average.specs.declared.header.Rule.{Rule}
 use Rattle.sample_average.specs.declared.header.Rule.TheVariants as rules_of
 use Rattle.sample_average.specs.declared.row.Row.{Row}
-use Rattle.sample_average.specs.LawfulReport.{IsInRange, IsLawfulHeader, Report, Spells, AreSpins, header_line, row_line, end_line, rule_text, spin_lines, report_lines, rows_of}
+use Rattle.sample_average.specs.LawfulReport.{IsInRange, IsLawfulHeader, Report, AreSpins, header_line, row_line, end_line, rule_text, spin_lines, report_lines, rows_of}
 use Rattle.glass_main.specs.LawfulRuns.{IsLawfulText}
 use Rattle.glass_main.specs.Beginnings.{opened_by, run_text}
 use Rattle.glass_main.specs.declared.planned.Planned.{Planned}
-use Rattle.glass_main.proofs.ReportRows.{IsTable, group_rows, group-is, groups_of, groups-are, groups-text, joined-text, concat-map, concat-append}
+use Rattle.glass_main.proofs.ReportRows.{group_rows, group-is, groups_of, groups-are, groups-text, joined-text, concat-map, concat-append}
 use Rattle.glass_main.proofs.ReportSpins.{spin_list, slot_text, spins-text, spins-are}
 
 -- ---- the same lines

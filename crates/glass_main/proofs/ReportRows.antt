@@ -1,5 +1,5 @@
 -- The rows of a report are groups of rows, one group for each recorded epoch, and their lines are its text.
-use Rattle.std.proofs.Common.{arith, ◌≡◌, ℕ, zero, suc, ◌+◌, ◌-◌, ◌*◌, ◌/◌, ◌%◌, ◌<◌, ◌≤◌, Bool, true, false, cond, List, [], ◌∷◌, ◌++◌, map, length, refl, sym, ap, subst, ◌∙◌, flat_map, append-nil, append_assoc, length-append, if◌then◌else◌}
+use Rattle.std.proofs.Common.{arith, ◌≡◌, ℕ, zero, suc, ◌+◌, ◌*◌, ◌<◌, ◌≤◌, Bool, true, false, cond, List, [], ◌∷◌, ◌++◌, map, length, refl, sym, ap, subst, ◌∙◌, flat_map, append_assoc, length-append, if◌then◌else◌}
 use Rattle.std.specs.List.{concat}
 use Rattle.std.proofs.lemmas.Grind.{flat_map-append}
 use Rattle.std.proofs.lemmas.Nat.{div-mul-add, mod-mul-add}
@@ -8,7 +8,7 @@ use Rattle.spin_model.proofs.Tables.{table-zero, table-more, table-add, table-sa
 use Rattle.glass_engine.proofs.Joined.{joined-zero, joined-more, length-joined}
 use Rattle.sample_average.specs.declared.header.Header.{Header}
 use Rattle.sample_average.specs.declared.row.Row.{Row}
-use Rattle.sample_average.specs.LawfulReport.{IsInRange, IsRowOf, AreRowsFrom, IsGroup, AreGroups, pairs, row_line}
+use Rattle.sample_average.specs.LawfulReport.{IsInRange, AreRowsFrom, IsGroup, AreGroups}
 
 -- ---- rows one after the other
 

@@ -1,5 +1,5 @@
 -- The spins of a report: of each replica four sites a digit, and a line for each in order.
-use Rattle.std.proofs.Common.{arith, ◌≡◌, ℕ, zero, suc, ◌+◌, ◌*◌, ◌/◌, ◌%◌, ◌<◌, ◌≤◌, ◌⊎◌, inr, Bool, true, false, List, [], ◌∷◌, ◌++◌, length, refl, sym, ap, subst, ◌∙◌, flat_map, append-nil, append_assoc, length-append}
+use Rattle.std.proofs.Common.{arith, ◌≡◌, ℕ, zero, suc, ◌+◌, ◌*◌, ◌/◌, ◌%◌, ◌<◌, inr, Bool, true, false, List, [], ◌∷◌, ◌++◌, length, refl, sym, ap, subst, ◌∙◌, flat_map, append-nil, append_assoc, length-append}
 use Rattle.std.specs.List.{AllByRecursion, list_all, concat}
 use Rattle.std.proofs.lemmas.List.Folds.{list_all-append}
 use Rattle.std.proofs.lemmas.Nat.{div-mul-add, mod-mul-add}
@@ -12,7 +12,7 @@ use Rattle.scalar_rule.specs.SpinDigits.{hex_digit, four_spins, spin_digits}
 use Rattle.report_text.specs.Lines as text
 use Rattle.glass_engine.proofs.Joined.{joined-zero, joined-more, length-joined}
 use Rattle.sample_average.specs.declared.header.Header.{Header}
-use Rattle.sample_average.specs.LawfulReport.{AreDigits, AreSpins, is_hex, pairs, sites, spin_head, spin_line, spin_lines}
+use Rattle.sample_average.specs.LawfulReport.{AreDigits, AreSpins, is_hex, spin_head, spin_line, spin_lines}
 
 -- ---- digits
 

@@ -1,5 +1,5 @@
 -- How `average` ends where its report is not read.
-use Rattle.std.proofs.Common.{rules, Global, ◌≡◌, ℕ, ◌≤◌, ◌<◌, List, length, Option, Some, None, option_map, IfSome, Result, Ok, Err, IfOk, IfErr, OnOk, refl, ap, subst, ◌∙◌, arith}
+use Rattle.std.proofs.Common.{rules, Global, ◌≡◌, ℕ, ◌≤◌, ◌<◌, List, length, Option, Some, None, option_map, IfSome, Result, Ok, Err, IfOk, IfErr, OnOk, refl, subst, arith}
 use Rattle.std.specs.declared.vec.Vec.{Vec}
 use Rattle.glass_edges.specs.Causes.{Rose}
 use Rattle.glass_edges.specs.Contents.{Files, HoldsFile, LacksFile, HoldsAtLeast}
@@ -9,16 +9,16 @@ use Rattle.sample_average.specs.Averages.{AveragesView}
 use Rattle.sample_average.specs.ReadReport.{averages_in}
 use Rattle.sample_average.specs.declared.refused.ReportRefused.{ReportRefused}
 use Rattle.glass_main.specs.CommandLine.{AverageOrder, Average}
-use Rattle.glass_main.specs.Endings.{IsOfAverages, IsOfReport, TellsLength}
+use Rattle.glass_main.specs.Endings.{IsOfAverages, TellsLength}
 use Rattle.glass_main.specs.Gathers.{gathered}
 use Rattle.glass_main.specs.Outside.{Output, Store}
-use Rattle.glass_main.specs.Request.{AverageWork, and_then, told_as, bytes_at, averages_at, request_of, limit_of}
+use Rattle.glass_main.specs.Request.{AverageWork, and_then, told_as, bytes_at, averages_at, request_of}
 use Rattle.glass_main.specs.Statuses.{Ends, IsRefusedBy}
 use Rattle.glass_main.specs.declared.role.Role.TheVariants as roles
 use Rattle.glass_main.specs.declared.refusal.Refusal.{Refusal}
 use Rattle.glass_main.specs.declared.refusal.Refusal.TheVariants.{Absent, TooLong, Report}
 use Rattle.glass_main.specs.declared.ending.Ending.{Ending}
-use Rattle.glass_main.specs.declared.ending.Ending.TheVariants.{Done, Refused, Unread, Unwritten, NoMemory}
+use Rattle.glass_main.specs.declared.ending.Ending.TheVariants.{Refused, Unread, NoMemory}
 use Rattle.glass_main.proofs.Fetching.{bytes-found, bytes-absent, bytes-too_many}
 
 -- ---- what the bytes make of the request

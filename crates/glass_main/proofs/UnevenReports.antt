@@ -1,9 +1,8 @@
 -- The report of a run whose slots begin or end at epochs of their own is a lawful report.
-use Rattle.std.proofs.Common.{arith, ◌≡◌, ℕ, zero, suc, ◌+◌, ◌<◌, ◌≤◌, Bool, true, false, cond, not, ◌&&◌, ◌==◌, nat_lt, List, length, refl, sym, ap, subst, ◌∙◌, pos, All}
+use Rattle.std.proofs.Common.{arith, ◌≡◌, ℕ, zero, suc, ◌<◌, ◌≤◌, Bool, true, false, cond, not, ◌&&◌, ◌==◌, nat_lt, List, length, refl, sym, subst, pos, All}
 use Rattle.std.specs.Prelude.{slice_index_or}
 use Rattle.std.proofs.lemmas.Bool.{ltb-true, ltb-false}
 use Rattle.std.proofs.lemmas.List.{get_or_past}
-use Rattle.spin_model.specs.Steps.{table}
 use Rattle.spin_model.proofs.Tables.{length-table, get_or-table}
 use Rattle.scalar_rule.specs.Epoch.{has_turn, has_partner, partner, pair_of, side, slot_at, swept_slot, record_of}
 use Rattle.scalar_rule.specs.Exchange.{traded, decision, cold_side, hot_side}
@@ -18,14 +17,14 @@ use Rattle.scalar_rule.proofs.Extremes.{least-at, greatest-at}
 use Rattle.plane_sweep.specs.Packed.{PermutesAt}
 use Rattle.plane_sweep.specs.Uneven.{positions_of, uneven_part}
 use Rattle.plane_sweep.specs.declared.uneven.RaggedStand.{RaggedStand}
-use Rattle.exchange_board.specs.Content.{plan_of, floor_in}
+use Rattle.exchange_board.specs.Content.{plan_of}
 use Rattle.exchange_board.specs.Views.{RaggedEndedView}
 use Rattle.exchange_board.proofs.Settling.{partner-known}
 use Rattle.glass_engine.specs.Report.{record_at, uneven_measured, all_rest, uneven_report, run_report}
 use Rattle.glass_engine.specs.Runs.{RunView, starts, IsEnd}
 use Rattle.sample_average.specs.LawfulReport.{IsInRange}
 use Rattle.glass_main.specs.LawfulRuns.{IsLawfulText, IsWithin}
-use Rattle.glass_main.proofs.LawfulReports.{header_as, row_as, AreMeasured, composed, record-within, swept-labels}
+use Rattle.glass_main.proofs.LawfulReports.{header_as, row_as, composed, record-within, swept-labels}
 
 -- ---- labels stay numbers of slots
 

@@ -1,5 +1,5 @@
 use Rattle.glass_main.specs.ReadCommand.{read_average_order}
-use Rattle.glass_main.proofs.Reports.{FetchesReport, fetches-report}
+use Rattle.glass_main.proofs.Reports.{fetches-report}
 use Rattle.glass_main.proofs.average.gather_report.Goals as goal
 
 pub returns : goal.returns
