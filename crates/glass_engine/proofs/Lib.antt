@@ -10,3 +10,5 @@ pub mod Adding
 pub mod Reporting
 pub mod LevelReports
 pub mod Leaving
+pub mod Summaries
+pub mod SummaryTexts

@@ -10,6 +10,7 @@ mod report;
 mod rows;
 mod run;
 mod saving;
+mod summary;
 #[cfg(test)]
 mod tests;
 mod workers;
@@ -24,3 +25,4 @@ pub use opening::open;
 pub use placing::save;
 pub use report::write_report;
 pub use run::{Run, SaveKind};
+pub use summary::write_summary;

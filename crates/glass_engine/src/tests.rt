@@ -22,6 +22,7 @@ use std::thread::Threads;
 use threshold_table::{RuleKind, RuleRow, RuleTable, SwapTable};
 
 mod saving;
+mod summary;
 
 const ALL: u64 = 4294967296;
 

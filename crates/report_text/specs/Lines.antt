@@ -1,5 +1,5 @@
 -- The lines of a report, each ended by one line feed. Numbers are plain decimals.
-use Rattle.std.specs.Prelude.{ℕ, List, Bool, ◌++◌, codes, decimal}
+use Rattle.std.specs.Prelude.{ℕ, ℤ, List, Bool, ◌++◌, codes, decimal}
 use Rattle.std.specs.Fmt.{signed_decimal}
 use Rattle.threshold_table.specs.declared.rule_table.RuleKind.{RuleKind}
 use Rattle.threshold_table.specs.declared.rule_table.RuleKind.TheVariants as kinds
@@ -36,3 +36,15 @@ spins_head sample slot copy = codes "spin," ++ decimal sample ++ codes "," ++ de
 -- the spins of a replica on the lattice of side l, in hexadecimal
 unfoldable pub spins_line : ℕ → ℕ → ℕ → ℕ → List Bool → List ℕ
 spins_line l sample slot copy spins = spins_head sample slot copy ++ spin_digits l spins ++ codes "\n"
+
+-- ---- the summary of a run whose plan is made from a number
+
+-- the number, the sizes and the epoch at which the run ends
+unfoldable pub summary_line : ℕ → Plan → ℕ → ℕ → List ℕ
+summary_line n plan samples until =
+    codes "demo 1 n=" ++ decimal n ++ codes " size=" ++ decimal plan.size ++ codes " slots=" ++ decimal (slots_of plan)
+    ++ codes " samples=" ++ decimal samples ++ codes " epochs=" ++ decimal until ++ codes "\n"
+
+-- a slot's energy, and the number of samples whose first replica began in another slot
+unfoldable pub slot_line : ℕ → ℤ → ℕ → List ℕ
+slot_line slot energy away = codes "slot," ++ decimal slot ++ codes "," ++ signed_decimal energy ++ codes "," ++ decimal away ++ codes "\n"

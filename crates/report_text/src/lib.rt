@@ -4,9 +4,11 @@
 mod digits;
 mod lines;
 mod spin_line;
+mod summary_lines;
 #[cfg(test)]
 mod tests;
 
 pub use digits::spin_digit;
 pub use lines::{add_row, end, header, row};
 pub use spin_line::spins;
+pub use summary_lines::{slot_line, summary_header};

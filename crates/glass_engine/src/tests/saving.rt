@@ -29,7 +29,7 @@ const DIGEST_AT_2: [u8; 32] = [
 ];
 
 /// The plan of two slots that swap at each turn.
-fn two_slots(alloc: Global) -> Result<Option<Plan>, NoMemory> {
+pub(super) fn two_slots(alloc: Global) -> Result<Option<Plan>, NoMemory> {
     let rules = RuleTable::from_rows(alloc, RuleKind::Heat, &[AGAINST, UP])?;
     let swaps = SwapTable::from_rows(alloc, &[[ALL]])?;
     let Ok(lattice) = Lattice::of(4) else {

@@ -1,0 +1,60 @@
+//! The summary of a run from epoch 0.
+
+ghost use Rattle.std.specs.Prelude.{◌≡◌};
+
+use super::saving::two_slots;
+use crate::{SaveKind, drive, open, write_summary};
+use glass_edges::{MemorySink, OpenGate};
+use plane_sweep::{RaggedStand, Stand};
+use run_plan::{Orders, check_amount};
+use scalar_rule::Start;
+use std::sync::Arc;
+use std::test::Fail;
+
+const ORDERS: Orders = Orders {
+    samples: 64,
+    epochs: 2,
+    every: 1,
+    start: Start::Up,
+    spins: false,
+};
+
+// In each sample the slots swapped at epoch 0 and not at epoch 1, so every replica is away.
+#[test]
+fn summary_of_two_slots(rt: HostRuntime) -> Result<(), Fail> {
+    let alloc = rt.alloc();
+    let mut out = MemorySink::new(alloc, 5000, 300, Vec::new(alloc))?;
+    let Some(plan) = two_slots(alloc)? else {
+        return Err("a lattice of size 4".into());
+    };
+    // A plan has a slot.
+    let _ = plan.slots();
+    let stand = Stand::opening(alloc, &plan, ORDERS.start)?;
+    if check_amount(&plan, &ORDERS, 0, 2).is_err() {
+        return Err("128 records".into());
+    }
+    let base = RaggedStand::level(alloc, stand)?;
+    let plan = Arc::new(alloc, plan)?;
+    let run = open(
+        alloc,
+        &plan,
+        &ORDERS,
+        base,
+        2,
+        32000000000,
+        2,
+        SaveKind::Never,
+    )?;
+    let done = drive(&rt, run, &plan, 1, &OpenGate);
+    assert!(rt; write_summary(&done, &plan, 3, &mut out).is_ok());
+    assert_eq!(rt;
+        out.taken(),
+        b"demo 1 n=3 size=4 slots=2 samples=64 epochs=2
+slot,0,24576,64
+slot,1,-24576,64
+end,2
+"
+            .as_slice()
+    );
+    Ok(())
+}
