@@ -1,11 +1,11 @@
-//! The words of the forward neighbours of a plane's sites, in the order of the sites.
+//! Words in the order of a plane's sites, turned by a number of places, as those of neighbours are.
 
 ghost use Rattle.std.specs.Prelude.{◌≡◌, ℕ, ◌+◌, ◌*◌, ◌%◌, ◌<◌, ◌≤◌, length, slice_index};
 ghost use Rattle.bit_totals.specs.Ahead.{Turned, TurnedRows};
 
-/// The words so many places on, the last ones followed by the first.
+/// The words so many places on, the last ones followed by the first. `out` is as long as the words.
 #[inline]
-pub(crate) fn turn(out: &mut [u64], words: &[u64], step: usize)
+pub fn turn(out: &mut [u64], words: &[u64], step: usize)
     requires sized { length out.old ≡ length words.now }
     requires step { step ≤ length words.now }
     ensures { Turned step words.now out.new }
@@ -19,8 +19,9 @@ pub(crate) fn turn(out: &mut [u64], words: &[u64], step: usize)
     }
 }
 
-/// Row by row the words of the same row, those of each second row one place on.
-pub(crate) fn turn_rows(out: &mut [u64], words: &[u64], rows: usize, row: usize, parity: usize)
+/// Row by row the words of the same row, one place on where the row's number and the parity have an
+/// odd sum: `rows` rows of `row` words each. `out` is as long as the words.
+pub fn turn_rows(out: &mut [u64], words: &[u64], rows: usize, row: usize, parity: usize)
     requires sized { length out.old ≡ length words.now }
     requires rows { length words.now ≡ rows * row }
     requires row { 0 < row }

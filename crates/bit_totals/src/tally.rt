@@ -8,10 +8,10 @@ use crate::lanes::{add_rows, count_rows};
 use bit_compare::add;
 use multispin_word::Planes;
 
-/// A number of each sample, as the sum of eight that lie side by side: word i of row w is plane w of
-/// the number in lane i.
+/// A number of each sample below 2^20, as the sum of eight that lie side by side: word i of row w is
+/// plane w of the number in lane i. The counter of set bits over many words.
 #[derive(Drop)]
-pub(crate) struct Tally {
+pub struct Tally {
     pub rows: [[u64; 8]; 20],
 }
 

@@ -3,7 +3,8 @@
 ghost use Rattle.std.specs.Prelude.{◌≡◌, ◌+◌, ◌≤◌, ℕ, length, None, Some, OnOk, OnErr};
 ghost use Rattle.glass_edges.specs.Causes.{one_more};
 
-use crate::file_bytes::{read_opened, write_created};
+use crate::file_bytes::read_opened;
+use crate::placing::place_file;
 use crate::{Fault, Fetched, Shelf};
 use std::alloc::Global;
 use std::fs::File;
@@ -58,12 +59,14 @@ impl<R: Files + Drop> Shelf for FileShelf<R> {
         fetched
     }
 
+    /// Through a new file that takes the name, so that a kill in the middle leaves the old file whole;
+    /// what stands under the name and is no regular file is written as it stands.
     fn place(&mut self, name: &str, bytes: &[u8]) -> Result<(), Fault>
         ensures counted { OnErr result (self.new ≡ one_more self.old) }
         ensures uncounted { OnOk result (self.new ≡ self.old) }
         ensures later { self.old ≤ self.new }
     {
-        let written = write_created(File::create(&self.rt, name), bytes);
+        let written = place_file(&self.rt, name, bytes);
         if written.is_err() {
             self.faults = self.faults.saturating_add(1);
         }

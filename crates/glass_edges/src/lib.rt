@@ -14,6 +14,7 @@ mod honest_sink;
 mod line;
 mod memory_shelf;
 mod memory_sink;
+mod placing;
 mod refused;
 mod reserved_buffer;
 mod shelf;

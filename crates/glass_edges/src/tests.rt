@@ -1,6 +1,7 @@
 ghost use Rattle.std.specs.Prelude.{◌<◌};
 
 use crate::file_bytes::{read_opened, write_pieces};
+use crate::placing::fresh_name;
 use crate::{
     Fault, FileShelf, Gate, HonestShelf, HonestSink, Line, MemoryShelf, MemorySink, NoMemory,
     OpenGate, Shelf, Sink, StreamSink, first_found_is_first, put_all,
@@ -8,6 +9,7 @@ use crate::{
 use std::alloc::{AllocError, Global};
 use std::fs;
 use std::io::{self, ErrorKind, Read, Write};
+use std::os::unix::fs::symlink;
 use std::test::Fail;
 
 /// An output with room for so many bytes, at most `most` at a put; the put of this number fails.
@@ -306,5 +308,57 @@ fn file_store_places_a_file(rt: HostRuntime) -> Result<(), Fail> {
         assert_eq!(rt; told.as_str(), answer, "{name}");
     }
     fs::remove_file(&rt, "placed")?;
+    Ok(())
+}
+
+#[test]
+fn a_place_leaves_its_new_file_nowhere(rt: HostRuntime) -> Result<(), Fail> {
+    // What a killed run left stands in the way of none.
+    fs::write(&rt, ".placed.new", "half a")?;
+    fs::create_dir_all(&rt, "folder")?;
+    let mut shelf = FileShelf::of(&rt);
+    let places = [
+        ("placed", true),
+        ("./placed", true),
+        ("placed/in", false),
+        ("folder", false),
+    ];
+    for (name, placed) in places {
+        assert_eq!(rt; shelf.place(name, b"012").is_ok(), placed, "{name}");
+    }
+    for fresh in [".placed.new", ".folder.new"] {
+        assert_eq!(rt; fs::exists(&rt, fresh)?, false, "{fresh}");
+    }
+    fs::remove_dir(&rt, "folder")?;
+    fs::remove_file(&rt, "placed")?;
+    Ok(())
+}
+
+#[test]
+fn a_link_is_written_as_it_stands(rt: HostRuntime) -> Result<(), Fail> {
+    fs::write(&rt, "far", "old and long")?;
+    symlink(&rt, "far", "link")?;
+    let mut shelf = FileShelf::of(&rt);
+    assert_eq!(rt; shelf.place("link", b"012").is_ok(), true);
+    let told = fetched(&mut shelf, rt.alloc(), "far", 4)?;
+    assert_eq!(rt; told.as_str(), "Held([48, 49, 50])");
+    assert_eq!(rt; fs::symlink_metadata(&rt, "link")?.is_symlink(), true);
+    fs::remove_file(&rt, "link")?;
+    fs::remove_file(&rt, "far")?;
+    Ok(())
+}
+
+#[test]
+fn a_new_file_is_named_after_the_one_it_becomes(rt: HostRuntime) -> Result<(), Fail> {
+    let cases = [
+        ("c", ".c.new"),
+        ("a.b/../c d", "a.b/../.c d.new"),
+        ("/c", "/.c.new"),
+        ("a/", "a/..new"),
+    ];
+    for (name, fresh) in cases {
+        let told = fresh_name(name).map_err(|_| Fail::from("too long"))?;
+        assert_eq!(rt; told.as_str(), fresh);
+    }
     Ok(())
 }
