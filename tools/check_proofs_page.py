@@ -1,0 +1,174 @@
+#!/usr/bin/env python3
+"""Holds docs/proofs.md to the sources.
+
+Each row of its tables names public calls and clauses, definitions, must-fail edits and tests. Each of these
+must exist in crates/, and each must-fail edit and each public call of crates/ must be named on the page. The
+benchmarks' crates and those of tests alone owe no rows for their calls.
+
+--self-test runs the tests of this tool.
+
+Status: 0 where page and sources agree, 1 where they do not, with a line a difference, 2 for a wrong word."""
+import os
+import re
+import sys
+import tempfile
+from pathlib import Path
+from typing import Dict, Iterator, List, Set
+
+PAGE = "docs/proofs.md"
+# Crates whose calls nobody outside calls.
+WITHOUT_ROWS = re.compile(r"bench_\w+|glass|glass_tests|table_agreement")
+WORD = re.compile(r"[A-Za-z_][A-Za-z0-9_]*")
+# Names of edits and tests are sentences: they have an underscore.
+SENTENCE = re.compile(r"[a-z0-9]+(?:_[a-z0-9]+)+")
+# The columns of a row.
+PROMISE, CALLS, DEFINITIONS, EDITS, TESTS, SILENCE = range(6)
+
+
+class Sources:
+    """What the crates have: their edits, tests, clauses, words, and public calls."""
+
+    def __init__(self, root: Path) -> None:
+        self.crates: Set[str] = set()
+        self.edits: Set[str] = set()
+        self.tests: Set[str] = set()
+        self.clauses: Set[str] = set()
+        self.words: Set[str] = set()
+        self.calls: Dict[str, Set[str]] = {}
+        for crate in sorted(it for it in (root / "crates").iterdir() if it.is_dir()):
+            self.crates.add(crate.name)
+            self.edits |= {it.stem for it in crate.glob("must-fail/*.edit")}
+            code = {it: it.read_text(encoding="utf-8") for it in sorted(crate.glob("src/**/*.rt"))}
+            for text in code.values():
+                self.read_code(text)
+            for file in crate.glob("specs/**/*.antt"):
+                self.words |= set(WORD.findall(file.read_text(encoding="utf-8"))) | {file.stem}
+            self.words |= {it.stem for it in crate.glob("proofs/**/*.antt")}
+            if not WITHOUT_ROWS.fullmatch(crate.name):
+                self.calls[crate.name] = public_calls(code)
+
+    def read_code(self, text: str) -> None:
+        """Takes the words, tests and clauses of a source file."""
+        self.words |= set(WORD.findall(text))
+        self.tests |= set(re.findall(r"#\[test\]\s*fn (\w+)", text))
+        self.clauses |= set(re.findall(r"(?:ensures|requires)\*? (\w+)", text))
+
+
+def handed_out(root_file: str) -> Set[str]:
+    """The names that a crate's root file hands out."""
+    names: Set[str] = set()
+    for path in re.findall(r"^pub use ([^;]+);", root_file, re.M):
+        names |= set(WORD.findall(path.rsplit("::", 1)[-1] if "{" not in path else path.split("{", 1)[1]))
+    return names
+
+
+def public_calls(code: Dict[Path, str]) -> Set[str]:
+    """The functions, and the methods of types, that a crate hands out."""
+    roots = [text for file, text in code.items() if file.name == "lib.rt"]
+    names = handed_out(roots[0]) if roots else set()
+    calls: Set[str] = set()
+    for text in code.values():
+        calls |= {it for it in re.findall(r"^pub fn (\w+)", text, re.M) if it in names}
+        for block in re.findall(r"^impl[^\n]*\{\n(?:(?!^\}).*\n)*", text, re.M):
+            head = block.split("{", 1)[0]
+            if " for " not in head and names & set(WORD.findall(head)):
+                calls |= set(re.findall(r"^    pub fn (\w+)", block, re.M))
+    return calls
+
+
+def rows_of(page: str) -> Iterator[List[str]]:
+    """The rows of promises, by their cells."""
+    for line in page.splitlines():
+        cells = [it.strip() for it in line.strip().split("|")[1:-1]]
+        if len(cells) == 6 and not set(line) <= set("|- ") and cells[PROMISE] != "promise":
+            yield cells
+
+
+def without_asides(cell: str) -> str:
+    """A cell without what stands in parentheses and brackets."""
+    return re.sub(r"\([^)]*\)|\[[^\]]*\]", " ", cell)
+
+
+def named_clauses(cell: str) -> Set[str]:
+    """The clauses that a cell of calls names: the words behind a call and a colon, up to the next call."""
+    clauses: Set[str] = set()
+    for after in re.findall(r"`:([^`;]*)", without_asides(cell)):
+        clauses |= set(SENTENCE.findall(after)) | set(re.findall(r"(?:^|,)\s*([a-z]+)(?=\s*(?:,|$))", after))
+    return clauses
+
+
+def faults_of_row(cells: List[str], has: Sources) -> Iterator[str]:
+    """What a row names that the sources don't have."""
+    names = has.crates | has.words
+    for word in WORD.findall(" ".join(re.findall(r"`([^`]*)`", cells[CALLS] + cells[DEFINITIONS]))):
+        if word not in names and word not in ("antt", "specs", "docs"):
+            yield f"no source has the word {word}"
+    for clause in sorted(named_clauses(cells[CALLS]) - has.clauses - names):
+        yield f"no contract has a clause {clause}"
+    for edit in SENTENCE.findall(without_asides(cells[EDITS])):
+        if edit not in has.edits | has.crates:
+            yield f"there is no edit {edit}"
+    for test in SENTENCE.findall(without_asides(cells[TESTS])):
+        if test not in has.tests | has.crates:
+            yield f"there is no test {test}"
+    if any(it in ("both", "same", "the same", "all") or it.startswith("all ") for it in cells[EDITS : TESTS + 1]):
+        yield "edits or tests are not named but counted"
+
+
+def differences(root: Path) -> List[str]:
+    """Where the page and the sources differ, a line each."""
+    page = (root / PAGE).read_text(encoding="utf-8")
+    has, named = Sources(root), set(re.findall(r"[A-Za-z0-9_]+", page))
+    found = [f"{cells[PROMISE][:60]}: {it}" for cells in rows_of(page) for it in faults_of_row(cells, has)]
+    found += [f"the edit {it} is not named" for it in sorted(has.edits - named)]
+    for crate, calls in has.calls.items():
+        found += [f"the call {crate}::{it} is not named" for it in sorted(calls - named)]
+    return found
+
+
+def self_test() -> int:
+    """Tests the tool on a small repository. Returns the exit status."""
+    row = "| p | `c::f`: done | `sum` | wrong_sum | adds_two | time |\n"
+    with tempfile.TemporaryDirectory() as at:
+        root = Path(at)
+        for folder in ("docs", "crates/c/src", "crates/c/specs", "crates/c/must-fail"):
+            (root / folder).mkdir(parents=True)
+        (root / "crates/c/src/lib.rt").write_text(
+            "pub use adding::f;\npub fn f()\n    ensures done { true }\n{\n}\n#[test]\nfn adds_two() {\n}\n"
+        )
+        (root / "crates/c/specs/Sums.antt").write_text("sum : N\n")
+        (root / "crates/c/must-fail/wrong_sum.edit").write_text("")
+        cases = [
+            (row, 0),
+            (row.replace("wrong_sum", "wrong_sun"), 2),
+            (row.replace("adds_two", "adds_three"), 1),
+            (row.replace("done", "gone"), 1),
+            (row.replace("`sum`", "`product`"), 1),
+            (row.replace("c::f", "c").replace(": done", ""), 1),
+        ]
+        for page, count in cases:
+            (root / PAGE).write_text(page)
+            found = differences(root)
+            if len(found) != count:
+                print(f"check_proofs_page: self-test: {page.strip()}: {found}", file=sys.stderr)
+                return 1
+    print(f"check_proofs_page: {len(cases)} tests passed")
+    return 0
+
+
+def main(words: List[str]) -> int:
+    if words == ["--self-test"]:
+        return self_test()
+    if words:
+        print(f"check_proofs_page: what is {words[0]}? See the head of the file.", file=sys.stderr)
+        return 2
+    found = differences(Path(os.path.dirname(os.path.abspath(__file__))).parent)
+    for line in found:
+        print(f"check_proofs_page: {line}", file=sys.stderr)
+    if not found:
+        print(f"check_proofs_page: {PAGE} and the sources agree")
+    return 1 if found else 0
+
+
+if __name__ == "__main__":
+    sys.exit(main(sys.argv[1:]))
