@@ -5,6 +5,7 @@ pub mod SwapPairs
 pub mod PrintedBytes
 pub mod LongLines
 pub mod OpenedRuns
+pub mod DemoRuns
 pub mod Resumed
 pub mod Amounts
 pub mod RunEndings

@@ -26,12 +26,14 @@ pub record AverageOrder : Type 0 where
   pub report : List ℕ
   pub blocks : ℕ
 
--- a command of the program: one replica of the ferromagnet; a look at the run file of a name; a run; averages of a report
+-- a command of the program: one replica of the ferromagnet; a look at the run file of a name; a run; averages of a report; a large
+-- run whose plan is made from a number
 pub data Command : Type 0 where
   Plain : PlainOrder → Command
   Check : List ℕ → Command
   Run : RunOrder → Command
   Average : AverageOrder → Command
+  Demo : ℕ → Command
 
 -- `plain SIZE SWEEPS SEED T0 T1 T2 T3 T4 T5 T6`
 unfoldable pub plain_order : List (List ℕ) → Option PlainOrder
@@ -68,6 +70,10 @@ average_order words =
     given (number_word 1 256 (word_at words 2)) (λ blocks.
     Some (record { report = report; blocks = blocks })))
     else None
+
+-- `demo N`, N up to a million
+unfoldable pub demo_number : List (List ℕ) → Option ℕ
+demo_number words = if length words == 2 then number_word 0 1000000 (word_at words 1) else None
 
 -- ---- the words of `run`, read from the left
 
@@ -172,6 +178,7 @@ command_of words =
     else if bytes_eq (word_at words 0) (codes "check") then option_map Check (check_name words)
     else if bytes_eq (word_at words 0) (codes "run") then option_map Run (run_order words)
     else if bytes_eq (word_at words 0) (codes "average") then option_map Average (average_order words)
+    else if bytes_eq (word_at words 0) (codes "demo") then option_map Demo (demo_number words)
     else None
 
 -- the name under which words ask for a checkpoint to be saved
@@ -181,3 +188,4 @@ saved_name (Some (Plain order)) = None
 saved_name (Some (Check name)) = None
 saved_name (Some (Run order)) = order.save
 saved_name (Some (Average order)) = None
+saved_name (Some (Demo n)) = None

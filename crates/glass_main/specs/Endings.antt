@@ -19,7 +19,7 @@ use Rattle.sample_average.specs.Averages.{IsRefusal}
 use Rattle.sample_average.specs.declared.refused.ReportRefused.{ReportRefused}
 use Rattle.sample_average.specs.declared.refused.ReportRefused.TheVariants as report
 use Rattle.scalar_rule.specs.Plan as rule
-use Rattle.glass_main.specs.CommandLine.{RunOrder, Command, Plain, Check, Run, Average}
+use Rattle.glass_main.specs.CommandLine.{RunOrder, Command, Plain, Check, Run, Average, Demo}
 use Rattle.glass_main.specs.Request.{limit_of, and_then, IsAccepted, run_file_at, rules_at, swaps_at, tables_at, plan_at}
 use Rattle.glass_main.specs.declared.role.Role.{Role}
 use Rattle.glass_main.specs.declared.role.Role.TheVariants as roles
@@ -139,20 +139,22 @@ pub record IsResumed (order : RunOrder) (held : Option Files) (role : Role) : Ty
 
 -- ---- commands
 
--- what a command may be refused for: `plain` reads no file, and is never refused; `check` prints one line, whatever a run
--- would print
+-- what a command may be refused for: `plain` and `demo` read no file, and are never refused; `check` prints one line, whatever
+-- a run would print
 abbrev pub MayRefuse : Command → Refusal → Type 0
 MayRefuse (Plain order) told = ⊥
 MayRefuse (Check name) told = IsOfFile told
 MayRefuse (Run order) told = IsOfFile told ⊎ IsOfAmount told
 MayRefuse (Average order) told = IsOfAverages order.blocks told
+MayRefuse (Demo n) told = ⊥
 
--- the files at which the store may fail in a command: `plain` fetches none
+-- the files at which the store may fail in a command: `plain` and `demo` fetch none
 abbrev pub MayFetch : Command → Option Files → Role → Type 0
 MayFetch (Plain order) held role = ⊥
 MayFetch (Check name) held role = IsReached name held role
 MayFetch (Run order) held role = IsReached order.run held role ⊎ IsResumed order held role
 MayFetch (Average order) held role = role ≡ roles.Report
+MayFetch (Demo n) held role = ⊥
 
 -- the commands that may fail at their checkpoint: runs that save one
 abbrev pub MaySave : Command → Type 0
@@ -160,6 +162,7 @@ MaySave (Plain order) = ⊥
 MaySave (Check name) = ⊥
 MaySave (Run order) = order.save ≢ None
 MaySave (Average order) = ⊥
+MaySave (Demo n) = ⊥
 
 -- how a command may end, where the store holds these files
 abbrev pub MayEnd : Command → Option Files → Ending → Type 0
@@ -170,13 +173,14 @@ MayEnd command held Unwritten = Unit {0}
 MayEnd command held Unsaved = MaySave command
 MayEnd command held NoMemory = Unit {0}
 
--- words that read no file: those of `plain`, and those that are no command
+-- words that read no file: those of `plain` and `demo`, and those that are no command
 abbrev pub ReadsNoFile : Option Command → Type 0
 ReadsNoFile None = Unit {0}
 ReadsNoFile (Some (Plain order)) = Unit {0}
 ReadsNoFile (Some (Check name)) = ⊥
 ReadsNoFile (Some (Run order)) = ⊥
 ReadsNoFile (Some (Average order)) = ⊥
+ReadsNoFile (Some (Demo n)) = Unit {0}
 
 -- words that are no command are refused as such, and no others
 abbrev pub Reads : Option Command → Option Files → Ending → Type 0

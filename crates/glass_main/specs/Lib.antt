@@ -11,4 +11,5 @@ pub mod Gathers
 pub mod Resumes
 pub mod ReadCommand
 pub mod Opened
+pub mod DemoRun
 pub mod LawfulRuns

@@ -5,7 +5,7 @@ use Rattle.glass_main.specs.CommandLine as model
 use Rattle.glass_main.specs.declared.average_words.AverageOrder.{AverageOrder}
 use Rattle.glass_main.specs.declared.command_line.PlainOrder.{PlainOrder}
 use Rattle.glass_main.specs.declared.command_line.Command.{Command}
-use Rattle.glass_main.specs.declared.command_line.Command.TheVariants.{Plain, Check, Run, Average}
+use Rattle.glass_main.specs.declared.command_line.Command.TheVariants.{Plain, Check, Run, Average, Demo}
 use Rattle.glass_main.specs.declared.run_words.RunOrder.{RunOrder}
 use Rattle.glass_main.specs.declared.run_words.RunWords.{RunWords}
 
@@ -38,6 +38,7 @@ read_command (Plain order) = model.Plain (read_order order)
 read_command (Check name) = model.Check name.now
 read_command (Run order) = model.Run (read_run_order order)
 read_command (Average order) = model.Average (read_average_order order)
+read_command (Demo n) = model.Demo n
 
 -- what the words of `run` have said
 abbrev pub read_said : RunWords → model.RunWords
@@ -70,9 +71,10 @@ pub record IsLawfulAverage (order : AverageOrder) : Type 0 where
   pub some : 1 ≤ order.blocks
   pub few : order.blocks ≤ 256
 
--- the same of the order of a command
+-- the same of the order of a command; a plan is made from a number up to a million
 abbrev pub IsLawfulCommand : Command → Type 0
 IsLawfulCommand (Plain order) = Unit {0}
 IsLawfulCommand (Check name) = Unit {0}
 IsLawfulCommand (Run order) = IsLawfulOrder order
 IsLawfulCommand (Average order) = IsLawfulAverage order
+IsLawfulCommand (Demo n) = n ≤ 1000000

@@ -16,9 +16,9 @@ use Rattle.run_plan.specs.declared.run_file.CouplingSource.TheVariants as source
 use Rattle.run_plan.specs.PlanOf.{plan_with}
 use Rattle.sample_average.specs.Averages.{AveragesView, averages_text}
 use Rattle.sample_average.specs.ReadReport.{averages_in}
-use Rattle.glass_main.specs.CommandLine.{PlainOrder, RunOrder, AverageOrder, Command, Plain, Check, Run, Average, command_of}
+use Rattle.glass_main.specs.CommandLine.{PlainOrder, RunOrder, AverageOrder, Command, Plain, Check, Run, Average, Demo, command_of}
 use Rattle.glass_main.specs.Beginnings.{Beginning, opened_by, resumed_by, begins_at, run_text, run_checkpoint}
-use Rattle.glass_main.specs.Texts.{plain_text, check_text}
+use Rattle.glass_main.specs.Texts.{plain_text, check_text, demo_text}
 use Rattle.glass_main.specs.declared.planned.Planned.{Planned}
 use Rattle.glass_main.specs.declared.role.Role.{Role}
 use Rattle.glass_main.specs.declared.role.Role.TheVariants as roles
@@ -33,6 +33,7 @@ pub data Work : Type 0 where
   CheckWork : Planned → Work
   RunWork : Planned → Beginning → ℕ → Work
   AverageWork : AveragesView → Work
+  DemoWork : ℕ → Work
 
 -- the text that the work prints
 abbrev pub text_of : Work → List ℕ
@@ -40,6 +41,7 @@ text_of (PlainWork order) = plain_text order
 text_of (CheckWork planned) = check_text planned
 text_of (RunWork planned from until) = run_text planned from until
 text_of (AverageWork averages) = averages_text averages
+text_of (DemoWork n) = demo_text n
 
 -- the checkpoint that it saves, where it is asked to
 abbrev pub saved_of : Work → List ℕ
@@ -47,6 +49,7 @@ saved_of (PlainWork order) = []
 saved_of (CheckWork planned) = []
 saved_of (RunWork planned from until) = run_checkpoint planned from until
 saved_of (AverageWork averages) = []
+saved_of (DemoWork n) = []
 
 -- ---- steps
 
@@ -166,6 +169,7 @@ request_of (Plain order) files = Some (Ok (PlainWork order))
 request_of (Check name) files = option_map (λ held. and_then (plan_at name held) (λ planned. Ok (CheckWork planned))) files
 request_of (Run order) files = option_map (run_at order) files
 request_of (Average order) files = option_map (λ held. and_then (averages_at order held) (λ averages. Ok (AverageWork averages))) files
+request_of (Demo n) files = Some (Ok (DemoWork n))
 
 -- the same of words that may be no command
 abbrev pub request_for : Option Command → Option Files → Option (Result Work Refusal)

@@ -4,12 +4,16 @@ use Rattle.std.specs.Fmt.{signed_decimal}
 use Rattle.hex.specs.Hex.{encode_lower}
 use Rattle.sha2.specs.Sha256.{sha256}
 use Rattle.run_plan.specs.CanonicalPlan.{canonical}
+use Rattle.run_plan.specs.DemoPlan.{demo_plan}
 use Rattle.spin_model.specs.Couplings.{plus}
+use Rattle.scalar_rule.specs.Opening.{opening}
 use Rattle.scalar_rule.specs.PlainRun.{plain_configuration}
 use Rattle.scalar_rule.specs.SpinDigits.{spin_digits}
 use Rattle.scalar_rule.specs.Sums.{energy}
 use Rattle.scalar_rule.specs.Plan.{Plan, slots_of}
+use Rattle.scalar_rule.specs.declared.sample.Start.TheVariants.{Random}
 use Rattle.report_text.specs.Lines.{kind_text}
+use Rattle.glass_engine.specs.Summary.{summary}
 use Rattle.glass_main.specs.CommandLine.{PlainOrder}
 use Rattle.glass_main.specs.declared.planned.Planned.{Planned}
 
@@ -51,3 +55,8 @@ plan_digest plan = codes " digest=" ++ encode_lower (sha256 (canonical plan))
 -- what `check` prints
 abbrev pub check_text : Planned → List ℕ
 check_text planned = plan_sizes planned ++ plan_dynamics planned.plan ++ plan_digest planned.plan ++ codes "\n"
+
+-- what `demo` prints: of the plan that is made from the number the summary of 64 samples, each of them run for 16 epochs from random
+-- spins by the serial dynamics
+abbrev pub demo_text : ℕ → List ℕ
+demo_text n = summary n (demo_plan n) (opening (demo_plan n) Random 0) 16

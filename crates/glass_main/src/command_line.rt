@@ -1,7 +1,7 @@
 //! The command that the words after the program's name ask for.
 
 ghost use Rattle.std.specs.Prelude.{◌≡◌, ℕ, ◌+◌, ◌<◌, ◌≤◌, ◌^◌, length, take, option_map, Some, None, IfSome, if◌then◌else◌};
-ghost use Rattle.glass_main.specs.CommandLine.{command_of, plain_order, check_name};
+ghost use Rattle.glass_main.specs.CommandLine.{command_of, plain_order, check_name, demo_number};
 ghost use Rattle.glass_main.specs.ReadCommand.{read_command, read_order, IsLawfulCommand};
 ghost use Rattle.glass_main.specs.Words as model;
 ghost use Rattle.glass_main.specs.Words.{texts, size_word};
@@ -32,6 +32,8 @@ pub enum Command<'a> {
     Run(RunOrder<'a>),
     /// Averages of a report.
     Average(AverageOrder<'a>),
+    /// A large run whose plan is made from this number, at most a million.
+    Demo(u64),
 }
 
 /// Reads the words. It takes no memory.
@@ -65,6 +67,12 @@ pub(crate) fn read_words(words: &[String]) -> Option<Command<'_>>
             None => None,
         };
     }
+    if name == "demo" {
+        return match read_demo(words) {
+            Some(n) => Some(Command::Demo(n)),
+            None => None,
+        };
+    }
     None
 }
 
@@ -77,6 +85,18 @@ fn read_check(words: &[String]) -> Option<&str>
         return None;
     }
     name_word(word_at(words, 1))
+}
+
+// The word of `demo`.
+#[tactic(auto, unfolding(crate::specs::CommandLine::demo_number))]
+fn read_demo(words: &[String]) -> Option<u64>
+    ensures value { result ≡ demo_number (texts words.now) }
+    ensures lawful { IfSome result (λ n. n ≤ 1000000) }
+{
+    if words.len() != 2 {
+        return None;
+    }
+    number_word(word_at(words, 1), 0, 1000000)
 }
 
 // The words of `plain`.

@@ -7,6 +7,7 @@ mod check;
 mod checkpoint_lines;
 mod command_line;
 mod couplings_lines;
+mod demo;
 mod digest_lines;
 mod ending;
 mod finishing;

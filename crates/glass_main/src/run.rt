@@ -32,7 +32,7 @@ use std::sync::{Arc, Wait};
 use std::thread::Threads;
 
 /// So many hand-outs of a slot stop no run.
-const EVERY_TAKE: u64 = 32000000000;
+pub(crate) const EVERY_TAKE: u64 = 32000000000;
 
 /// Reads the run file of an order and what it names, and its checkpoint; runs it, prints the report, and
 /// places its own checkpoint.

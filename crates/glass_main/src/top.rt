@@ -11,6 +11,7 @@ ghost use Rattle.glass_main.specs.Words.{texts};
 use crate::average::average;
 use crate::check::check;
 use crate::command_line::{Command, read_words};
+use crate::demo::demo;
 use crate::ending::{Ending, status};
 use crate::lines::tell;
 use crate::plain::plain;
@@ -33,7 +34,7 @@ use std::thread::Threads;
 /// 12: the report is refused. With a status other than 0 `err` got one line, or a prefix of it where
 /// it failed itself.
 ///
-/// `plain` reads no file, and ends with 0, 9 or 11; words that are no command end with 2 alone.
+/// `plain` and `demo` read no file, and end with 0, 9 or 11; words that are no command end with 2 alone.
 pub fn glass<R: Threads + Wait + Sync, H: Shelf, O: Sink, E: Sink, G: Gate + Sync>(
     rt: &R,
     alloc: Global,
@@ -96,5 +97,6 @@ fn answer<R: Threads + Wait + Sync, H: Shelf, O: Sink, G: Gate + Sync>(
         Some(Command::Check(name)) => check(alloc, shelf, out, name),
         Some(Command::Run(order)) => run(rt, alloc, shelf, out, gate, &order),
         Some(Command::Average(order)) => average(alloc, shelf, out, &order),
+        Some(Command::Demo(n)) => demo(rt, alloc, shelf, out, gate, n),
     }
 }

@@ -12,6 +12,8 @@ mod checkpoints;
 #[cfg(test)]
 mod couplings;
 #[cfg(test)]
+mod demo;
+#[cfg(test)]
 mod files;
 #[cfg(test)]
 mod plain;

@@ -1,0 +1,94 @@
+//! The command `demo`: a large run whose plan is made from a number, and its summary.
+
+ghost use Rattle.std.specs.Prelude.{◌≡◌, ◌≤◌, Some, IfOk, OnOk, OnErr};
+ghost use Rattle.std.specs.Arc.{arc_value};
+ghost use Rattle.glass_edges.specs.Causes.{HasCause};
+ghost use Rattle.glass_edges.specs.Contents.{appended, AppendsPrefix};
+ghost use Rattle.glass_main.specs.CommandLine as commands;
+ghost use Rattle.glass_main.specs.DemoRun.{IsDemoRun};
+ghost use Rattle.glass_main.specs.Outside.{output, store};
+ghost use Rattle.glass_main.specs.Statuses.{Ends};
+ghost use Rattle.glass_main.specs.Texts.{demo_text};
+
+use crate::ending::Ending;
+use crate::finishing::Opened;
+use crate::run::EVERY_TAKE;
+use glass_edges::{Fault, Gate, NoMemory, Shelf, Sink};
+use glass_engine::{SaveKind, drive, open, write_summary};
+use plane_sweep::{RaggedStand, Stand};
+use run_plan::demo_plan;
+use std::alloc::Global;
+use std::sync::{Arc, Wait};
+use std::thread::Threads;
+
+const WORKERS: u32 = 4;
+
+/// So many pieces the planes of a sweep are cut into.
+const PIECES: u32 = 2;
+
+/// Runs the plan that is made from a number, and prints the summary of its last epoch.
+pub(crate) fn demo<R: Threads + Wait + Sync, H: Shelf, O: Sink, G: Gate + Sync>(
+    rt: &R,
+    alloc: Global,
+    _shelf: &mut H,
+    out: &mut O,
+    gate: &G,
+    n: u64,
+) -> Ending
+    requires { n ≤ 1000000 }
+    ensures ends { Ends (Some (commands.Demo n)) result
+        (store H.holds H.faults H.lengths _shelf.old) (store H.holds H.faults H.lengths _shelf.new)
+        (output O.taken O.faults out.old) (output O.taken O.faults out.new) }
+    ensures untouched { _shelf.new ≡ _shelf.old }
+{
+    let opened = match open_demo(alloc, n) {
+        Ok(opened) => opened,
+        Err(_) => return Ending::NoMemory,
+    };
+    match put_demo(rt, out, gate, opened, n) {
+        Ok(()) => Ending::Done,
+        Err(_) => Ending::Unwritten,
+    }
+}
+
+// Opens the run of a number, from random spins; no checkpoint of it is saved.
+fn open_demo(alloc: Global, n: u64) -> Result<Opened, NoMemory>
+    requires { n ≤ 1000000 }
+    ensures share { IfOk result (λ opened. arc_value opened.plan ≡ opened.run.plan) }
+    ensures run { IfOk result (λ opened. IsDemoRun n opened.run) }
+{
+    let (plan, orders) = demo_plan(alloc, n)?;
+    let stand = Stand::opening(alloc, &plan, orders.start)?;
+    let base = RaggedStand::level(alloc, stand)?;
+    let plan = Arc::new(alloc, plan)?;
+    let run = open(
+        alloc,
+        &plan,
+        &orders,
+        base,
+        orders.epochs,
+        EVERY_TAKE,
+        WORKERS,
+        SaveKind::Never,
+    )?;
+    Ok(Opened { plan, run })
+}
+
+// Drives the run of a number to its end, and prints its summary.
+fn put_demo<R: Threads + Wait + Sync, O: Sink, G: Gate + Sync>(
+    rt: &R,
+    out: &mut O,
+    gate: &G,
+    opened: Opened,
+    n: u64,
+) -> Result<(), Fault>
+    requires plan { arc_value opened.plan ≡ opened.run.plan }
+    requires run { IsDemoRun n opened.run }
+    ensures whole { OnOk result (O.taken out.new ≡ appended (O.taken out.old) (demo_text n)) }
+    ensures prefix { OnErr result (AppendsPrefix (O.taken out.old) (O.taken out.new) (demo_text n)) }
+    ensures cause { HasCause (O.faults out.old) (O.faults out.new) result }
+{
+    let Opened { plan, run } = opened;
+    let done = drive(rt, run, &plan, PIECES, gate);
+    write_summary(&done, &plan, n, out)
+}
