@@ -1,0 +1,13 @@
+pub mod SignedSums
+pub mod Turning
+pub mod DrawCounts
+pub mod Balancing
+pub mod ExchangeBalancing
+pub mod Ordering
+pub mod Reached
+pub mod Traded
+pub mod Alone
+pub mod Stays
+pub mod NearlyStays
+pub mod KnownValues
+pub mod SmallCases

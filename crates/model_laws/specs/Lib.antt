@@ -1,0 +1,9 @@
+pub mod Energies
+pub mod Weights
+pub mod Balance
+pub mod ExchangeBalance
+pub mod Order
+pub mod Reaching
+pub mod Trading
+pub mod Packing
+pub mod Stationary
