@@ -1,0 +1,15 @@
+-- The sites of the planes before q are counted.
+use Rattle.std.proofs.Common.{◌≡◌, ℕ, ◌+◌, ◌*◌, ◌<◌, length}
+use Rattle.bit_totals.specs.Tallies.{tallied}
+use Rattle.plane_sweep.specs.Packed.{spins_of}
+use Rattle.spin_model.specs.Lattice.{half_plane}
+use Rattle.overlap_lines.specs.Counted.{line_from}
+use Rattle.overlap_lines.proofs.counting.add_planes.Given as goal
+
+abbrev pub invariant-planes : goal.invariant-planes
+invariant-planes l = record {
+  overlaps : length l.overlaps ≡ half_plane l.lattice;
+  ahead : length l.ahead ≡ half_plane l.lattice;
+  counted : (b : ℕ) → b < 64 → tallied l.tally.rows b ≡ tallied l.fn.tally.rows b
+      + line_from l.lattice (spins_of l.lattice b l.duo.first.planes) (spins_of l.lattice b l.duo.second.planes) l.shift.direction l.shift.distance (l.q * half_plane l.lattice);
+}

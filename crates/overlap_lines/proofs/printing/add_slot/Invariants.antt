@@ -1,0 +1,15 @@
+-- The link overlap and the directions before d are added.
+use Rattle.std.proofs.Common.{◌≡◌, ◌++◌, flat_map}
+use Rattle.glass_edges.specs.Contents.{PutsFront}
+use Rattle.spin_model.specs.Steps.{table}
+use Rattle.spin_model.specs.Lattice.{bond_count}
+use Rattle.overlap_lines.specs.LineText.{link_line}
+use Rattle.overlap_lines.specs.CountedText.{counted_direction, sum_at}
+use Rattle.overlap_lines.proofs.printing.add_slot.Given as goal
+
+abbrev pub invariant-directions : goal.invariant-directions
+invariant-directions g l = record {
+  text : PutsFront (g.O.Sink.taken l.fn.out) (g.O.Sink.taken l.out)
+      ((l.fn.line ++ link_line l.sample l.slot (sum_at l.counts 0 l.sample (bond_count l.lattice))) ++ flat_map (counted_direction l.lattice l.sample l.slot l.counts) (table (λ d. d) l.d)) l.line;
+  passed : g.O.Sink.faults l.out ≡ g.O.Sink.faults l.fn.out;
+}

@@ -1,0 +1,4 @@
+pub mod Overlaps
+pub mod LineText
+pub mod Counted
+pub mod CountedText

@@ -1,0 +1,178 @@
+//! The counts of terms: over all bonds, and over all pairs of sites some steps apart.
+
+ghost use Rattle.std.specs.Prelude.{◌≡◌, ℕ, ◌+◌, ◌*◌, ◌/◌, ◌^◌, ◌<◌, ◌≤◌, length, slice_index};
+ghost use Rattle.bit_totals.specs.Tallies.{tallied};
+ghost use Rattle.multispin_word.specs.Planes.{is_set, number};
+ghost use Rattle.overlap_lines.specs.Counted.{line_from};
+ghost use Rattle.overlap_lines.specs.Overlaps as model;
+ghost use Rattle.plane_sweep.specs.Packed.{plane_at, spins_of, FitsDuo};
+ghost use Rattle.scalar_rule.specs.Neighbours.{agree};
+ghost use Rattle.spin_model.specs.Lattice.{bond_count, half_plane, volume, IsLawfulSize};
+
+use crate::shifting::{Shift, plane_on, turn_plane};
+use bit_totals::Tally;
+use lattice_geometry::Lattice;
+use multispin_word::Planes;
+use plane_sweep::{Duo, Replica};
+
+/// The most words of a plane.
+const PLANE: usize = 2048;
+
+/// In each disorder sample the number of bonds with q q' = +1, of 3V, where q is the product of the two
+/// replicas' spins at a site. Takes no memory.
+pub fn agreeing_bonds(duo: &Duo, lattice: Lattice) -> Planes<20>
+    requires { FitsDuo lattice duo.now }
+    ensures value { (b : ℕ) → b < 64 → number result.words b ≡ model.agreeing_bonds lattice
+        (spins_of lattice b duo.now.first.planes) (spins_of lattice b duo.now.second.planes) }
+    ensures within { (b : ℕ) → b < 64 → number result.words b ≤ bond_count lattice }
+{
+    // A lattice has at most 64^3 sites, so no count reaches 2^20.
+    let _ = lattice.sites();
+    let mut tally = Tally::none();
+    add_line(&mut tally, duo, &lattice, along(0, 1));
+    add_line(&mut tally, duo, &lattice, along(1, 1));
+    add_line(&mut tally, duo, &lattice, along(2, 1));
+    tally.total()
+}
+
+/// In each disorder sample the number of sites, of V, with q q' = +1, where q is the product of the two
+/// replicas' spins at the site and q' that at the site r steps on in direction d, around the boundary.
+/// Directions are 0 for x, 1 for y and 2 for z; r is from 1 to half the size. Takes no memory.
+pub fn agreeing_line(duo: &Duo, lattice: Lattice, d: u32, r: u32) -> Planes<20>
+    requires fits { FitsDuo lattice duo.now }
+    requires direction { d < 3 }
+    requires some { 1 ≤ r }
+    requires far { r ≤ lattice / 2 }
+    ensures value { (b : ℕ) → b < 64 → number result.words b ≡ model.agreeing_line lattice
+        (spins_of lattice b duo.now.first.planes) (spins_of lattice b duo.now.second.planes) d r }
+    ensures within { (b : ℕ) → b < 64 → number result.words b ≤ volume lattice }
+{
+    // A lattice has at most 64^3 sites, so no count reaches 2^20.
+    let _ = lattice.sites();
+    let mut tally = Tally::none();
+    add_line(&mut tally, duo, &lattice, along(d, r));
+    tally.total()
+}
+
+// So many steps in a direction.
+fn along(direction: u32, distance: u32) -> Shift
+    ensures direction { result.direction ≡ direction }
+    ensures distance { result.distance ≡ distance }
+{
+    Shift {
+        direction,
+        distance,
+    }
+}
+
+// Adds the sites with q q' = +1, where q' is at the site so far on.
+fn add_line(tally: &mut Tally, duo: &Duo, lattice: &Lattice, shift: Shift)
+    requires fits { FitsDuo lattice.now duo.now }
+    requires direction { shift.direction < 3 }
+    requires distance { shift.distance ≤ lattice.now / 2 }
+    requires room { (b : ℕ) → b < 64 → tallied tally.old.rows b + volume lattice.now + 64 < 2 ^ 20 }
+    ensures { (b : ℕ) → b < 64 → tallied tally.new.rows b ≡ tallied tally.old.rows b
+        + model.agreeing_line lattice.now (spins_of lattice.now b duo.now.first.planes)
+        (spins_of lattice.now b duo.now.second.planes) shift.direction shift.distance }
+{
+    let mut overlaps = [0u64; PLANE];
+    let mut ahead = [0u64; PLANE];
+    add_planes(tally, duo, lattice, shift, &mut overlaps, &mut ahead);
+}
+
+// The same plane by plane, with buffers for the overlaps in a plane.
+fn add_planes(
+    tally: &mut Tally,
+    duo: &Duo,
+    lattice: &Lattice,
+    shift: Shift,
+    overlaps: &mut [u64],
+    ahead: &mut [u64],
+)
+    requires fits { FitsDuo lattice.now duo.now }
+    requires direction { shift.direction < 3 }
+    requires distance { shift.distance ≤ lattice.now / 2 }
+    requires overlaps { length overlaps.old ≡ PLANE }
+    requires ahead { length ahead.old ≡ PLANE }
+    requires room { (b : ℕ) → b < 64 → tallied tally.old.rows b + volume lattice.now + 64 < 2 ^ 20 }
+    ensures counted { (b : ℕ) → b < 64 → tallied tally.new.rows b ≡ tallied tally.old.rows b
+        + line_from lattice.now (spins_of lattice.now b duo.now.first.planes)
+        (spins_of lattice.now b duo.now.second.planes) shift.direction shift.distance
+        (2 * lattice.now * half_plane lattice.now) }
+    ensures lawful { IsLawfulSize lattice.now }
+{
+    let size = lattice.size();
+    let half_plane = (size * (size / 2)) as usize;
+    let overlaps = &mut overlaps[..half_plane];
+    let ahead = &mut ahead[..half_plane];
+    'planes: for q in 0..2 * size {
+        add_plane(tally, duo, lattice, shift, q, overlaps, ahead);
+    }
+}
+
+// The sites of plane q.
+fn add_plane(
+    tally: &mut Tally,
+    duo: &Duo,
+    lattice: &Lattice,
+    shift: Shift,
+    q: u32,
+    overlaps: &mut [u64],
+    ahead: &mut [u64],
+)
+    requires fits { FitsDuo lattice.now duo.now }
+    requires direction { shift.direction < 3 }
+    requires distance { shift.distance ≤ lattice.now / 2 }
+    requires plane { q < 2 * lattice.now }
+    requires overlaps { length overlaps.old ≡ half_plane lattice.now }
+    requires ahead { length ahead.old ≡ half_plane lattice.now }
+    requires room { (b : ℕ) → b < 64
+        → tallied tally.old.rows b + half_plane lattice.now + 64 < 2 ^ 20 }
+    ensures { (b : ℕ) → b < 64 → tallied tally.new.rows b
+        + line_from lattice.now (spins_of lattice.now b duo.now.first.planes)
+        (spins_of lattice.now b duo.now.second.planes) shift.direction shift.distance
+        (q * half_plane lattice.now)
+        ≡ tallied tally.old.rows b
+        + line_from lattice.now (spins_of lattice.now b duo.now.first.planes)
+        (spins_of lattice.now b duo.now.second.planes) shift.direction shift.distance
+        ((q + 1) * half_plane lattice.now) }
+{
+    let size = lattice.size();
+    let plane = plane_on(size, q, shift);
+    find_overlaps(
+        overlaps,
+        words_of(&duo.first, plane),
+        words_of(&duo.second, plane),
+    );
+    turn_plane(ahead, overlaps, size, q, shift);
+    tally.add(words_of(&duo.first, q), words_of(&duo.second, q), ahead);
+}
+
+// The samples with q = +1 at each site of a plane.
+fn find_overlaps(out: &mut [u64], first: &[u64], second: &[u64])
+    requires first { length first.now ≡ length out.old }
+    requires second { length second.now ≡ length out.old }
+    ensures { (j b : ℕ) → j < length out.old → b < 64 → is_set (slice_index out.new j) b
+        ≡ agree (is_set (slice_index first.now j) b) (is_set (slice_index second.now j) b) }
+{
+    'words: for j in 0..out.len() {
+        out[j] = overlap(first[j], second[j]);
+    }
+}
+
+// The samples in which two spins are equal.
+#[inline]
+fn overlap(first: u64, second: u64) -> u64
+    ensures { (b : ℕ) → b < 64 → is_set result b ≡ agree (is_set first b) (is_set second b) }
+{
+    !first ^ second
+}
+
+// The words of one plane.
+#[inline]
+fn words_of(replica: &Replica, plane: u32) -> &[u64]
+    requires { plane < length replica.now.planes }
+    ensures { result.now ≡ (plane_at replica.now.planes plane).words }
+{
+    replica.planes.at(plane as usize).words.as_slice()
+}
