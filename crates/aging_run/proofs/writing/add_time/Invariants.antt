@@ -1,0 +1,11 @@
+use Rattle.std.proofs.Common.{◌≡◌, ◌++◌}
+use Rattle.glass_edges.specs.Contents.{PutsFront}
+use Rattle.aging_run.specs.Aging.{time_lines}
+use Rattle.aging_run.specs.Measuring.{overlap_in}
+use Rattle.aging_run.proofs.writing.add_time.Given as goal
+
+abbrev pub invariant-samples : goal.invariant-samples
+invariant-samples g l = record {
+  text : PutsFront (g.O.Sink.taken l.fn.out) (g.O.Sink.taken l.out) (l.fn.line ++ time_lines l.slot l.copy l.time (overlap_in l.totals.words l.sites) l.b) l.line;
+  passed : g.O.Sink.faults l.out ≡ g.O.Sink.faults l.fn.out;
+}

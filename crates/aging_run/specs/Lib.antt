@@ -1,0 +1,4 @@
+pub mod Aging
+pub mod Keeping
+pub mod Measuring
+pub mod Laws

@@ -1,0 +1,131 @@
+//! The lines of an aging run: its first, those of the overlaps, and its last.
+
+ghost use Rattle.std.specs.Prelude.{◌≡◌, ◌+◌, ◌<◌, ◌≤◌, [], ◌++◌, length, OnOk, OnErr};
+ghost use Rattle.glass_edges.specs.Causes.{HasCause};
+ghost use Rattle.glass_edges.specs.Contents.{appended, AppendsPrefix, PutsFront};
+ghost use Rattle.aging_run.specs.Aging as lines;
+ghost use Rattle.aging_run.specs.Measuring.{overlap_in};
+ghost use Rattle.report_text.specs.Lines.{kind_text};
+
+use glass_edges::{Fault, Line, Sink, put_all};
+use multispin_word::Planes;
+use scalar_rule::Plan;
+use threshold_table::RuleKind;
+
+/// Puts the first line, of a run whose spins are kept after `wait` sweeps.
+pub(crate) fn write_header<O: Sink>(
+    out: &mut O,
+    plan: &Plan,
+    samples: u32,
+    wait: u64,
+) -> Result<(), Fault>
+    ensures whole { OnOk result (O.taken out.new
+        ≡ appended (O.taken out.old) (lines.header_line plan.now samples wait)) }
+    ensures prefix { OnErr result
+        (AppendsPrefix (O.taken out.old) (O.taken out.new) (lines.header_line plan.now samples wait)) }
+    ensures cause { HasCause (O.faults out.old) (O.faults out.new) result }
+{
+    let mut line = Line::new();
+    fill_header(&mut line, plan, samples, wait);
+    line.put(out)
+}
+
+// Fills an empty line with the first.
+#[tactic(auto, unfolding(crate::specs::Aging::header_line))]
+fn fill_header(line: &mut Line, plan: &Plan, samples: u32, wait: u64)
+    requires { line.old ≡ [] }
+    ensures { line.new ≡ lines.header_line plan.now samples wait }
+{
+    line.add(b"age 1 size=");
+    line.number(plan.lattice().size() as u64);
+    line.add(b" slots=");
+    line.number(plan.slots() as u64);
+    line.add(b" samples=");
+    line.number(samples as u64);
+    line.add(b" rule=");
+    add_rule(line, plan);
+    line.add(b" tw=");
+    line.number(wait);
+    line.add(b"\n");
+}
+
+// Adds the word of the plan's dynamics.
+fn add_rule(line: &mut Line, plan: &Plan)
+    requires { length line.old + 10 ≤ 256 }
+    ensures text { line.new ≡ line.old ++ kind_text plan.now.rules.kind }
+    ensures short { length line.new ≤ length line.old + 10 }
+{
+    match plan.rules().kind() {
+        RuleKind::Heat => line.add(b"heat"),
+        RuleKind::Metropolis => line.add(b"metropolis"),
+    }
+}
+
+/// Adds the line of one sample in a replica at a time, from its agreeing sites, behind a text that is
+/// still to be put; what does not fit goes out in full buffers, and the rest stays.
+pub(crate) fn add_overlap<O: Sink>(
+    out: &mut O,
+    text: &mut Line,
+    slot: u32,
+    copy: u32,
+    time: u64,
+    sample: u32,
+    totals: &Planes<20>,
+    sites: u32,
+) -> Result<(), Fault>
+    requires { sample < 64 }
+    ensures front { OnOk result (PutsFront (O.taken out.old) (O.taken out.new)
+        (text.old ++ lines.overlap_line slot copy time sample (overlap_in totals.now.words sites sample)) text.new) }
+    ensures prefix { OnErr result (AppendsPrefix (O.taken out.old) (O.taken out.new)
+        (text.old ++ lines.overlap_line slot copy time sample (overlap_in totals.now.words sites sample))) }
+    ensures cause { HasCause (O.faults out.old) (O.faults out.new) result }
+{
+    let mut line = Line::new();
+    fill_overlap(&mut line, slot, copy, time, sample, totals, sites);
+    text.extend(out, line.as_slice())
+}
+
+// Fills an empty line with it.
+#[tactic(auto, unfolding(crate::specs::Aging::overlap_line))]
+fn fill_overlap(
+    line: &mut Line,
+    slot: u32,
+    copy: u32,
+    time: u64,
+    sample: u32,
+    totals: &Planes<20>,
+    sites: u32,
+)
+    requires line { line.old ≡ [] }
+    requires sample { sample < 64 }
+    ensures { line.new ≡ lines.overlap_line slot copy time sample (overlap_in totals.now.words sites sample) }
+{
+    line.add(b"age,");
+    line.number(slot as u64);
+    line.add(b",");
+    line.number(copy as u64);
+    line.add(b",");
+    line.number(time);
+    line.add(b",");
+    line.number(sample as u64);
+    line.add(b",");
+    line.signed(overlap_of(totals, sample, sites));
+    line.add(b"\n");
+}
+
+// Of one sample, twice the agreeing sites less all sites.
+fn overlap_of(totals: &Planes<20>, sample: u32, sites: u32) -> i64
+    requires { sample < 64 }
+    ensures { result ≡ overlap_in totals.now.words sites sample }
+{
+    2 * totals.number_at(sample) as i64 - sites as i64
+}
+
+/// Puts the last line.
+pub(crate) fn write_end<O: Sink>(out: &mut O) -> Result<(), Fault>
+    ensures whole { OnOk result (O.taken out.new ≡ appended (O.taken out.old) lines.end_line) }
+    ensures prefix { OnErr result (AppendsPrefix (O.taken out.old) (O.taken out.new) lines.end_line) }
+    ensures cause { HasCause (O.faults out.old) (O.faults out.new) result }
+{
+    put_all(out, b"end\n")
+}

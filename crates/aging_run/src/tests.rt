@@ -1,0 +1,219 @@
+//! Texts that were worked out by hand, and one against plain samples.
+
+ghost use Rattle.std.specs.Prelude.{◌≡◌, ◌+◌, ◌<◌, ◌≤◌, length, IfOk};
+ghost use Rattle.scalar_rule.specs.Plan.{slots_of};
+ghost use Rattle.scalar_rule.specs.Shape.{FitsCopy};
+
+use super::*;
+use coupling_set::Couplings;
+use glass_edges::MemorySink;
+use lattice_geometry::Lattice;
+use scalar_rule::{PlainCopy, Plan, Sample, Start, sweep};
+use std::alloc::Global;
+use std::test::Fail;
+use std::thread::Threads;
+use threshold_table::{RuleKind, RuleRow, RuleTable, SwapTable};
+
+const ALL: u64 = 4294967296;
+
+// Thresholds of heat bath that turn each spin against its field.
+const AGAINST: RuleRow = RuleRow {
+    values: [ALL, ALL, ALL, 0, 0, 0, 0],
+};
+
+// Thresholds at 0 to 6 aligned neighbours, and at 4 to 6 satisfied bonds.
+const HEAT: RuleRow = RuleRow {
+    values: [
+        0, 1000000000, 2000000000, 2500000000, 3000000000, 4294967295, ALL,
+    ],
+};
+
+const METROPOLIS: RuleRow = RuleRow {
+    values: [3000000000, 1500000000, 700000000, 0, 0, 0, 0],
+};
+
+// The ferromagnet of 64 sites in one slot, with spins against their fields.
+fn against(alloc: Global) -> Result<Plan, Fail> {
+    let lattice = Lattice::of(4)?;
+    let rules = RuleTable::from_rows(alloc, RuleKind::Heat, &[AGAINST])?;
+    let swaps = SwapTable::from_rows::<1>(alloc, &[])?;
+    let couplings = Couplings::plus(alloc, lattice)?;
+    Ok(Plan::new(lattice, rules, swaps, couplings, 1, 7))
+}
+
+// Two slots of the lattice of side 6 with random couplings.
+fn random(alloc: Global, kind: RuleKind) -> Result<Plan, Fail>
+    ensures { IfOk result (λ plan. slots_of plan ≡ 2) }
+{
+    let lattice = Lattice::of(6)?;
+    let rules = match kind {
+        RuleKind::Heat => RuleTable::from_rows(alloc, kind, &[HEAT, HEAT])?,
+        RuleKind::Metropolis => RuleTable::from_rows(alloc, kind, &[METROPOLIS, METROPOLIS])?,
+    };
+    if rules.slots() != 2 {
+        return Err("two slots".into());
+    }
+    let swaps = SwapTable::from_rows(alloc, &[[ALL; 4]])?;
+    let couplings = Couplings::random(alloc, lattice, 11)?;
+    Ok(Plan::new(lattice, rules, swaps, couplings, 1, 11))
+}
+
+// What is put at time 0 and a later one, by an output that fails at the puts with these numbers.
+fn aged<R: Threads + Sync>(
+    rt: &R,
+    alloc: Global,
+    plan: &Plan,
+    start: Start,
+    samples: u32,
+    wait: u64,
+    later: u64,
+    fails: Vec<u64>,
+) -> Result<MemorySink, Fail>
+    requires samples { (1 ≤ samples) × (samples ≤ 64) }
+    requires wait { wait ≤ 1000000 }
+    requires later { (1 ≤ later) × (later ≤ 1000000) }
+{
+    let mut out = MemorySink::new(alloc, 5000, 100, fails)?;
+    let aging = open_aging(alloc, plan, start)?;
+    let _ = write_aging(rt, aging, plan, samples, wait, &[0, later], &mut out);
+    Ok(out)
+}
+
+#[test]
+fn aging_from_the_quench(rt: HostRuntime) -> Result<(), Fail> {
+    let alloc = rt.alloc();
+    let plan = against(alloc)?;
+    let out = aged(&rt, alloc, &plan, Start::Up, 1, 0, 1, Vec::new(alloc))?;
+    assert_eq!(rt;
+        out.taken(),
+        b"age 1 size=4 slots=1 samples=1 rule=heat tw=0
+age,0,0,0,0,64
+age,0,0,1,0,0
+age,0,1,0,0,64
+age,0,1,1,0,0
+end
+"
+            .as_slice()
+    );
+    Ok(())
+}
+
+#[test]
+fn aging_after_one_sweep(rt: HostRuntime) -> Result<(), Fail> {
+    let alloc = rt.alloc();
+    let plan = against(alloc)?;
+    let out = aged(&rt, alloc, &plan, Start::Up, 1, 1, 1, Vec::new(alloc))?;
+    assert_eq!(rt;
+        out.taken(),
+        b"age 1 size=4 slots=1 samples=1 rule=heat tw=1
+age,0,0,0,0,64
+age,0,0,1,0,64
+age,0,1,0,0,64
+age,0,1,1,0,64
+end
+"
+            .as_slice()
+    );
+    Ok(())
+}
+
+// The second put takes none of the lines behind the first.
+#[test]
+fn aging_ends_where_the_output_fails(rt: HostRuntime) -> Result<(), Fail> {
+    let alloc = rt.alloc();
+    let plan = against(alloc)?;
+    let fails = Vec::from_slice(alloc, &[1])?;
+    let out = aged(&rt, alloc, &plan, Start::Up, 1, 0, 1, fails)?;
+    assert_eq!(rt;
+        out.taken(),
+        b"age 1 size=4 slots=1 samples=1 rule=heat tw=0\n".as_slice()
+    );
+    assert_eq!(rt; out.faults(), 1);
+    Ok(())
+}
+
+// So many sweeps of a replica of one sample.
+fn sweep_alone(replica: &mut PlainCopy, plan: &Plan, slot: u32, bit: u32, count: u64)
+    requires fits { FitsCopy plan.now.size replica.old }
+    requires slot { slot < slots_of plan.now }
+    requires bit { bit < 64 }
+    ensures { FitsCopy plan.now.size replica.new }
+{
+    'sweeps: for _ in 0..count {
+        sweep(replica, plan, bit, slot);
+    }
+}
+
+// The sum over the sites of the spin after `wait` sweeps times the spin `time` sweeps later.
+fn plain_overlap(
+    alloc: Global,
+    replica: &mut PlainCopy,
+    plan: &Plan,
+    slot: u32,
+    bit: u32,
+    wait: u64,
+    time: u64,
+) -> Result<i64, Fail>
+    requires fits { FitsCopy plan.now.size replica.old }
+    requires slot { slot < slots_of plan.now }
+    requires bit { bit < 64 }
+{
+    sweep_alone(replica, plan, slot, bit, wait);
+    let kept = replica.spins.as_slice().to_vec(alloc)?;
+    sweep_alone(replica, plan, slot, bit, time);
+    let mut sum = 0i64;
+    for (was, is) in kept.as_slice().iter().zip(replica.spins.as_slice()) {
+        sum = sum.wrapping_add(if was == is { 1 } else { -1 });
+    }
+    Ok(sum)
+}
+
+// The line of one sample in one of the two replicas of a slot, by the sample alone.
+fn plain_line(
+    alloc: Global,
+    plan: &Plan,
+    slot: u32,
+    copy: u32,
+    time: u64,
+    bit: u32,
+    wait: u64,
+) -> Result<String, Fail>
+    requires slot { slot < slots_of plan.now }
+    requires bit { bit < 64 }
+{
+    let mut sample = Sample::opening(alloc, plan, bit, Start::Random)?;
+    let duo = sample.slots.at_mut(slot as usize);
+    let replica = if copy == 0 {
+        &mut duo.first
+    } else {
+        &mut duo.second
+    };
+    let sum = plain_overlap(alloc, replica, plan, slot, bit, wait, time)?;
+    Ok(format!(in alloc; "age,{slot},{copy},{time},{bit},{sum}\n")?)
+}
+
+#[test]
+fn random_samples_age_as_plain_ones(rt: HostRuntime) -> Result<(), Fail> {
+    let alloc = rt.alloc();
+    for (kind, rule) in [
+        (RuleKind::Heat, "heat"),
+        (RuleKind::Metropolis, "metropolis"),
+    ] {
+        let plan = random(alloc, kind)?;
+        let out = aged(&rt, alloc, &plan, Start::Random, 3, 2, 3, Vec::new(alloc))?;
+        let mut text = format!(in alloc; "age 1 size=6 slots=2 samples=3 rule={rule} tw=2\n")?;
+        for slot in 0..2 {
+            for copy in 0..2 {
+                for time in [0, 3] {
+                    for bit in 0..3 {
+                        let line = plain_line(alloc, &plan, slot, copy, time, bit, 2)?;
+                        text.push_str(line.as_str())?;
+                    }
+                }
+            }
+        }
+        text.push_str("end\n")?;
+        assert!(rt; out.taken() == text.as_str().as_bytes(), "{rule}");
+    }
+    Ok(())
+}
