@@ -1,0 +1,7 @@
+pub mod Cases
+pub mod Colours
+pub mod Sites
+pub mod NeighbourPlaces
+pub mod Sweeps
+pub mod Samples
+mod KnownValues

@@ -1,0 +1,5 @@
+pub mod Potts
+pub mod PackedColours
+pub mod PottsStates
+pub mod Kept
+pub mod PottsText

@@ -1,0 +1,18 @@
+//! The four-state Potts glass for 64 disorder samples at once, on the words, counts and generators
+//! of the spin glass.
+#![tactic(auto)]
+
+mod energy;
+mod potts;
+mod report;
+mod start;
+mod surroundings;
+mod sweeping;
+#[cfg(test)]
+mod tests;
+mod update;
+
+pub use potts::Potts;
+pub use report::write_potts;
+pub use start::PottsStart;
+pub use update::{PottsRow, potts_update};
