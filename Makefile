@@ -1,10 +1,25 @@
-# make        builds the program as ./glass, for this processor
-# make run    builds it and runs the study of examples/ising_4
-# make clean  removes the program; what was proved is kept
+# make            builds the program as ./glass, for this processor
+# make run        builds it and runs the study of examples/ising_4
+# make install    puts the program, the tools and the manual page below PREFIX, which is /usr/local
+# make uninstall  takes them away from there
+# make clean      removes the program; what was proved is kept
+#
+# make install PREFIX=$HOME/.local     for one user;  DESTDIR goes in front of PREFIX for those who make packages
+# make install PROGRAM=FILE            another program than ./glass
 
 SOURCES := $(shell find crates -path '*/out' -prune -o \( -name '*.rt' -o -name '*.antt' \) -print)
 
-.PHONY: all run clean
+PREFIX ?= /usr/local
+PROGRAM ?= glass
+BIN := $(DESTDIR)$(PREFIX)/bin
+SHARE := $(DESTDIR)$(PREFIX)/share/glass
+MAN := $(DESTDIR)$(PREFIX)/share/man/man1
+# A tool is the command glass-NAME; the modules that it needs lie beside it.
+TOOLS := long_run make_seeds describe make_tables analyse jackknife couplings
+COMMANDS := $(addprefix $(BIN)/glass-,$(subst _,-,$(TOOLS)))
+MODULES := $(wildcard tools/*.py)
+
+.PHONY: all run install uninstall clean
 all: glass
 
 glass: $(SOURCES) crates.txt tools/build
@@ -12,6 +27,19 @@ glass: $(SOURCES) crates.txt tools/build
 
 run: glass
 	@examples/ising_4/study
+
+install: $(PROGRAM)
+	install -d $(BIN) $(SHARE)/tools $(MAN)
+	install -m 755 $(PROGRAM) $(BIN)/glass
+	install -m 644 $(MODULES) $(SHARE)/tools
+	chmod 755 $(TOOLS:%=$(SHARE)/tools/%.py)
+	for tool in $(TOOLS); do \
+	    ln -sf "../share/glass/tools/$$tool.py" "$(BIN)/glass-$$(echo $$tool | tr _ -)" || exit 1; done
+	install -m 644 docs/manual/glass.1 $(MAN)/glass.1
+
+uninstall:
+	rm -f $(BIN)/glass $(COMMANDS) $(MAN)/glass.1 $(MODULES:tools/%=$(SHARE)/tools/%)
+	! test -d $(SHARE)/tools || rmdir $(SHARE)/tools $(SHARE)
 
 clean:
 	rm -f glass

@@ -4,8 +4,9 @@ prints or from a report.
 
     glass average report.txt 16 | python3 tools/jackknife.py --temperatures 1.2 1.5
     python3 tools/jackknife.py report.txt --blocks 16 --temperatures 1.2 1.5
+    python3 tools/jackknife.py seed-*/report --skip 1000 --temperatures 1.2 1.5
 
-Both print the same. For each slot, the coldest first, each with its error:
+The first two print the same. For each slot, the coldest first, each with its error:
   energy    mean energy per site of one replica, in units of the coupling
   q^2, q^4  mean powers of the overlap of the two replicas, q per site, from -1 to 1
   Binder    (3 - [q^4] / [q^2]^2) / 2, with [..] the mean over epochs and samples
@@ -15,8 +16,9 @@ x_k from the rows of all samples but those of block k. With K blocks and the mea
 error is the root of (K - 1) / K times the sum of (x_k - m)^2 (B. Efron, The Jackknife, the Bootstrap
 and Other Resampling Plans, SIAM 1982). With one block there is none.
 
-The error is over the disorder: it takes the samples as independent. Those of one run share each
-random number, so compare it with that of several seeds (tools/analyse.py).
+The error of one file is over the disorder: it takes the samples as independent. Those of one run share
+each random number, so compare it with that of several seeds. Of several files, which must differ in their
+seeds alone, each is one block, and the error is over the seeds.
 """
 import argparse
 import math
@@ -122,9 +124,34 @@ def read(name, stream, options):
         if options.blocks is not None or options.skip:
             raise Refusal(f"{name} has sums: their blocks and rows are chosen already")
         return SumsFile(name, stream).read()
-    if options.blocks is None:
+    if options.blocks is None and len(options.files) < 2:
         raise Refusal(f"{name} has no sums of glass average; for a report give --blocks")
-    return sums_of_report(name, stream, options.blocks, options.skip)
+    return sums_of_report(name, stream, options.blocks or 1, options.skip)
+
+
+def read_named(name, options):
+    if name == "-":
+        return read("standard input", sys.stdin.buffer, options)
+    try:
+        with open(name, "rb") as stream:
+            return read(name, stream, options)
+    except OSError as fault:
+        raise Refusal(f"{name} can't be read: {fault.strerror}") from None
+
+
+def joined(names, parts):
+    """The sums of several files, each of which is a block."""
+    first, seen = parts[0], {}
+    for name, part in zip(names, parts):
+        if (part.size, part.slots, part.samples, part.rows) != (first.size, first.slots, first.samples, first.rows):
+            raise Refusal(f"{name} is of another run than {names[0]}: sizes, samples or rows differ")
+        other = seen.setdefault(tuple(part.totals), name)
+        if other is not name:
+            raise Refusal(f"{name} has the same sums as {other}: files must differ in their seeds")
+    totals = [together(part.totals[slot] for part in parts) for slot in range(first.slots)]
+    without = [[outside(totals[slot], part.totals[slot]) for part in parts] for slot in range(first.slots)]
+    count = len(parts)
+    return Averages(first.size, first.slots, first.samples * count, count, first.rows * count, totals, without)
 
 
 # ---------------------------------------------------------------- values and errors
@@ -169,14 +196,11 @@ def jackknife(options):
     betas = inverse_temperatures(options)
     if options.blocks is not None and not 1 <= options.blocks <= MOST_BLOCKS:
         raise Refusal(f"{options.blocks} blocks, and there are 1 to {MOST_BLOCKS}")
-    if options.file == "-":
-        averages = read("standard input", sys.stdin.buffer, options)
-    else:
-        try:
-            with open(options.file, "rb") as stream:
-                averages = read(options.file, stream, options)
-        except OSError as fault:
-            raise Refusal(f"{options.file} can't be read: {fault.strerror}") from None
+    if options.blocks is not None and len(options.files) > 1:
+        raise Refusal("of several files each is a block: --blocks is for one")
+    options.files = options.files or ["-"]
+    parts = [read_named(name, options) for name in options.files]
+    averages = joined(options.files, parts) if len(parts) > 1 else parts[0]
     if betas and len(betas) != averages.slots:
         raise Refusal(f"{len(betas)} temperatures, and there are {averages.slots} slots")
     if not averages.rows:
@@ -188,8 +212,8 @@ def jackknife(options):
 def main(words=None):
     parser = OneLineParser(prog="jackknife", description=__doc__, allow_abbrev=False,
                            formatter_class=argparse.RawDescriptionHelpFormatter)
-    parser.add_argument("file", nargs="?", default="-", metavar="FILE",
-                        help="what glass average printed, or a report; - for standard input (the default)")
+    parser.add_argument("files", nargs="*", metavar="FILE",
+                        help="what glass average printed, or a report; - for standard input (the default); or several")
     add_temperatures(parser)
     parser.add_argument("--blocks", type=int, metavar="K", help="of a report: the number of blocks of its samples")
     parser.add_argument("--skip", type=int, default=0, metavar="EPOCH",

@@ -22,10 +22,10 @@ end
 """
 
 
-def glass_report(epochs):
+def glass_report(epochs, seed=20240611):
     """A report of a small glass, and its rows as (epoch, sample, slot, E0, E1, q)."""
     tables, swaps = demo_rows(SLOTS)
-    samples = [Tempering(SIZE, "metropolis", tables, swaps, 1, 20240611, b, "random", b) for b in range(SAMPLES)]
+    samples = [Tempering(SIZE, "metropolis", tables, swaps, 1, seed, b, "random", b) for b in range(SAMPLES)]
     lines = [f"glass 1 size={SIZE} slots={SLOTS} samples={SAMPLES} rule=metropolis from=0 to={epochs}"]
     rows = []
     for epoch in range(epochs):
@@ -80,6 +80,24 @@ def check_values(checks, caller, report, rows):
         checks.same(f"slot {t}: values", len(printed), len(wanted))
 
 
+def check_several(checks, caller):
+    """Of several files the error of the energy is the standard error of the files' means."""
+    reports = [glass_report(8, seed) for seed in (1, 2, 3)]
+    texts = [text for text, _ in reports]
+    out = caller.call(texts)[1].splitlines()
+    checks.same("first line", out[0], f"size {SIZE}, slots {SLOTS}, samples {3 * SAMPLES}, blocks 3, rows {3 * len(reports[0][1])}")
+    for t in range(SLOTS):
+        means = [statistics.mean((r[3] + r[4]) / 2 / VOLUME for r in rows if r[2] == t) for _, rows in reports]
+        printed = [float(text) for text in out[2 + t].split()[1:3]]
+        for value, got in zip((statistics.mean(means), statistics.stdev(means) / math.sqrt(3)), printed):
+            checks.same(f"slot {t}, {got} of three", abs(value - got) < 0.6e-6, True)
+    sums = [sums_text(rows, blocks) for (_, rows), blocks in zip(reports, (1, 2, 5))]
+    checks.same("three sums", caller.call(sums), caller.call(texts))
+    for several, words in ((texts[:2] + texts[:1], []), (texts, ["--blocks", "3"]), ([texts[0], glass_report(7, 4)[0]], [])):
+        status, out, err = caller.call(several, *words)
+        checks.same(f"{words} of several is refused", (status, out, err.count("\n"), err[:11]), (2, "", 1, "jackknife: "))
+
+
 def check_refusals(checks, caller, report, sums):
     lines = sums.splitlines()
     for n in range(len(lines)):
@@ -111,6 +129,7 @@ def self_test(main):
         report, rows = glass_report(8)
         check_agreement(checks, caller, report, rows)
         check_values(checks, caller, report, rows)
+        check_several(checks, caller)
         check_refusals(checks, caller, report, sums_text(rows, 2))
         stdin, sys.stdin = sys.stdin, io.TextIOWrapper(io.BufferedReader(io.BytesIO(SUMS_BY_HAND.encode())))
         piped = outcome([], main)

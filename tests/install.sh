@@ -1,0 +1,37 @@
+#!/usr/bin/env bash
+# Installs the program, the tools and the manual page below a new folder, uses them there, and takes them away.
+#
+#     tests/install.sh [PROGRAM]
+#
+# Status: 0 where all is right, also that nothing is left; 1 where something is not; 2 where there is no program.
+set -u
+cd "$(dirname "$0")/.." || exit 1
+program=${1:-$(tests/program.sh)}
+[ -x "$program" ] || { echo "install: there is no program $program: build it first; nothing was tested" >&2; exit 2; }
+command -v make >/dev/null || { echo "install: NOT RUN, nothing was tested: make is missing"; exit 0; }
+program=$(readlink -f "$program")
+place=$(mktemp -d)
+trap 'rm -rf "$place"' EXIT
+fail() {
+    echo "install: FAILED: $1" >&2
+    exit 1
+}
+
+make -s install DESTDIR="$place/stage" PREFIX=/opt/glass PROGRAM="$program" || fail "make install"
+at=$place/stage/opt/glass
+cmp "$program" "$at/bin/glass" || fail "the program is another"
+[ -f "$at/share/man/man1/glass.1" ] || fail "there is no manual page"
+for tool in "$at"/bin/glass-*; do
+    "$tool" --help >/dev/null || fail "$tool --help"
+done
+# A run by the installed tools alone: they find the program beside them.
+mkdir "$place/template" || exit 1
+cp examples/glass_8/run.toml examples/glass_8/*.csv "$place/template"
+unset GLASS
+"$at/bin/glass-make-seeds" "$place/template/run.toml" --into "$place/study" >/dev/null || fail "glass-make-seeds"
+"$at/bin/glass-long-run" run "$place/study/seed-0001" >/dev/null || fail "glass-long-run"
+"$at/bin/glass-describe" "$place/study/seed-0001" | grep -q whole || fail "glass-describe"
+make -s uninstall DESTDIR="$place/stage" PREFIX=/opt/glass || fail "make uninstall"
+[ -z "$(find "$place/stage" ! -type d)" ] || fail "something is left: $(find "$place/stage" ! -type d)"
+[ ! -e "$at/share/glass" ] || fail "a folder is left"
+echo "install: passed"

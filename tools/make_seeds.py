@@ -1,0 +1,177 @@
+#!/usr/bin/env python3
+"""Makes the folders of an array of runs, one for each seed and couplings file, from a template.
+
+    python3 tools/make_seeds.py run.toml --count 100 --into study
+    python3 tools/make_seeds.py run.toml --count 20 --couplings a.couplings b.couplings --into study
+
+The folders are study/seed-0001, seed-0002 and so on. Each has the template's run file with a seed of its own,
+which is the template's seed plus the folder's number, and copies of its tables. With couplings files each is
+taken with --count seeds: the first --count folders have the first file, the next ones the second. A couplings
+file is linked where the file system can, so that it takes its room once. index.csv in the same place lists
+folders, seeds and couplings.
+
+--first begins at another number, so that a study is made larger. A folder that is there is never touched.
+"""
+from __future__ import annotations
+
+import argparse
+import os
+import re
+import shutil
+import sys
+import tempfile
+from pathlib import Path
+from typing import List, Optional, Sequence, Tuple
+
+sys.dont_write_bytecode = True
+from long_run_folder import Fault, Value, read_keys  # noqa: E402
+from make_tables import Checks, OneLineParser, Refusal, outcome  # noqa: E402
+
+GREATEST_SEED = 2 ** 63 - 1
+GREATEST_NUMBER = 9999
+INDEX = "index.csv"
+
+
+def with_value(text: str, key: str, value: Value) -> str:
+    """The run file's text with another value of a key, which has a line of its own."""
+    spelled = f'"{value}"' if isinstance(value, str) else str(value)
+    line = re.compile(rf"^([ \t]*{key}[ \t]*=[ \t]*)[^#\n]*?([ \t]*(?:#[^\n]*)?)$", re.M)
+    text, count = line.subn(lambda found: f"{found[1]}{spelled}{found[2]}", text)
+    if count != 1:
+        raise Refusal(f"the template has {count} lines `{key} = ..`, and one is to be changed")
+    return text
+
+
+def place(source: Path, to: Path, link: bool) -> None:
+    if link:
+        try:
+            os.link(source, to)
+            return
+        except OSError:
+            pass
+    shutil.copyfile(source, to)
+
+
+def tasks(options: argparse.Namespace, base: int) -> List[Tuple[int, int, Optional[Path]]]:
+    """The number, seed and couplings file of each folder."""
+    files: Sequence[Optional[Path]] = [Path(name) for name in options.couplings or []] or [None]
+    numbers = range(options.first, options.first + options.count * len(files))
+    found = [(number, base + number, files[n // options.count]) for n, number in enumerate(numbers)]
+    if options.count < 1 or options.first < 0 or found[-1][0] > GREATEST_NUMBER:
+        raise Refusal(f"numbers of folders are from 0 to {GREATEST_NUMBER}")
+    if found[-1][1] > GREATEST_SEED:
+        raise Refusal(f"seed {found[-1][1]} is above {GREATEST_SEED}")
+    return found
+
+
+def make_folder(path: Path, template: Path, seed: int, couplings: Optional[Path]) -> None:
+    """A folder of a run, checked by reading its run file again."""
+    keys = read_keys(template)
+    text = with_value(template.read_text(encoding="utf-8"), "seed", seed)
+    wanted = dict(keys, seed=seed)
+    if couplings is not None:
+        wanted["couplings"] = f"file:{couplings.name}"
+        text = with_value(text, "couplings", wanted["couplings"])
+    path.mkdir()
+    (path / "run.toml").write_text(text, encoding="utf-8")
+    if read_keys(path / "run.toml") != wanted:
+        raise Refusal(f"{template} has a line that isn't plain: another key would change with the seed")
+    for name in {str(keys["rules"]), str(keys["swaps"])}:
+        place(template.parent / name, path / name, link=False)
+    own = str(wanted["couplings"])
+    if own.startswith("file:"):
+        source = couplings if couplings is not None else template.parent / own[5:]
+        place(source, path / source.name, link=True)
+
+
+def make(options: argparse.Namespace) -> None:
+    template, into = Path(options.template), Path(options.into)
+    keys = read_keys(template)
+    for name in (str(keys["rules"]), str(keys["swaps"])):
+        if os.path.basename(name) != name:
+            raise Refusal(f"{template} names {name}, which is in another folder")
+    found = tasks(options, int(keys["seed"]))
+    taken = [number for number, _, _ in found if (into / f"seed-{number:04d}").exists()]
+    if taken:
+        raise Refusal(f"{into / f'seed-{taken[0]:04d}'} is there: give --first a number above it")
+    into.mkdir(parents=True, exist_ok=True)
+    index = into / INDEX
+    is_new = not index.exists()
+    with open(index, "a", encoding="utf-8") as lines:
+        if is_new:
+            lines.write("number,folder,seed,couplings\n")
+        for number, seed, couplings in found:
+            make_folder(into / f"seed-{number:04d}", template, seed, couplings)
+            lines.write(f"{number},seed-{number:04d},{seed},{couplings.name if couplings else keys['couplings']}\n")
+    print(f"wrote {len(found)} folders, {into}/seed-{found[0][0]:04d} to seed-{found[-1][0]:04d}, "
+          f"seeds {found[0][1]} to {found[-1][1]}")
+
+
+# ---------------------------------------------------------------- the self-test
+
+TEMPLATE = """size = 4
+rule = "heat"
+rules = "rules.csv"
+swaps = "swaps.csv"
+couplings = "random"  # drawn from the seed
+sweeps = 1
+seed = 1000 # the base
+samples = 2
+epochs = 4
+every = 1
+start = "up"
+spins = false
+"""
+
+
+def self_test() -> int:
+    checks = Checks("make_seeds")
+    with tempfile.TemporaryDirectory() as name:
+        folder = Path(name)
+        for file, text in (("run.toml", TEMPLATE), ("rules.csv", "1\n"), ("swaps.csv", ""), ("a", "A"), ("b", "B")):
+            (folder / file).write_text(text)
+        template, into = str(folder / "run.toml"), folder / "study"
+        words = [template, "--into", str(into), "--count", "2"]
+        checks.same("two seeds", outcome(words, main)[0], 0)
+        text = (into / "seed-0002" / "run.toml").read_text()
+        checks.same("only the seed's line differs", text, TEMPLATE.replace("1000", "1002"))
+        checks.same("its files", sorted(os.listdir(into / "seed-0002")), ["rules.csv", "run.toml", "swaps.csv"])
+        checks.same("a folder is there", outcome(words, main)[0], 2)
+        more = [*words, "--first", "3", "--couplings", str(folder / "a"), str(folder / "b")]
+        checks.same("two files with two seeds each", outcome(more, main)[0], 0)
+        keys = read_keys(into / "seed-0005" / "run.toml")
+        fifth = (keys["seed"], keys["couplings"], (into / "seed-0005" / "b").read_text())
+        checks.same("the fifth", fifth, (1005, "file:b", "B"))
+        checks.same("the index", (into / INDEX).read_text().splitlines()[-1], "6,seed-0006,1006,b")
+        (folder / "run.toml").write_text(TEMPLATE.replace("seed = 1000 # the base", '"seed" = 1000'))
+        checks.same("no plain line", outcome([*words, "--first", "7"], main)[0], 2)
+    return checks.end()
+
+
+def main(words: Optional[Sequence[str]] = None) -> int:
+    parser = OneLineParser(prog="make_seeds", description=__doc__, allow_abbrev=False,
+                           formatter_class=argparse.RawDescriptionHelpFormatter)
+    parser.add_argument("template", nargs="?", metavar="RUN", help="the template's run file; its tables lie beside it")
+    parser.add_argument("--count", type=int, default=1, metavar="N", help="seeds, for each couplings file (1)")
+    parser.add_argument("--first", type=int, default=1, metavar="I", help="the first folder's number (1)")
+    parser.add_argument("--couplings", nargs="+", metavar="FILE", help="couplings files")
+    parser.add_argument("--into", default=".", metavar="FOLDER", help="where the folders are made (.)")
+    parser.add_argument("--self-test", action="store_true", help="make folders and look at them")
+    try:
+        options = parser.parse_args(words)
+        if options.self_test:
+            return self_test()
+        if options.template is None:
+            raise Refusal("a run file is needed; --help says more")
+        make(options)
+    except (Refusal, Fault) as refusal:
+        print(f"make_seeds: {refusal}", file=sys.stderr)
+        return 2
+    except OSError as fault:
+        print(f"make_seeds: {fault.filename}: {fault.strerror}", file=sys.stderr)
+        return 2
+    return 0
+
+
+if __name__ == "__main__":
+    sys.exit(main())
