@@ -6,9 +6,12 @@ use Rattle.glass_edges.specs.Causes.{Rose}
 use Rattle.glass_edges.specs.Contents.{Files, HoldsFile, LacksFile, HoldsAtLeast}
 use Rattle.glass_edges.specs.declared.shelf.Fetched.{Fetched}
 use Rattle.glass_edges.specs.declared.shelf.Fetched.TheVariants as answer
-use Rattle.glass_main.specs.Endings.{IsOfRun}
+use Rattle.glass_main.specs.Endings.{IsOfFile}
 use Rattle.glass_main.specs.declared.role.Role.{Role}
+use Rattle.glass_main.specs.declared.role.Role.TheVariants as roles
+use Rattle.glass_main.specs.declared.refusal.Refusal.{Refusal}
 use Rattle.glass_main.specs.declared.refusal.Refusal.TheVariants.{Absent, TooLong}
+use Rattle.glass_main.specs.declared.refusal.Refusal.TheVariants as refused
 use Rattle.glass_main.specs.Gathers.{Gathers, Fetches, gathered}
 use Rattle.glass_main.specs.declared.ending.Ending.{Ending}
 use Rattle.glass_main.specs.Request.{limit_of, bytes_in, bytes_at}
@@ -36,12 +39,12 @@ pub bytes-too_many : (role : Role) (held : Option Files) (name : List ℕ) (n : 
 bytes-too_many role None name n above h = tt
 bytes-too_many role (Some files) name n above (bytes, is, least) =
     let past : limit_of role < length bytes = omega (arith, above, least) in
-    let refused = ap (bytes_in role) is ∙ ap (λ b. if b then Ok bytes else Err (TooLong role (length bytes))) (long (length bytes) (limit_of role) past) in
-    subst (λ a. IsRefusedBy {A = List ℕ} a (TooLong role n)) (sym refused) (n, refl, above, least)
+    let due = ap (bytes_in role) is ∙ ap (λ b. if b then Ok bytes else Err (TooLong role (length bytes))) (long (length bytes) (limit_of role) past) in
+    subst (λ a. IsRefusedBy {A = List ℕ} a (TooLong role n)) (sym due) (n, refl, above, least)
 
 -- a fetch, and what is made of its answer, are a step that reads one file
 pub gathers_fetched : (role : Role) (name : List ℕ) (held holds : Option Files) (before now : ℕ) (lengths later_lengths : List ℕ → ℕ → Option ℕ) (limit : ℕ) (fetched : Fetched) (result : Result (List ℕ) Ending)
-    → IsOfRun role → result ≡ gathered role fetched → limit ≡ limit_of role
+    → result ≡ gathered role fetched → limit ≡ limit_of role
     → ((v : Vec ℕ Global) → fetched ≡ answer.Held v → HoldsFile held name v.items)
     → ((v : Vec ℕ Global) → fetched ≡ answer.Held v → length v.items ≤ limit)
     → (fetched ≡ answer.Absent → LacksFile held name)
@@ -52,7 +55,7 @@ pub gathers_fetched : (role : Role) (name : List ℕ) (held holds : Option Files
     → (¬ (fetched ≡ answer.Failed) → now ≡ before)
     → before ≤ now → holds ≡ held → later_lengths ≡ lengths
     → Gathers (option_map (bytes_at role name) held) (Fetches role) result (record { holds = held; faults = before; lengths = lengths }) (record { holds = holds; faults = now; lengths = later_lengths })
-gathers_fetched role name held holds before now lengths later_lengths limit (answer.Held v) result run is most found within absent above long length_told failed quiet later same stay = rw is (record {
+gathers_fetched role name held holds before now lengths later_lengths limit (answer.Held v) result is most found within absent above long length_told failed quiet later same stay = rw is (record {
   found = bytes-found role held name v.items (found v refl) (subst (λ n. length v.items ≤ n) most (within v refl));
   passed = quiet (λ e. search rules);
   stopped = tt;
@@ -60,25 +63,25 @@ gathers_fetched role name held holds before now lengths later_lengths limit (ans
   lengths = stay;
   later = later;
 })
-gathers_fetched role name held holds before now lengths later_lengths limit answer.Absent result run is most found within absent above long length_told failed quiet later same stay = rw is (record {
+gathers_fetched role name held holds before now lengths later_lengths limit answer.Absent result is most found within absent above long length_told failed quiet later same stay = rw is (record {
   found = tt;
   passed = tt;
-  stopped = ((run, bytes-absent role held name (absent refl)), quiet (λ e. search rules), tt);
+  stopped = ((refl, bytes-absent role held name (absent refl)), quiet (λ e. search rules), tt);
   same = same;
   lengths = stay;
   later = later;
 })
-gathers_fetched role name held holds before now lengths later_lengths limit (answer.TooLong n) result run is most found within absent above long length_told failed quiet later same stay =
+gathers_fetched role name held holds before now lengths later_lengths limit (answer.TooLong n) result is most found within absent above long length_told failed quiet later same stay =
     let past = subst (λ m. m < n) most (above n refl) in
     rw is (record {
       found = tt;
       passed = tt;
-      stopped = (((run, past), bytes-too_many role held name n past (long n refl)), quiet (λ e. search rules), (name, subst (λ m. IfSome (lengths name m) (λ told. n ≡ told)) most (length_told n refl)));
+      stopped = (((refl, past), bytes-too_many role held name n past (long n refl)), quiet (λ e. search rules), (name, subst (λ m. IfSome (lengths name m) (λ told. n ≡ told)) most (length_told n refl)));
       same = same;
       lengths = stay;
       later = later;
     })
-gathers_fetched role name held holds before now lengths later_lengths limit answer.Failed result run is most found within absent above long length_told failed quiet later same stay = rw is (record {
+gathers_fetched role name held holds before now lengths later_lengths limit answer.Failed result is most found within absent above long length_told failed quiet later same stay = rw is (record {
   found = tt;
   passed = tt;
   stopped = (refl, failed refl);
@@ -86,7 +89,7 @@ gathers_fetched role name held holds before now lengths later_lengths limit answ
   lengths = stay;
   later = later;
 })
-gathers_fetched role name held holds before now lengths later_lengths limit answer.NoMemory result run is most found within absent above long length_told failed quiet later same stay = rw is (record {
+gathers_fetched role name held holds before now lengths later_lengths limit answer.NoMemory result is most found within absent above long length_told failed quiet later same stay = rw is (record {
   found = tt;
   passed = tt;
   stopped = quiet (λ e. search rules);
@@ -94,3 +97,17 @@ gathers_fetched role name held holds before now lengths later_lengths limit answ
   lengths = stay;
   later = later;
 })
+
+-- ---- steps that fetch more
+
+-- a refusal of a file that a step fetches is one of a file that a longer one fetches
+pub of-file-wider : (fetches more : Role → Type 0) (told : Refusal) → ((role : Role) → fetches role → more role) → IsOfFile fetches told → IsOfFile more told
+of-file-wider fetches more refused.Words wider h = h
+of-file-wider fetches more (refused.Absent role) wider h = wider role h
+of-file-wider fetches more (refused.TooLong role n) wider h = (wider role h.0, h.1)
+of-file-wider fetches more (refused.Plan e) wider h = (wider roles.RunFile h.0, h.1)
+of-file-wider fetches more (refused.Rules e) wider h = (wider roles.RuleTable h.0, h.1)
+of-file-wider fetches more (refused.Swaps e) wider h = (wider roles.SwapTable h.0, h.1)
+of-file-wider fetches more (refused.Couplings e) wider h = (wider roles.Couplings h.0, h.1)
+of-file-wider fetches more (refused.Checkpoint e) wider h = (wider roles.Checkpoint h.0, h.1)
+of-file-wider fetches more (refused.Report e) wider h = h

@@ -4,11 +4,14 @@ pub mod Fetching
 pub mod SwapPairs
 pub mod PrintedBytes
 pub mod LongLines
+pub mod StoppedRuns
 pub mod OpenedRuns
 pub mod DemoRuns
 pub mod Resumed
 pub mod Amounts
 pub mod RunEndings
+pub mod AddingUp
+pub mod ReadStops
 pub mod SaidWords
 pub mod Reports
 pub mod ReportRows

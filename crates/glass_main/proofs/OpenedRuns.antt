@@ -1,5 +1,5 @@
 -- The report and the checkpoint of a run that is opened as it is to be, and the epoch at which its starting state begins.
-use Rattle.std.proofs.Common.{◌≡◌, ℕ, ◌<◌, ◌≤◌, false, List, length, Option, ap, sym, ◌∙◌, subst, arith}
+use Rattle.std.proofs.Common.{◌≡◌, ℕ, ◌<◌, ◌≤◌, false, List, length, Option, Some, None, ap, ap₂, sym, ◌∙◌, subst, arith}
 use Rattle.std.proofs.lemmas.List.{length-map, length-replicate, get_or-replicate, ext_get_or}
 use Rattle.run_checkpoint.specs.Encoding.{encoding}
 use Rattle.run_plan.specs.declared.run_file.Orders.{Orders}
@@ -16,24 +16,26 @@ use Rattle.plane_sweep.specs.Uneven.{place_at, position_of, positions_of, uneven
 use Rattle.plane_sweep.specs.declared.stand.Stand.{Stand}
 use Rattle.plane_sweep.specs.declared.uneven.RaggedStand.{RaggedStand}
 use Rattle.plane_sweep.proofs.LevelStands.{level-floor, position-at}
-use Rattle.exchange_board.specs.Answers.{start_place, stages_of}
-use Rattle.exchange_board.specs.Machine.{AllEnded}
+use Rattle.exchange_board.specs.Answers.{start_place}
 use Rattle.exchange_board.specs.Views.{RaggedEndedView}
+use Rattle.exchange_board.proofs.Cells.{floor-deep}
 use Rattle.glass_engine.specs.Laws.{UnstoppedRunIsWhole, LevelReportIsSerial}
 use Rattle.glass_engine.specs.Report.{report, uneven_report, run_report}
 use Rattle.glass_engine.specs.Runs.{RunView, starts, IsEnd}
-use Rattle.glass_engine.specs.Saves.{checkpoint, WholeCheckpointIsTheRules, LevelCheckpointIsSerial}
+use Rattle.glass_engine.specs.Saves.{checkpoint, written, WholeCheckpointIsTheRules, LevelCheckpointIsSerial}
 use Rattle.glass_engine.specs.declared.run.SaveKind.TheVariants as saves
 use Rattle.glass_engine.proofs.WholeRuns.{rest-at}
 use Rattle.glass_main.specs.Beginnings.{Beginning, Level, Uneven, begins_at, all_at, run_text, run_checkpoint, IsBaseOf}
-use Rattle.glass_main.specs.Opened.{IsOpened, IsRunOf}
+use Rattle.glass_main.specs.Opened.{saves_as, IsOpened, text_at, bytes_at, Comes, IsRunOf}
+use Rattle.glass_main.specs.Stops.{RunGives}
+use Rattle.glass_main.proofs.StoppedRuns.{base-floor, base-text, stopped-report, comes-packed, comes-from}
 use Rattle.glass_main.specs.declared.planned.Planned.{Planned}
 use Rattle.glass_main.specs.declared.finishing.Opened.{Opened}
 
 -- an opened run is one of what it starts from
-pub run-of : (planned : Planned) (base : RaggedStand) (e : ℕ) (name : Option (List ℕ)) (opened : Opened) (from : Beginning) → IsOpened planned base e name opened
-    → IsBaseOf planned.plan from base → IsRunOf planned from e opened.run
-run-of planned base e name opened from o begun = record {
+pub run-of : (stop_after : Option ℕ) (planned : Planned) (base : RaggedStand) (e : ℕ) (name : Option (List ℕ)) (opened : Opened) (from : Beginning)
+    → IsOpened planned base e stop_after name opened → IsBaseOf planned.plan from base → IsRunOf stop_after planned from e opened.run
+run-of stop_after planned base e name opened from o begun = record {
   plan = o.plan;
   orders = o.orders;
   until = o.until;
@@ -55,9 +57,9 @@ ended-at run d whole takes e =
     rest-at d.stand.places t run.until known (w.places t (subst (λ k. t < k) (sym (length-map d.stand.places start_place)) known))
     ∙ sym (get_or-replicate n t there _ (subst (λ k. t < k) places known)))
 
--- its report is that of the states that it starts from
-pub report-of : (whole : UnstoppedRunIsWhole) (law : LevelReportIsSerial) (planned : Planned) (from : Beginning) (e : ℕ) (run : RunView) (d : RaggedEndedView)
-    → IsRunOf planned from e run → IsEnd run d → run_report run (positions_of d.stand) ≡ run_text planned from e
+-- the report of a run that isn't to stop is that of the states that it starts from
+report-of : (whole : UnstoppedRunIsWhole) (law : LevelReportIsSerial) (planned : Planned) (from : Beginning) (e : ℕ) (run : RunView) (d : RaggedEndedView)
+    → IsRunOf None planned from e run → IsEnd run d → run_report run (positions_of d.stand) ≡ run_text planned from e
 report-of whole law planned (Level start) e run d o end =
     let b = o.base in
     let F : Plan → Type 0 = λ p. StandFits p b.stand in
@@ -75,8 +77,8 @@ report-of whole law planned (Uneven stand) e run d o end =
     ∙ ap (λ n. text planned.plan stand planned.orders n) o.until
 
 -- and so is its checkpoint
-pub checkpoint-of : (whole : WholeCheckpointIsTheRules) (law : LevelCheckpointIsSerial) (planned : Planned) (from : Beginning) (e : ℕ) (run : RunView) (d : RaggedEndedView)
-    → run.saves ≡ saves.Level → IsRunOf planned from e run → IsEnd run d → checkpoint run d.stand ≡ run_checkpoint planned from e
+checkpoint-of : (whole : WholeCheckpointIsTheRules) (law : LevelCheckpointIsSerial) (planned : Planned) (from : Beginning) (e : ℕ) (run : RunView) (d : RaggedEndedView)
+    → run.saves ≡ saves.Level → IsRunOf None planned from e run → IsEnd run d → checkpoint run d.stand ≡ run_checkpoint planned from e
 checkpoint-of whole law planned (Level start) e run d level o end =
     let b = o.base in
     let F : Plan → Type 0 = λ p. StandFits p b.stand in
@@ -91,15 +93,49 @@ checkpoint-of whole law planned (Uneven stand) e run d level o end =
     ∙ ap (λ b. text planned.plan b run.until) o.base
     ∙ ap (λ n. text planned.plan stand n) o.until
 
--- a starting state has completed as many epochs as the states that it stands for
-pub begins-floor : (plan : Plan) (from : Beginning) (base : RaggedStand) → 0 < slots_of plan → IsBaseOf plan from base → begins_at from ≡ floor_of (positions_of base)
-unfolding part
-begins-floor plan (Level start) base some b =
-    let first : b.stand.epoch ≡ (start 0).epoch = ap (λ (s : Sample). s.epoch) (b.stands 0 (omega arith)) in
-    let long : 0 < length b.stand.slots = omega (arith, b.fits.slots, some) in
-    let level = level-floor b.stand long in
-    sym (ap (λ (r : RaggedStand). floor_of (positions_of r)) b.is ∙ level.0 ∙ first)
-begins-floor plan (Uneven stand) base some b = ap (λ (r : RaggedStand). floor_of (positions_of r)) (sym b)
+-- ---- any run
+
+some-slots : (run : RunView) (d : RaggedEndedView) (planned : Planned) → run.plan ≡ planned.plan → IsEnd run d → 0 < slots_of planned.plan
+some-slots run d planned plan e = subst (λ (p : Plan). 0 < slots_of p) (e.origin.plan_is ∙ plan) e.lawful.plan.rules.some
+
+few-samples : (run : RunView) (d : RaggedEndedView) (planned : Planned) → run.orders ≡ planned.orders → IsEnd run d → planned.orders.samples ≤ 64
+few-samples run d planned orders e =
+    let same : d.origin.window.samples ≡ planned.orders.samples = e.origin.samples_is ∙ ap (λ (o : Orders). o.samples) orders in
+    let z = e.stop.fits.few_samples in omega arith
+
+-- its report
+pub text-of : (whole : UnstoppedRunIsWhole) (law : LevelReportIsSerial) (stop_after : Option ℕ) (planned : Planned) (from : Beginning) (e : ℕ) (run : RunView) (d : RaggedEndedView)
+    → IsRunOf stop_after planned from e run → IsEnd run d → run_report run (positions_of d.stand) ≡ text_at stop_after planned from e d.stand
+text-of whole law None planned from e run d o end = report-of whole law planned from e run d o end
+text-of whole law (Some takes) planned from e run d o end =
+    let some = some-slots run d planned o.plan end in
+    let begins : begins_at from ≡ floor_of (positions_of d.origin.base) = base-floor planned.plan from run.base some o.base ∙ sym (ap (λ (r : RaggedStand). floor_of (positions_of r)) end.origin.base_is) in
+    let last : d.origin.window.until ≡ e = end.origin.until_is ∙ o.until in
+    let upto = (floor-deep d.origin end.lawful).1 in
+    stopped-report planned e run (positions_of d.stand) o.plan o.orders o.until
+    ∙ base-text planned from e (positions_of d.stand) run.base some (few-samples run d planned o.orders end) (omega arith) o.base
+
+-- its checkpoint
+pub bytes-of : (whole : WholeCheckpointIsTheRules) (law : LevelCheckpointIsSerial) (stop_after : Option ℕ) (name : List ℕ) (planned : Planned) (from : Beginning) (e : ℕ) (run : RunView) (d : RaggedEndedView)
+    → run.saves ≡ saves_as stop_after (Some name) → IsRunOf stop_after planned from e run → IsEnd run d → checkpoint run d.stand ≡ bytes_at stop_after planned from e d.stand
+bytes-of whole law None name planned from e run d kind o end = checkpoint-of whole law planned from e run d kind o end
+bytes-of whole law (Some takes) name planned from e run d kind o end =
+    ap (λ k. written k run.plan run.orders.samples run.orders.every d.stand) kind
+    ∙ ap₂ (λ p (r : Orders). written saves.Ragged p r.samples r.every d.stand) o.plan o.orders
+
+-- where it comes to
+pub run-comes : (stop_after : Option ℕ) (planned : Planned) (from : Beginning) (e : ℕ) (run : RunView) (d : RaggedEndedView) → IsRunOf stop_after planned from e run → IsEnd run d
+    → Comes stop_after planned from e d.stand
+run-comes None planned from e run d o end = tt
+run-comes (Some takes) planned from e run d o end =
+    comes-from planned from e takes run.base d.stand (some-slots run d planned o.plan end) (few-samples run d planned o.orders end) o.base
+    (comes-packed planned e takes run d o.plan o.orders o.until o.takes end)
+
+-- what is written of it
+pub run-gives : (stop_after : Option ℕ) (planned : Planned) (from : Beginning) (e : ℕ) (came : RaggedStand) (P : List ℕ → List ℕ → Type 0) → Comes stop_after planned from e came
+    → P (text_at stop_after planned from e came) (bytes_at stop_after planned from e came) → RunGives stop_after planned from e P
+run-gives None planned from e came P comes p = p
+run-gives (Some takes) planned from e came P comes p = (came, comes, p)
 
 -- ---- how far a starting state is
 

@@ -63,6 +63,7 @@ ends-refused order told held holds o words cause length same passed = record {
   cause = cause;
   out = refl;
   files = (same, passed);
+  wrote = tt;
   length = length;
   later = (omega (arith, passed), omega arith);
 }
@@ -74,6 +75,7 @@ ends-without_memory order held holds o same passed = record {
   cause = free (request_of (Average order) held.holds);
   out = refl;
   files = (same, passed);
+  wrote = tt;
   length = tt;
   later = (omega (arith, passed), omega arith);
 }
@@ -85,6 +87,7 @@ ends-unread order held holds o same failed later = record {
   cause = free (request_of (Average order) held.holds);
   out = refl;
   files = (same, failed);
+  wrote = tt;
   length = tt;
   later = (later, omega arith);
 }

@@ -1,12 +1,12 @@
 -- The state that a checkpoint is, as a run starts from it.
-use Rattle.std.proofs.Common.{◌≡◌, ◌⊎◌, inl, inr, ℕ, ◌^◌, ◌<◌, ◌≤◌, Bool, true, false, List, length, Option, Some, None, option_map, IfSome, Result, Ok, Err, if◌then◌else◌, refl, sym, ap, ◌∙◌, subst, arith}
-use Rattle.std.proofs.lemmas.List.{length-map, length-replicate, get_or-replicate}
+use Rattle.std.proofs.Common.{◌≡◌, inl, inr, ℕ, ◌^◌, ◌<◌, ◌≤◌, Bool, true, false, List, length, Option, Some, None, option_map, IfSome, Result, Ok, Err, if◌then◌else◌, refl, sym, ap, ◌∙◌, subst, arith}
+use Rattle.std.proofs.lemmas.List.{length-replicate, get_or-replicate}
 use Rattle.glass_edges.specs.Contents.{Files}
-use Rattle.glass_edges.specs.Refusals.{unless, GivesAfterTests}
+use Rattle.glass_edges.specs.Refusals.{unless}
 use Rattle.scalar_rule.specs.Plan.{Plan, slots_of}
 use Rattle.scalar_rule.specs.Positions.{position_in, deepest_of}
 use Rattle.scalar_rule.specs.Ragged.{Position}
-use Rattle.plane_sweep.specs.Packed.{part, StandFits, StandsFor}
+use Rattle.plane_sweep.specs.Packed.{part, StandFits}
 use Rattle.plane_sweep.specs.Uneven.{position_of, positions_of, level_stand, RaggedStandFits}
 use Rattle.plane_sweep.specs.declared.stand.Stand.{Stand}
 use Rattle.plane_sweep.specs.declared.uneven.Place.{Place}
@@ -17,9 +17,9 @@ use Rattle.run_checkpoint.specs.UnevenDecoding.{is_uneven, uneven_in, any_in, an
 use Rattle.run_checkpoint.specs.declared.refused.CheckpointRefused.{CheckpointRefused}
 use Rattle.run_checkpoint.specs.declared.refused.CheckpointRefused.TheVariants as checkpoint
 use Rattle.glass_engine.proofs.SavedRuns.{fits-at}
-use Rattle.glass_main.specs.Beginnings.{Beginning, Level, Uneven, opened_by, states_in, resumed_by, IsBaseOf}
-use Rattle.glass_main.specs.Endings.{FetchesCheckpoint, TellsLength}
-use Rattle.glass_main.specs.Gathers.{Gathers, Fetches, Stops}
+use Rattle.glass_main.specs.Beginnings.{Beginning, Level, Uneven, states_in, resumed_by, IsBaseOf}
+use Rattle.glass_main.specs.Endings.{IsOfFile, TellsLength, FetchesCheckpoint}
+use Rattle.glass_main.specs.Gathers.{Gathers, Fetches}
 use Rattle.glass_main.specs.Outside.{Store}
 use Rattle.glass_main.specs.Request.{and_then, told_as, bytes_at, checkpoint_at}
 use Rattle.glass_main.specs.Resumes.{IsBegun, Resumes, Unresumed, Begins, ending_of}
@@ -30,6 +30,7 @@ use Rattle.glass_main.specs.declared.refusal.Refusal.TheVariants as refused
 use Rattle.glass_main.specs.declared.role.Role.TheVariants as roles
 use Rattle.glass_main.specs.declared.ending.Ending.{Ending}
 use Rattle.glass_main.specs.declared.ending.Ending.TheVariants.{Done, Refused, Unread, Unwritten, Unsaved, NoMemory}
+use Rattle.glass_main.proofs.Fetching.{of-file-wider}
 
 -- ---- the state of the bytes
 
@@ -152,7 +153,7 @@ begins-read planned until name bytes (Err Done) held holds g is = absurd is
 begins-read planned until name bytes (Err (Refused told)) held holds g (e, told_is, file, read) = record {
   found = tt;
   passed = tt;
-  stopped = ((file, subst (λ t. IfSome (option_map (checkpoint_at planned until name) held.holds) (λ a. IsRefusedBy a t)) (sym told_is) (step-refused planned until name bytes held.holds e g.found read)), g.passed, subst (TellsLength held.lengths) (sym told_is) tt);
+  stopped = ((subst (IsOfFile (FetchesCheckpoint (Some name))) (sym told_is) (record { role_is = refl; named = λ none. absurd cc }, file), subst (λ t. IfSome (option_map (checkpoint_at planned until name) held.holds) (λ a. IsRefusedBy a t)) (sym told_is) (step-refused planned until name bytes held.holds e g.found read)), g.passed, subst (TellsLength held.lengths) (sym told_is) tt);
   same = g.same;
   lengths = g.lengths;
   later = g.later;
@@ -179,7 +180,7 @@ begins-unread planned until name Done held holds g = absurd g.stopped
 begins-unread planned until name (Refused told) held holds g = record {
   found = tt;
   passed = tt;
-  stopped = ((g.stopped.0.0, step-absent planned until name held.holds told g.stopped.0.1), g.stopped.1, g.stopped.2);
+  stopped = ((of-file-wider (Fetches roles.Checkpoint) (FetchesCheckpoint (Some name)) told (λ role is. record { role_is = is; named = λ none. absurd cc }) g.stopped.0.0, step-absent planned until name held.holds told g.stopped.0.1), g.stopped.1, g.stopped.2);
   same = g.same;
   lengths = g.lengths;
   later = g.later;

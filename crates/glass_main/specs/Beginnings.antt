@@ -4,7 +4,7 @@ use Rattle.glass_edges.specs.Refusals.{unless}
 use Rattle.scalar_rule.specs.Opening.{opening}
 use Rattle.scalar_rule.specs.Plan.{Plan, slots_of}
 use Rattle.scalar_rule.specs.Positions.{floor_of}
-use Rattle.scalar_rule.specs.Ragged.{Position, UnevenState, all_ready}
+use Rattle.scalar_rule.specs.Ragged.{Position, all_ready}
 use Rattle.scalar_rule.specs.Serial.{serial}
 use Rattle.scalar_rule.specs.declared.sample.Sample.{Sample}
 use Rattle.plane_sweep.specs.Packed.{part, StandFits, StandsFor}

@@ -1,5 +1,5 @@
 -- The command that the words after the program's name ask for.
-use Rattle.std.specs.Prelude.{ℕ, ◌^◌, ◌-◌, Bool, not, ◌&&◌, ◌==◌, nat_le, nat_lt, if◌then◌else◌, List, length, take, drop, codes, Option, Some, None, option_map, unwrap_or}
+use Rattle.std.specs.Prelude.{ℕ, ◌^◌, ◌-◌, Bool, true, false, not, ◌&&◌, ◌==◌, nat_le, nat_lt, if◌then◌else◌, List, length, take, drop, codes, Option, Some, None, option_map, unwrap_or}
 use Rattle.std.specs.List.{fold, position_or_len, before_first, after_first}
 use Rattle.std.specs.Str.{bytes_eq}
 use Rattle.glass_main.specs.Words.{given, word_at, size_word, number_word, number_words}
@@ -12,7 +12,8 @@ pub record PlainOrder : Type 0 where
   pub thresholds : List ℕ
 
 -- a run: the name of its run file, the workers, the pieces that the planes of a sweep are cut into, the epoch to stop at
--- where it isn't the run file's, the checkpoint to go on from, and the name to save the run's own under
+-- where it isn't the run file's, the checkpoint to go on from, the name to save the run's own under, and after how many
+-- hand-outs of a slot it stops where it may stop between epochs
 pub record RunOrder : Type 0 where
   pub run : List ℕ
   pub workers : ℕ
@@ -20,6 +21,7 @@ pub record RunOrder : Type 0 where
   pub until : Option ℕ
   pub from : Option (List ℕ)
   pub save : Option (List ℕ)
+  pub stop_after : Option ℕ
 
 -- averages: the name of the report, and the number of blocks of its samples
 pub record AverageOrder : Type 0 where
@@ -86,16 +88,27 @@ pub record RunWords : Type 0 where
   pub until : Option ℕ
   pub from : Option (List ℕ)
   pub save : Option (List ℕ)
+  pub stop_after : Option ℕ
 
 abbrev pub nothing_said : RunWords
-nothing_said = record { run = None; waiting = None; workers = None; pieces = None; until = None; from = None; save = None }
+nothing_said = record {
+  run = None;
+  waiting = None;
+  workers = None;
+  pieces = None;
+  until = None;
+  from = None;
+  save = None;
+  stop_after = None;
+}
 
 -- what comes of a thing that may be said once
 abbrev pub once : {A B : Type 0} → Option A → Option B → Option B
 once None next = next
 once (Some earlier) next = None
 
--- an option with its value, each at most once: 1 to 64 workers, 1 to 16 pieces, an epoch up to 1000000000, names of files
+-- an option with its value, each at most once: 1 to 64 workers, 1 to 16 pieces, an epoch up to 1000000000, names of files,
+-- up to 32000000000 hand-outs
 abbrev pub with_workers : RunWords → List ℕ → Option RunWords
 with_workers said value = once said.workers (option_map (λ n. record said { waiting = None; workers = Some n }) (number_word 1 64 value))
 
@@ -115,6 +128,9 @@ with_from said value = once said.from (option_map (λ name. record said { waitin
 abbrev pub with_save : RunWords → List ℕ → Option RunWords
 with_save said value = once said.save (option_map (λ name. record said { waiting = None; save = Some name }) (file_word value))
 
+abbrev pub with_stop_after : RunWords → List ℕ → Option RunWords
+with_stop_after said value = once said.stop_after (option_map (λ n. record said { waiting = None; stop_after = Some n }) (number_word 0 32000000000 value))
+
 unfoldable pub with_option : RunWords → List ℕ → List ℕ → Option RunWords
 with_option said name value =
     if bytes_eq name (codes "--workers") then with_workers said value
@@ -122,6 +138,7 @@ with_option said name value =
     else if bytes_eq name (codes "--until") then with_until said value
     else if bytes_eq name (codes "--from") then with_from said value
     else if bytes_eq name (codes "--save") then with_save said value
+    else if bytes_eq name (codes "--stop-after") then with_stop_after said value
     else None
 
 -- 61 is the equals sign
@@ -152,9 +169,16 @@ with_word (Some said) word = with_next said.waiting said word
 unfoldable pub said_by : List (List ℕ) → Option RunWords
 said_by words = fold with_word (Some nothing_said) words
 
--- the run file must be named, and no option may wait; there is one worker and one piece where nothing else is said
+-- a run that may stop between epochs saves where it came to
+abbrev pub is_kept : Option ℕ → Option (List ℕ) → Bool
+is_kept (Some takes) None = false
+is_kept stop_after save = true
+
+-- the run file must be named, and no option may wait; a run that may stop must be saved; there is one worker and one piece
+-- where nothing else is said
 abbrev pub order_in : Option (List ℕ) → Option (List ℕ) → RunWords → Option RunOrder
 order_in (Some run) None said =
+    if is_kept said.stop_after said.save then
     Some (record {
       run = run;
       workers = unwrap_or said.workers 1;
@@ -162,10 +186,12 @@ order_in (Some run) None said =
       until = said.until;
       from = said.from;
       save = said.save;
+      stop_after = said.stop_after;
     })
+    else None
 order_in _ _ said = None
 
--- `run RUN` with `--workers N`, `--pieces P`, `--until E`, `--from NAME` and `--save NAME` in any order
+-- `run RUN` with `--workers N`, `--pieces P`, `--until E`, `--from NAME`, `--save NAME` and `--stop-after N` in any order
 unfoldable pub run_order : List (List ℕ) → Option RunOrder
 run_order words = given (said_by (drop 1 words)) (λ said. order_in said.run said.waiting said)
 

@@ -60,22 +60,17 @@ pub record IsOfReport (blocks : ℕ) (e : ReportRefused) : Type 0 where
   pub refusal : ¬ (e ≡ report.NoMemory)
   pub cause : (bytes : List ℕ) × IsRefusal bytes blocks e
 
--- the files that a run reads
-abbrev pub IsOfRun : Role → Type 0
-IsOfRun roles.Report = ⊥
-IsOfRun role = Unit {0}
-
--- a refusal of what a run reads, and not of the words; of a file that is too long a length above its limit is told
-abbrev pub IsOfFile : Refusal → Type 0
-IsOfFile refused.Words = ⊥
-IsOfFile (refused.Absent role) = IsOfRun role
-IsOfFile (refused.TooLong role n) = IsOfRun role × (limit_of role < n)
-IsOfFile (refused.Plan e) = IsOfRunFile e
-IsOfFile (refused.Rules e) = IsOfRules e
-IsOfFile (refused.Swaps e) = IsOfSwaps e
-IsOfFile (refused.Couplings e) = IsOfCouplings e
-IsOfFile (refused.Checkpoint e) = IsOfCheckpoint e
-IsOfFile (refused.Report e) = ⊥
+-- a refusal of a file that is fetched, and not of the words; of a file that is too long a length above its limit is told
+abbrev pub IsOfFile : (Role → Type 0) → Refusal → Type 0
+IsOfFile fetches refused.Words = ⊥
+IsOfFile fetches (refused.Absent role) = fetches role
+IsOfFile fetches (refused.TooLong role n) = fetches role × (limit_of role < n)
+IsOfFile fetches (refused.Plan e) = fetches roles.RunFile × IsOfRunFile e
+IsOfFile fetches (refused.Rules e) = fetches roles.RuleTable × IsOfRules e
+IsOfFile fetches (refused.Swaps e) = fetches roles.SwapTable × IsOfSwaps e
+IsOfFile fetches (refused.Couplings e) = fetches roles.Couplings × IsOfCouplings e
+IsOfFile fetches (refused.Checkpoint e) = fetches roles.Checkpoint × IsOfCheckpoint e
+IsOfFile fetches (refused.Report e) = ⊥
 
 -- a refusal of a report, of which averages in so many blocks are asked for
 abbrev pub IsOfAverages : ℕ → Refusal → Type 0
@@ -139,22 +134,22 @@ pub record IsResumed (order : RunOrder) (held : Option Files) (role : Role) : Ty
 
 -- ---- commands
 
--- what a command may be refused for: `plain` and `demo` read no file, and are never refused; `check` prints one line, whatever
--- a run would print
-abbrev pub MayRefuse : Command → Refusal → Type 0
-MayRefuse (Plain order) told = ⊥
-MayRefuse (Check name) told = IsOfFile told
-MayRefuse (Run order) told = IsOfFile told ⊎ IsOfAmount told
-MayRefuse (Average order) told = IsOfAverages order.blocks told
-MayRefuse (Demo n) told = ⊥
-
--- the files at which the store may fail in a command: `plain` and `demo` fetch none
+-- the files that a command fetches, at which the store may fail: `plain` and `demo` fetch none
 abbrev pub MayFetch : Command → Option Files → Role → Type 0
 MayFetch (Plain order) held role = ⊥
 MayFetch (Check name) held role = IsReached name held role
 MayFetch (Run order) held role = IsReached order.run held role ⊎ IsResumed order held role
 MayFetch (Average order) held role = role ≡ roles.Report
 MayFetch (Demo n) held role = ⊥
+
+-- what a command may be refused for: `plain` and `demo` read no file, and are never refused; `check` and a run are for a file that they
+-- fetch, of which no step before refuses; `check` prints one line, whatever a run would print
+abbrev pub MayRefuse : Command → Option Files → Refusal → Type 0
+MayRefuse (Plain order) held told = ⊥
+MayRefuse (Check name) held told = IsOfFile (MayFetch (Check name) held) told
+MayRefuse (Run order) held told = IsOfFile (MayFetch (Run order) held) told ⊎ IsOfAmount told
+MayRefuse (Average order) held told = IsOfAverages order.blocks told
+MayRefuse (Demo n) held told = ⊥
 
 -- the commands that may fail at their checkpoint: runs that save one
 abbrev pub MaySave : Command → Type 0
@@ -167,7 +162,7 @@ MaySave (Demo n) = ⊥
 -- how a command may end, where the store holds these files
 abbrev pub MayEnd : Command → Option Files → Ending → Type 0
 MayEnd command held Done = Unit {0}
-MayEnd command held (Refused told) = MayRefuse command told
+MayEnd command held (Refused told) = MayRefuse command held told
 MayEnd command held (Unread role) = MayFetch command held role
 MayEnd command held Unwritten = Unit {0}
 MayEnd command held Unsaved = MaySave command

@@ -24,12 +24,12 @@ gathered role (answer.TooLong n) = Err (Refused (TooLong role n))
 gathered role answer.Failed = Err (Unread role)
 gathered role answer.NoMemory = Err NoMemory
 
--- the ending of a step: what is asked for refuses it, or the store failed at a file that the step fetches, or there was not
+-- the ending of a step: what is asked for refuses it, for a file that the step fetches, or the store failed at a file that the step fetches, or there was not
 -- enough memory; a fault is counted where the store failed and nowhere else; a length is told as it was answered
 abbrev pub Stops : {A : Type 0} → Option (Result A Refusal) → (Role → Type 0) → Ending → Store → Store → Type 0
 Stops asked fetches Done old new = ⊥
 Stops asked fetches (Refused told) old new =
-    (IsOfFile told × IfSome asked (λ a. IsRefusedBy a told)) × (new.faults ≡ old.faults) × TellsLength old.lengths told
+    (IsOfFile fetches told × IfSome asked (λ a. IsRefusedBy a told)) × (new.faults ≡ old.faults) × TellsLength old.lengths told
 Stops asked fetches (Unread role) old new = fetches role × Rose old.faults new.faults
 Stops asked fetches Unwritten old new = ⊥
 Stops asked fetches Unsaved old new = ⊥

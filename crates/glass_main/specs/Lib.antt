@@ -2,6 +2,7 @@ pub mod Words
 pub mod CommandLine
 pub mod Texts
 pub mod Beginnings
+pub mod Stops
 pub mod Outside
 pub mod Request
 pub mod Lines
@@ -11,5 +12,6 @@ pub mod Gathers
 pub mod Resumes
 pub mod ReadCommand
 pub mod Opened
+pub mod StopLaws
 pub mod DemoRun
 pub mod LawfulRuns

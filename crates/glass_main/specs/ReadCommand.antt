@@ -26,6 +26,7 @@ read_run_order order = record {
   until = order.until;
   from = name_bytes order.from;
   save = name_bytes order.save;
+  stop_after = order.stop_after;
 }
 
 -- the order of `average`
@@ -50,21 +51,24 @@ read_said said = record {
   until = said.until;
   from = name_bytes said.from;
   save = name_bytes said.save;
+  stop_after = said.stop_after;
 }
 
--- 1 to 64 workers, 1 to 16 pieces, an epoch up to 1000000000
+-- 1 to 64 workers, 1 to 16 pieces, an epoch up to 1000000000, up to 32000000000 hand-outs
 pub record IsLawfulOrder (order : RunOrder) : Type 0 where
   pub some_workers : 1 ≤ order.workers
   pub few_workers : order.workers ≤ 64
   pub some_pieces : 1 ≤ order.pieces
   pub few_pieces : order.pieces ≤ 16
   pub until : IfSome order.until (λ e. e ≤ 1000000000)
+  pub stop_after : IfSome order.stop_after (λ n. n ≤ 32000000000)
 
 -- the same of what the words have said
 pub record AreLawfulWords (said : RunWords) : Type 0 where
   pub workers : IfSome said.workers (λ n. (1 ≤ n) × (n ≤ 64))
   pub pieces : IfSome said.pieces (λ n. (1 ≤ n) × (n ≤ 16))
   pub until : IfSome said.until (λ e. e ≤ 1000000000)
+  pub stop_after : IfSome said.stop_after (λ n. n ≤ 32000000000)
 
 -- 1 to 256 blocks
 pub record IsLawfulAverage (order : AverageOrder) : Type 0 where

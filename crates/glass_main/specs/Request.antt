@@ -17,7 +17,8 @@ use Rattle.run_plan.specs.PlanOf.{plan_with}
 use Rattle.sample_average.specs.Averages.{AveragesView, averages_text}
 use Rattle.sample_average.specs.ReadReport.{averages_in}
 use Rattle.glass_main.specs.CommandLine.{PlainOrder, RunOrder, AverageOrder, Command, Plain, Check, Run, Average, Demo, command_of}
-use Rattle.glass_main.specs.Beginnings.{Beginning, opened_by, resumed_by, begins_at, run_text, run_checkpoint}
+use Rattle.glass_main.specs.Beginnings.{Beginning, opened_by, resumed_by, begins_at}
+use Rattle.glass_main.specs.Stops.{RunGives}
 use Rattle.glass_main.specs.Texts.{plain_text, check_text, demo_text}
 use Rattle.glass_main.specs.declared.planned.Planned.{Planned}
 use Rattle.glass_main.specs.declared.role.Role.{Role}
@@ -31,25 +32,17 @@ use Rattle.glass_main.specs.declared.refusal.Refusal.TheVariants as refused
 pub data Work : Type 0 where
   PlainWork : PlainOrder → Work
   CheckWork : Planned → Work
-  RunWork : Planned → Beginning → ℕ → Work
+  RunWork : Planned → Beginning → ℕ → Option ℕ → Work
   AverageWork : AveragesView → Work
   DemoWork : ℕ → Work
 
--- the text that the work prints
-abbrev pub text_of : Work → List ℕ
-text_of (PlainWork order) = plain_text order
-text_of (CheckWork planned) = check_text planned
-text_of (RunWork planned from until) = run_text planned from until
-text_of (AverageWork averages) = averages_text averages
-text_of (DemoWork n) = demo_text n
-
--- the checkpoint that it saves, where it is asked to
-abbrev pub saved_of : Work → List ℕ
-saved_of (PlainWork order) = []
-saved_of (CheckWork planned) = []
-saved_of (RunWork planned from until) = run_checkpoint planned from until
-saved_of (AverageWork averages) = []
-saved_of (DemoWork n) = []
+-- what holds of the text that the work prints, and of the checkpoint that it saves where it is asked to
+abbrev pub Gives : Work → (List ℕ → List ℕ → Type 0) → Type 0
+Gives (PlainWork order) P = P (plain_text order) []
+Gives (CheckWork planned) P = P (check_text planned) []
+Gives (RunWork planned from until stop_after) P = RunGives stop_after planned from until P
+Gives (AverageWork averages) P = P (averages_text averages) []
+Gives (DemoWork n) P = P (demo_text n) []
 
 -- ---- steps
 
@@ -140,10 +133,10 @@ abbrev pub beginning_at : Option (List ℕ) → Planned → ℕ → Files → Re
 beginning_at None planned until files = Ok (opened_by planned)
 beginning_at (Some name) planned until files = checkpoint_at planned until name files
 
--- a run from there until an epoch, unless it would print too much
-unfoldable pub run_work : Planned → ℕ → Beginning → Result Work Refusal
-run_work planned until from =
-    told_as refused.Plan (unless (amount_refusal planned.plan planned.orders (begins_at from) until) (RunWork planned from until))
+-- a run from there until an epoch, or until it has made so many hand-outs of a slot, unless it would print too much
+unfoldable pub run_work : Option ℕ → Planned → ℕ → Beginning → Result Work Refusal
+run_work stop_after planned until from =
+    told_as refused.Plan (unless (amount_refusal planned.plan planned.orders (begins_at from) until) (RunWork planned from until stop_after))
 
 -- the epoch at which a run ends: that of the words, or where they have none that of the run file
 abbrev pub until_of : RunOrder → Planned → ℕ
@@ -152,7 +145,7 @@ until_of order planned = unwrap_or order.until planned.orders.epochs
 -- what a run asks for: its plan, what it starts from, and no more than it may print
 abbrev pub run_from : RunOrder → Planned → Files → Result Work Refusal
 run_from order planned held =
-    and_then (beginning_at order.from planned (until_of order planned) held) (run_work planned (until_of order planned))
+    and_then (beginning_at order.from planned (until_of order planned) held) (run_work order.stop_after planned (until_of order planned))
 
 abbrev pub run_at : RunOrder → Files → Result Work Refusal
 run_at order held = and_then (plan_at order.run held) (λ planned. run_from order planned held)
@@ -180,12 +173,7 @@ request_for (Some command) files = request_of command files
 abbrev pub request : List (List ℕ) → Option Files → Option (Result Work Refusal)
 request words files = request_for (command_of words) files
 
--- the text that is asked for
-abbrev pub text_asked : Result Work Refusal → List ℕ
-text_asked (Ok work) = text_of work
-text_asked (Err refusal) = []
-
--- the checkpoint that is asked for
-abbrev pub saved_asked : Result Work Refusal → List ℕ
-saved_asked (Ok work) = saved_of work
-saved_asked (Err refusal) = []
+-- the same of what is asked for, where it is work
+abbrev pub GivesAsked : Result Work Refusal → (List ℕ → List ℕ → Type 0) → Type 0
+GivesAsked (Ok work) P = Gives work P
+GivesAsked (Err refusal) P = Unit {0}

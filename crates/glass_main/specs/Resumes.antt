@@ -7,14 +7,14 @@ use Rattle.scalar_rule.specs.Positions.{deepest_of}
 use Rattle.run_checkpoint.specs.declared.refused.CheckpointRefused.{CheckpointRefused}
 use Rattle.run_checkpoint.specs.declared.refused.CheckpointRefused.TheVariants as checkpoint
 use Rattle.glass_main.specs.Beginnings.{Beginning, IsBaseOf, resumed_by}
-use Rattle.glass_main.specs.Endings.{IsOfFile, FetchesCheckpoint}
+use Rattle.glass_main.specs.Endings.{IsOfCheckpoint, FetchesCheckpoint}
 use Rattle.glass_main.specs.Gathers.{Stops}
 use Rattle.glass_main.specs.Outside.{Store}
 use Rattle.glass_main.specs.declared.planned.Planned.{Planned}
 use Rattle.glass_main.specs.declared.refusal.Refusal.{Refusal}
 use Rattle.glass_main.specs.declared.refusal.Refusal.TheVariants.{Checkpoint}
 use Rattle.glass_main.specs.declared.ending.Ending.{Ending}
-use Rattle.glass_main.specs.declared.ending.Ending.TheVariants.{Done, Refused, Unread, Unwritten, Unsaved, NoMemory}
+use Rattle.glass_main.specs.declared.ending.Ending.TheVariants.{Refused, NoMemory}
 
 -- a packed state from which a run to an epoch can go on
 pub record IsResumable (planned : Planned) (until : ℕ) (base : RaggedStand) : Type 0 where
@@ -29,7 +29,7 @@ IsBegun plan base (Err refusal) = ⊥
 
 -- the bytes of a checkpoint are refused so, or are not read for want of memory
 abbrev pub Unresumed : Planned → ℕ → List ℕ → Ending → Type 0
-Unresumed planned until bytes (Refused told) = (e : CheckpointRefused) × (told ≡ Checkpoint e) × IsOfFile told × (resumed_by planned until bytes ≡ Err e)
+Unresumed planned until bytes (Refused told) = (e : CheckpointRefused) × (told ≡ Checkpoint e) × IsOfCheckpoint e × (resumed_by planned until bytes ≡ Err e)
 Unresumed planned until bytes NoMemory = Unit {0}
 Unresumed planned until bytes ending = ⊥
 

@@ -5,7 +5,7 @@ use Rattle.glass_edges.specs.Contents.{appended, AppendsPrefix, Placed, SameElse
 use Rattle.glass_main.specs.CommandLine.{Command, saved_name}
 use Rattle.glass_main.specs.Endings.{Reads, TellsLength}
 use Rattle.glass_main.specs.Outside.{Output, Store}
-use Rattle.glass_main.specs.Request.{Work, limit_of, IsAccepted, text_of, text_asked, saved_of, saved_asked, request_for}
+use Rattle.glass_main.specs.Request.{Work, limit_of, IsAccepted, Gives, GivesAsked, request_for}
 use Rattle.glass_main.specs.Lines.{line_of}
 use Rattle.glass_main.specs.declared.role.Role.{Role}
 use Rattle.glass_main.specs.declared.role.Role.TheVariants.{RunFile, RuleTable, SwapTable, Couplings as CouplingsFile, Checkpoint as CheckpointFile, Report as ReportFile}
@@ -75,24 +75,25 @@ Fits asked Unwritten = IsAccepted asked
 Fits asked Unsaved = IsAccepted asked
 Fits asked NoMemory = Unit {0}
 
--- what the output got: the whole text; nothing; or a prefix of the text and then a fault, and no fault with any other
--- ending
-abbrev pub Printed : Option (Result Work Refusal) → Ending → Output → Output → Type 0
-Printed asked Done old new =
-    (new.faults ≡ old.faults) × IfSome asked (λ a. new.taken ≡ appended old.taken (text_asked a))
-Printed asked (Refused told) old new = new ≡ old
-Printed asked (Unread role) old new = new ≡ old
-Printed asked Unwritten old new =
-    Rose old.faults new.faults × IfSome asked (λ a. AppendsPrefix old.taken new.taken (text_asked a))
-Printed asked Unsaved old new =
-    (new.faults ≡ old.faults) × IfSome asked (λ a. new.taken ≡ appended old.taken (text_asked a))
-Printed asked NoMemory old new = new ≡ old
+-- the output: a fault is counted where it failed, and with no other ending; nothing was put where nothing was to be
+abbrev pub Printed : Ending → Output → Output → Type 0
+Printed Done old new = new.faults ≡ old.faults
+Printed (Refused told) old new = new ≡ old
+Printed (Unread role) old new = new ≡ old
+Printed Unwritten old new = Rose old.faults new.faults
+Printed Unsaved old new = new.faults ≡ old.faults
+Printed NoMemory old new = new ≡ old
 
 -- the files after all is done: as before where no checkpoint is asked for; else, where they are observable, the name has
 -- exactly the checkpoint, and all else is as before
-abbrev pub Saved : Option (List ℕ) → Option (Result Work Refusal) → Store → Store → Type 0
-Saved None asked old new = new.holds ≡ old.holds
-Saved (Some name) asked old new = IfSome asked (λ a. Placed old.holds new.holds name (saved_asked a))
+abbrev pub Saved : Option (List ℕ) → List ℕ → Store → Store → Type 0
+Saved None bytes old new = new.holds ≡ old.holds
+Saved (Some name) bytes old new = Placed old.holds new.holds name bytes
+
+-- the files are as before where no checkpoint is asked for
+abbrev pub Unsought : Option (List ℕ) → Store → Store → Type 0
+Unsought None old new = new.holds ≡ old.holds
+Unsought (Some name) old new = Unit {0}
 
 -- the files after a place that failed: that name may hold anything
 abbrev pub Unplaced : Option (List ℕ) → Store → Store → Type 0
@@ -101,13 +102,26 @@ Unplaced (Some name) old new = SameElsewhere old.holds new.holds name
 
 -- what became of the store: its files are as before but for the checkpoint, and a fault was counted where a file could not be
 -- read or the checkpoint not be placed, and with no other ending
-abbrev pub Kept : Option (List ℕ) → Option (Result Work Refusal) → Ending → Store → Store → Type 0
-Kept name asked Done old new = Saved name asked old new × (new.faults ≡ old.faults)
-Kept name asked (Refused told) old new = (new.holds ≡ old.holds) × (new.faults ≡ old.faults)
-Kept name asked (Unread role) old new = (new.holds ≡ old.holds) × Rose old.faults new.faults
-Kept name asked Unwritten old new = (new.holds ≡ old.holds) × (new.faults ≡ old.faults)
-Kept name asked Unsaved old new = Unplaced name old new × Rose old.faults new.faults
-Kept name asked NoMemory old new = (new.holds ≡ old.holds) × (new.faults ≡ old.faults)
+abbrev pub Kept : Option (List ℕ) → Ending → Store → Store → Type 0
+Kept name Done old new = Unsought name old new × (new.faults ≡ old.faults)
+Kept name (Refused told) old new = (new.holds ≡ old.holds) × (new.faults ≡ old.faults)
+Kept name (Unread role) old new = (new.holds ≡ old.holds) × Rose old.faults new.faults
+Kept name Unwritten old new = (new.holds ≡ old.holds) × (new.faults ≡ old.faults)
+Kept name Unsaved old new = Unplaced name old new × Rose old.faults new.faults
+Kept name NoMemory old new = (new.holds ≡ old.holds) × (new.faults ≡ old.faults)
+
+-- the whole text is on the output, and the checkpoint is saved where a name is given for it
+abbrev pub IsGiven : Option (List ℕ) → Store → Store → Output → Output → List ℕ → List ℕ → Type 0
+IsGiven name held holds before now text bytes = (now.taken ≡ appended before.taken text) × Saved name bytes held holds
+
+-- what was written, by what is asked for: all of it; a prefix of the text; the whole text, where the checkpoint failed
+abbrev pub Wrote : Option (List ℕ) → Option (Result Work Refusal) → Ending → Store → Store → Output → Output → Type 0
+Wrote name asked Done held holds before now = IfSome asked (λ a. GivesAsked a (IsGiven name held holds before now))
+Wrote name asked (Refused told) held holds before now = Unit {0}
+Wrote name asked (Unread role) held holds before now = Unit {0}
+Wrote name asked Unwritten held holds before now = IfSome asked (λ a. GivesAsked a (λ text bytes. AppendsPrefix before.taken now.taken text))
+Wrote name asked Unsaved held holds before now = IfSome asked (λ a. GivesAsked a (λ text bytes. now.taken ≡ appended before.taken text))
+Wrote name asked NoMemory held holds before now = Unit {0}
 
 -- what holds of a refusal that is told
 abbrev pub IfRefused : Ending → (Refusal → Type 0) → Type 0
@@ -118,8 +132,9 @@ IfRefused ending P = Unit {0}
 pub record Ends (command : Option Command) (ending : Ending) (held holds : Store) (before now : Output) : Type 0 where
   pub words : Reads command held.holds ending
   pub cause : IfSome (request_for command held.holds) (λ asked. Fits asked ending)
-  pub out : Printed (request_for command held.holds) ending before now
-  pub files : Kept (saved_name command) (request_for command held.holds) ending held holds
+  pub out : Printed ending before now
+  pub files : Kept (saved_name command) ending held holds
+  pub wrote : Wrote (saved_name command) (request_for command held.holds) ending held holds before now
   pub length : IfRefused ending (TellsLength held.lengths)
   pub later : (held.faults ≤ holds.faults) × (before.faults ≤ now.faults)
 
@@ -152,9 +167,8 @@ pub record Answers (command : Option Command) (status : ℕ) (held holds : Store
 -- all of the work is done: the output got its text, the error output nothing, the files are as before but for the checkpoint
 -- that is to be saved, and no fault was counted
 pub record DoesWork (name : Option (List ℕ)) (work : Work) (held holds : Store) (before now err_before err_now : Output) : Type 0 where
-  pub out : now.taken ≡ appended before.taken (text_of work)
+  pub given : Gives work (IsGiven name held holds before now)
   pub err : err_now ≡ err_before
-  pub files : Saved name (Some (Ok work)) held holds
   pub passed : (now.faults ≡ before.faults) × (holds.faults ≡ held.faults)
 
 -- each fault is told by the status: one of the store by 8 or 10, one of the output by 9, and with 0 the error output counted none

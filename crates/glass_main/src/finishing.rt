@@ -1,15 +1,16 @@
 //! The end of a run: it is driven, its report printed, and its checkpoint placed.
 
-ghost use Rattle.std.specs.Prelude.{◌≡◌, ◌≢◌, ℕ, ◌≤◌, None, OnOk, OnErr};
+ghost use Rattle.std.specs.Prelude.{◌≡◌, ◌≢◌, ℕ, ◌≤◌, Option, Some, None, Ok, OnOk, OnErr};
 ghost use Rattle.std.specs.Arc.{arc_value};
 ghost use Rattle.glass_edges.specs.Causes.{HasCause};
 ghost use Rattle.glass_edges.specs.Contents.{appended, AppendsPrefix};
 ghost use Rattle.glass_engine.specs.Runs.{IsEnd};
-ghost use Rattle.glass_main.specs.Beginnings.{Beginning, run_text, run_checkpoint};
-ghost use Rattle.glass_main.specs.Opened.{saves_as, IsRunOf, IsOfOpenRun, Leaves, PlacesAs};
+ghost use Rattle.glass_main.specs.Beginnings.{Beginning};
+ghost use Rattle.glass_main.specs.Opened.{saves_as, text_at, bytes_at, IsRunOf, IsOfOpenRun};
 ghost use Rattle.glass_main.specs.Outside.{output, store};
 ghost use Rattle.glass_main.specs.ReadCommand.{name_bytes, IsLawfulOrder};
-ghost use Rattle.glass_main.specs.Statuses.{Unplaced};
+ghost use Rattle.glass_main.specs.Request.{RunWork};
+ghost use Rattle.glass_main.specs.Statuses.{Printed, Saved, Unsought, Unplaced, Kept, Wrote};
 ghost use Rattle.glass_main.specs.declared.planned.Planned as model;
 
 use crate::ending::Ending;
@@ -43,10 +44,14 @@ pub(crate) fn finish_run<R: Threads + Wait + Sync, H: Shelf, O: Sink, G: Gate + 
 ) -> Ending
     requires order { IsLawfulOrder order.now }
     requires plan { arc_value opened.plan ≡ opened.run.plan }
-    requires saves { opened.run.saves ≡ saves_as (name_bytes order.now.save) }
+    requires saves { opened.run.saves ≡ saves_as order.now.stop_after (name_bytes order.now.save) }
     ensures ending { IsOfOpenRun (name_bytes order.now.save) result }
-    ensures leaves { (planned : model.Planned) (from : Beginning) (until : ℕ) → IsRunOf planned from until opened.run
-        → Leaves (name_bytes order.now.save) (run_text planned from until) (run_checkpoint planned from until) result
+    ensures out { Printed result (output O.taken O.faults out.old) (output O.taken O.faults out.new) }
+    ensures files { Kept (name_bytes order.now.save) result
+        (store H.holds H.faults H.lengths shelf.old) (store H.holds H.faults H.lengths shelf.new) }
+    ensures wrote { (planned : model.Planned) (from : Beginning) (until : ℕ)
+        → IsRunOf order.now.stop_after planned from until opened.run
+        → Wrote (name_bytes order.now.save) (Some (Ok (RunWork planned from until order.now.stop_after))) result
         (store H.holds H.faults H.lengths shelf.old) (store H.holds H.faults H.lengths shelf.new)
         (output O.taken O.faults out.old) (output O.taken O.faults out.new) }
     ensures later { O.faults out.old ≤ O.faults out.new }
@@ -58,7 +63,7 @@ pub(crate) fn finish_run<R: Threads + Wait + Sync, H: Shelf, O: Sink, G: Gate + 
         Ok(()) => {}
         Err(_) => return Ending::Unwritten,
     }
-    match save_run(&mut done, &plan, shelf, order.save) {
+    match save_run(&mut done, &plan, shelf, order) {
         Ok(()) => Ending::Done,
         Err(_) => Ending::Unsaved,
     }
@@ -68,14 +73,18 @@ pub(crate) fn finish_run<R: Threads + Wait + Sync, H: Shelf, O: Sink, G: Gate + 
 fn put_run<O: Sink>(done: &Done, plan: &Plan, out: &mut O) -> Result<(), Fault>
     requires plan { plan.now ≡ done.now.run.plan }
     requires ended { IsEnd done.now.run done.now.ended }
-    ensures whole { (planned : model.Planned) (from : Beginning) (until : ℕ) → IsRunOf planned from until done.now.run
-        → OnOk result (O.taken out.new ≡ appended (O.taken out.old) (run_text planned from until)) }
-    ensures prefix { (planned : model.Planned) (from : Beginning) (until : ℕ) → IsRunOf planned from until done.now.run
-        → OnErr result (AppendsPrefix (O.taken out.old) (O.taken out.new) (run_text planned from until)) }
+    ensures whole { (stop_after : Option ℕ) (planned : model.Planned) (from : Beginning) (until : ℕ)
+        → IsRunOf stop_after planned from until done.now.run
+        → OnOk result (O.taken out.new ≡ appended (O.taken out.old)
+        (text_at stop_after planned from until done.now.ended.stand)) }
+    ensures prefix { (stop_after : Option ℕ) (planned : model.Planned) (from : Beginning) (until : ℕ)
+        → IsRunOf stop_after planned from until done.now.run
+        → OnErr result (AppendsPrefix (O.taken out.old) (O.taken out.new)
+        (text_at stop_after planned from until done.now.ended.stand)) }
     ensures cause { HasCause (O.faults out.old) (O.faults out.new) result }
 {
-    // The report of such a run is that of the rule to its last epoch, and from states at one epoch that
-    // of the serial dynamics.
+    // The report of a run that isn't to stop is that of the rule to its last epoch, and from states at one
+    // epoch that of the serial dynamics.
     unstopped_run_is_whole();
     level_report_is_serial();
     write_report(done, plan, out)
@@ -86,23 +95,28 @@ fn save_run<H: Shelf>(
     done: &mut Done,
     plan: &Plan,
     shelf: &mut H,
-    name: Option<&str>,
+    order: &RunOrder<'_>,
 ) -> Result<(), Fault>
     requires plan { plan.now ≡ done.old.run.plan }
     requires ended { IsEnd done.old.run done.old.ended }
-    requires saves { done.old.run.saves ≡ saves_as (name_bytes name) }
-    ensures placed { (planned : model.Planned) (from : Beginning) (until : ℕ) → IsRunOf planned from until done.old.run
-        → OnOk result (PlacesAs (name_bytes name.entry) (run_checkpoint planned from until) (H.holds shelf.old) (H.holds shelf.new)) }
-    ensures others { OnErr result (Unplaced (name_bytes name.entry)
+    requires saves { done.old.run.saves ≡ saves_as order.now.stop_after (name_bytes order.now.save) }
+    ensures placed { (planned : model.Planned) (from : Beginning) (until : ℕ)
+        → IsRunOf order.now.stop_after planned from until done.old.run
+        → OnOk result (Saved (name_bytes order.now.save)
+        (bytes_at order.now.stop_after planned from until done.old.ended.stand)
         (store H.holds H.faults H.lengths shelf.old) (store H.holds H.faults H.lengths shelf.new)) }
-    ensures named { OnErr result (name_bytes name.entry ≢ None) }
+    ensures unsought { OnOk result (Unsought (name_bytes order.now.save)
+        (store H.holds H.faults H.lengths shelf.old) (store H.holds H.faults H.lengths shelf.new)) }
+    ensures others { OnErr result (Unplaced (name_bytes order.now.save)
+        (store H.holds H.faults H.lengths shelf.old) (store H.holds H.faults H.lengths shelf.new)) }
+    ensures named { OnErr result (name_bytes order.now.save ≢ None) }
     ensures cause { HasCause (H.faults shelf.old) (H.faults shelf.new) result }
 {
-    // The checkpoint of such a run is that of the rule's states at its last epoch, and from states at one
-    // epoch of those of the serial dynamics.
+    // The checkpoint of a run that isn't to stop is that of the rule's states at its last epoch, and from
+    // states at one epoch of those of the serial dynamics.
     whole_checkpoint_is_the_rules();
     level_checkpoint_is_serial();
-    match name {
+    match order.save {
         None => Ok(()),
         Some(name) => save(done, plan, shelf, name),
     }

@@ -5,7 +5,7 @@ ghost use Rattle.coupling_set.specs.BondsAsWords.{couplings_with};
 ghost use Rattle.spin_model.specs.Couplings.{plus, random};
 ghost use Rattle.run_plan.specs.RunFile.{IsLawfulRunFile, AreLawfulOrders};
 ghost use Rattle.run_plan.specs.PlanOf.{plan_with};
-ghost use Rattle.glass_main.specs.Endings.{IsOfRun, IsReached, IsReachedAfter, IsReachedAfterRules};
+ghost use Rattle.glass_main.specs.Endings.{IsReached, IsReachedAfter, IsReachedAfterRules};
 ghost use Rattle.glass_main.specs.Gathers.{Gathers, Fetches, gathered};
 ghost use Rattle.glass_main.specs.Outside.{store};
 ghost use Rattle.glass_main.specs.Request as model;
@@ -209,7 +209,6 @@ pub(crate) fn gather_bytes<H: Shelf>(
     role: Role,
     name: &str,
 ) -> Result<Items<u8>, Ending>
-    requires { IsOfRun role }
     ensures { Gathers (option_map (model.bytes_at role name.now) (H.holds shelf.old))
         (Fetches role) result
         (store H.holds H.faults H.lengths shelf.old) (store H.holds H.faults H.lengths shelf.new) }

@@ -1,6 +1,7 @@
-//! What holds of the definitions: the law is the contract of a function with an empty body.
+//! What holds of the definitions: each law is the contract of a function with an empty body.
 
 ghost use Rattle.glass_main.specs.LawfulRuns.{EndedReportsAreLawful, RunReportsAreLawful};
+ghost use Rattle.glass_main.specs.StopLaws.{AcceptedCheckpointsAreEncodings, SavedStopsAreRead, StoppedRunsAddUp};
 
 /// The report that a run prints is one that `average` reads.
 pub fn run_reports_are_lawful()
@@ -11,4 +12,21 @@ pub fn run_reports_are_lawful()
 /// records that its starting state has ahead are within their ranges.
 pub fn ended_reports_are_lawful()
     ensures { EndedReportsAreLawful }
+{}
+
+/// The bytes of a checkpoint that a run goes on from are the encoding of what it goes on from.
+pub fn accepted_checkpoints_are_encodings()
+    ensures { AcceptedCheckpointsAreEncodings }
+{}
+
+/// What a run saved that stopped with its slots at different epochs is what the next one goes on from.
+pub fn saved_stops_are_read()
+    ensures { SavedStopsAreRead }
+{}
+
+/// Runs that stop and are gone on with add up, however often and wherever they were stopped: the rows of
+/// all of them, one after the other, are the rows of one run, and the spins and the checkpoint of the
+/// last are those of the one.
+pub fn stopped_runs_add_up()
+    ensures { StoppedRunsAddUp }
 {}

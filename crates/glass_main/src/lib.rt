@@ -32,7 +32,10 @@ mod words;
 pub use average_words::AverageOrder;
 pub use command_line::{Command, PlainOrder};
 pub use ending::Ending;
-pub use laws::{ended_reports_are_lawful, run_reports_are_lawful};
+pub use laws::{
+    accepted_checkpoints_are_encodings, ended_reports_are_lawful, run_reports_are_lawful,
+    saved_stops_are_read, stopped_runs_add_up,
+};
 pub use lines::no_memory;
 pub use planned::Planned;
 pub use refusal::Refusal;

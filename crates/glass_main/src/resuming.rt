@@ -1,7 +1,9 @@
 //! What a run starts from: the opening states of its samples, or those of a checkpoint.
 
 ghost use Rattle.std.specs.Prelude.{◌≡◌, ◌≤◌, option_map, Some, IfOk};
+ghost use Rattle.plane_sweep.specs.Packed.{StandFits, StandsFor};
 ghost use Rattle.run_plan.specs.RunFile.{AreLawfulOrders};
+ghost use Rattle.scalar_rule.specs.Opening.{opening};
 ghost use Rattle.glass_main.specs.Beginnings.{IsBaseOf, opened_by};
 ghost use Rattle.glass_main.specs.Outside.{store};
 ghost use Rattle.glass_main.specs.Request as model;
@@ -50,9 +52,17 @@ fn opening_base(alloc: Global, planned: &Planned, until: u64) -> Result<RaggedSt
     ensures resumable { IfOk result (IsResumable planned.now until) }
 {
     let _ = planned.plan.slots();
-    let stand = Stand::opening(alloc, &planned.plan, planned.orders.start)?;
+    let stand = opening_stand(alloc, planned)?;
     let base = RaggedStand::level(alloc, stand)?;
     Ok(base)
+}
+
+// The states that the samples begin with, packed.
+fn opening_stand(alloc: Global, planned: &Planned) -> Result<Stand, NoMemory>
+    ensures opening { IfOk result (StandsFor planned.now.plan (opening planned.now.plan planned.now.orders.start 0)) }
+    ensures fits { IfOk result (StandFits planned.now.plan) }
+{
+    Stand::opening(alloc, &planned.plan, planned.orders.start)
 }
 
 // The state of the checkpoint of a name.

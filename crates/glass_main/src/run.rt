@@ -1,5 +1,5 @@
 //! The command `run`: the run that a run file, its tables and its couplings describe, from their opening
-//! state or from a checkpoint, its report, and its own checkpoint.
+//! state or from a checkpoint, to its last epoch or until it stops, its report, and its own checkpoint.
 
 ghost use Rattle.std.specs.Prelude.{◌≡◌, ℕ, ◌≤◌, None, Some, IfOk, IfErr, unwrap_or};
 ghost use Rattle.std.specs.Arc.{arc_value};
@@ -9,7 +9,7 @@ ghost use Rattle.run_plan.specs.RunFile.{AreLawfulOrders};
 ghost use Rattle.scalar_rule.specs.Positions.{floor_of};
 ghost use Rattle.glass_main.specs.Beginnings.{Beginning, begins_at};
 ghost use Rattle.glass_main.specs.CommandLine as commands;
-ghost use Rattle.glass_main.specs.Opened.{saves_as, IsOpened, IsUnopened};
+ghost use Rattle.glass_main.specs.Opened.{takes_of, saves_as, IsOpened, IsUnopened};
 ghost use Rattle.glass_main.specs.Outside.{output, store};
 ghost use Rattle.glass_main.specs.ReadCommand.{name_bytes, read_run_order, IsLawfulOrder};
 ghost use Rattle.glass_main.specs.Resumes.{IsResumable};
@@ -88,8 +88,9 @@ fn open_run(
     requires until { until ≤ 1000000000 }
     requires order { IsLawfulOrder order.now }
     ensures accepted { IfOk result (λ opened. amount_refusal planned.plan planned.orders (floor_of (positions_of base)) until ≡ None) }
-    ensures opened { IfOk result (IsOpened planned base until (name_bytes order.now.save)) }
-    ensures stopped { (from : Beginning) → begins_at from ≡ floor_of (positions_of base) → IfErr result (IsUnopened planned from until) }
+    ensures opened { IfOk result (IsOpened planned base until order.now.stop_after (name_bytes order.now.save)) }
+    ensures stopped { (from : Beginning) → begins_at from ≡ floor_of (positions_of base)
+        → IfErr result (IsUnopened order.now.stop_after planned from until) }
 {
     let from = floor_of(&planned, &base, until);
     if let Err(refused) = check_amount(&planned.plan, &planned.orders, from, until) {
@@ -126,7 +127,7 @@ fn open_planned(
     requires until { until ≤ 1000000000 }
     requires rows { row_count planned.plan planned.orders (floor_of (positions_of base)) until ≤ 4194304 }
     requires order { IsLawfulOrder order.now }
-    ensures { IfOk result (IsOpened planned base until (name_bytes order.now.save)) }
+    ensures { IfOk result (IsOpened planned base until order.now.stop_after (name_bytes order.now.save)) }
 {
     let plan = Arc::new(alloc, planned.plan)?;
     let run = open(
@@ -135,19 +136,29 @@ fn open_planned(
         &planned.orders,
         base,
         until,
-        EVERY_TAKE,
+        takes_of(order),
         order.workers,
-        kind_of(order.save),
+        kind_of(order),
     )?;
     Ok(Opened { plan, run })
 }
 
-// Which checkpoint is saved under a name.
-fn kind_of(name: Option<&str>) -> SaveKind
-    ensures { result ≡ saves_as (name_bytes name.entry) }
+// How many hand-outs of a slot the run makes at most.
+fn takes_of(order: &RunOrder<'_>) -> u64
+    requires { IsLawfulOrder order.now }
+    ensures value { result ≡ takes_of order.now.stop_after }
+    ensures within { result ≤ 32000000000 }
 {
-    match name {
-        None => SaveKind::Never,
-        Some(_) => SaveKind::Level,
+    order.stop_after.unwrap_or(EVERY_TAKE)
+}
+
+// Which checkpoint the run saves.
+fn kind_of(order: &RunOrder<'_>) -> SaveKind
+    ensures { result ≡ saves_as order.now.stop_after (name_bytes order.now.save) }
+{
+    match (order.stop_after, order.save) {
+        (_, None) => SaveKind::Never,
+        (None, Some(_)) => SaveKind::Level,
+        (Some(_), Some(_)) => SaveKind::Ragged,
     }
 }

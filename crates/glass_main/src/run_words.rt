@@ -2,7 +2,7 @@
 
 ghost use Rattle.std.specs.Prelude.{◌≡◌, ℕ, ◌≤◌, drop, option_map, Some, None, IfSome};
 ghost use Rattle.glass_main.specs.CommandLine as model;
-ghost use Rattle.glass_main.specs.ReadCommand.{read_run_order, read_said, IsLawfulOrder, AreLawfulWords};
+ghost use Rattle.glass_main.specs.ReadCommand.{name_bytes, read_run_order, read_said, IsLawfulOrder, AreLawfulWords};
 ghost use Rattle.glass_main.specs.Words.{texts};
 
 use crate::words::{is_file_name, number_word, word_at};
@@ -22,6 +22,9 @@ pub struct RunOrder<'a> {
     pub from: Option<&'a str>,
     /// The name under which the checkpoint of the end is saved; none for no checkpoint.
     pub save: Option<&'a str>,
+    /// After how many hand-outs of a slot the run stops, at most 32000000000, wherever its slots are;
+    /// none for a run to its last epoch.
+    pub stop_after: Option<u64>,
 }
 
 /// What the words have said so far; an option without a value waits for the next word.
@@ -34,6 +37,7 @@ struct RunWords<'a> {
     until: Option<u64>,
     from: Option<&'a str>,
     save: Option<&'a str>,
+    stop_after: Option<u64>,
 }
 
 /// Reads the words of `run`, of which the first is the command's name.
@@ -66,6 +70,7 @@ fn said_by(words: &[String]) -> Option<RunWords<'_>>
         until: None,
         from: None,
         save: None,
+        stop_after: None,
     };
     'words: for k in 0..words.len() {
         said = with_word(said, word_at(words, k))?;
@@ -81,16 +86,24 @@ fn order_in(said: RunWords<'_>) -> Option<RunOrder<'_>>
     ensures lawful { IfSome result IsLawfulOrder }
 {
     match (said.run, said.waiting) {
-        (Some(run), None) => Some(RunOrder {
+        (Some(run), None) if is_kept(said.stop_after, said.save) => Some(RunOrder {
             run,
             workers: said.workers.unwrap_or(1),
             pieces: said.pieces.unwrap_or(1),
             until: said.until,
             from: said.from,
             save: said.save,
+            stop_after: said.stop_after,
         }),
         _ => None,
     }
+}
+
+// Whether a run that may stop is saved.
+fn is_kept(stop_after: Option<u64>, save: Option<&str>) -> bool
+    ensures { result ≡ model.is_kept stop_after (name_bytes save.entry) }
+{
+    stop_after.is_none() || save.is_some()
 }
 
 // One word more.
@@ -151,6 +164,7 @@ fn with_option<'a>(said: RunWords<'a>, name: &str, value: &'a str) -> Option<Run
         "--until" => with_until(said, value),
         "--from" => with_from(said, value),
         "--save" => with_save(said, value),
+        "--stop-after" => with_stop_after(said, value),
         _ => None,
     }
 }
@@ -229,6 +243,22 @@ fn with_save<'a>(said: RunWords<'a>, value: &'a str) -> Option<RunWords<'a>>
     Some(RunWords {
         waiting: None,
         save: Some(value),
+        ..said
+    })
+}
+
+fn with_stop_after<'a>(said: RunWords<'a>, value: &str) -> Option<RunWords<'a>>
+    requires { AreLawfulWords said }
+    ensures value { option_map read_said result ≡ model.with_stop_after (read_said said.entry) value.now }
+    ensures lawful { IfSome result AreLawfulWords }
+{
+    if said.stop_after.is_some() {
+        return None;
+    }
+    let takes = number_word(value, 0, 32000000000)?;
+    Some(RunWords {
+        waiting: None,
+        stop_after: Some(takes),
         ..said
     })
 }

@@ -26,4 +26,6 @@ mod samples_alone;
 #[cfg(test)]
 mod sixteen_temperatures;
 #[cfg(test)]
+mod stopping;
+#[cfg(test)]
 mod words;

@@ -28,14 +28,14 @@ spin,0,1,0,5a5aa5a55a5aa5a5
 spin,0,1,1,5a5aa5a55a5aa5a5
 ";
 
-const SPINS_AT_2: &str = "spin,0,0,0,5a5aa5a55a5aa5a5
+pub const SPINS_AT_2: &str = "spin,0,0,0,5a5aa5a55a5aa5a5
 spin,0,0,1,5a5aa5a55a5aa5a5
 spin,0,1,0,ffffffffffffffff
 spin,0,1,1,ffffffffffffffff
 ";
 
-// A report from an epoch to another with these rows and spins.
-fn report<R: AllocGlobal>(
+/// A report from an epoch to another with these rows and spins.
+pub fn report<R: AllocGlobal>(
     rt: &R,
     from: u64,
     to: u64,
@@ -47,13 +47,13 @@ fn report<R: AllocGlobal>(
     )?)
 }
 
-// Whether the call ended with status 0 and printed this.
-fn printed(called: &Called, report: &str) -> bool {
+/// Whether the call ended with status 0 and printed this.
+pub fn printed(called: &Called, report: &str) -> bool {
     called.status == 0 && called.out.taken() == report.as_bytes() && called.err.taken().is_empty()
 }
 
-// Whether the call told this line with this status, and wrote nothing.
-fn is_refused<R: AllocGlobal>(
+/// Whether the call told this line with this status, and wrote nothing.
+pub fn is_refused<R: AllocGlobal>(
     rt: &R,
     called: &Called,
     status: u8,

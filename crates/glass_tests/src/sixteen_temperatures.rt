@@ -107,3 +107,48 @@ fn sixteen_temperatures_stopped_and_resumed(rt: HostRuntime) -> Result<(), Fail>
     );
     Ok(())
 }
+
+/// The first line of the report, and its last.
+const FIRST_LINE: &str = "glass 1 size=8 slots=16 samples=64 rule=metropolis from=0 to=20\n";
+
+const LAST_LINE: &str = "end,20\n";
+
+// The lines of a report that are rows.
+fn push_rows(rows: &mut Vec<u8>, report: &[u8]) -> Result<(), Fail> {
+    for line in report.split_inclusive(|byte| *byte == b'\n') {
+        if line.starts_with(b"row,") {
+            rows.extend_from_slice(line)?;
+        }
+    }
+    Ok(())
+}
+
+// Three runs that stop after 100 hand-outs, each going on from the one before, and the last 20 hand-outs
+// of 320.
+#[test]
+fn four_stopped_runs_add_up(rt: HostRuntime) -> Result<(), Fail> {
+    let mut shelf = store(&rt, RUN, rules(&rt)?.as_str(), swaps(&rt)?.as_str())?;
+    for name in ["a", "b", "c", "d"] {
+        shelf.room(name, 300000)?;
+    }
+    let mut text = Vec::from_slice(rt.alloc(), FIRST_LINE.as_bytes())?;
+    for line in [
+        "run run.toml --stop-after 100 --save a",
+        "run run.toml --workers 3 --from a --stop-after 100 --save b",
+        "run run.toml --from b --stop-after 100 --save c",
+        "run run.toml --workers 2 --from c --save d",
+    ] {
+        let called = call_on(&rt, line, &mut shelf)?;
+        assert_eq!(rt; called.status, 0);
+        push_rows(&mut text, called.out.taken())?;
+    }
+    text.extend_from_slice(LAST_LINE.as_bytes())?;
+    assert_eq!(rt; Sha256::digest(text.as_slice()), DIGEST);
+    assert!(rt;
+        ends_with(
+            bytes_of(&rt, &mut shelf, "d").as_slice(),
+            DIGEST_AT_20.as_slice()
+        )
+    );
+    Ok(())
+}

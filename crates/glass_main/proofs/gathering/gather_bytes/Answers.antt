@@ -4,5 +4,5 @@ use Rattle.glass_main.proofs.gathering.gather_bytes.Goals as goal
 pub returns : goal.returns
 returns g c =
     let fetch = c.fetch.ensures in
-    gathers_fetched c.args.role c.args.name.now _ _ _ _ _ _ _ _ _ c.requires c.gathered.ensures c.limit.ensures
+    gathers_fetched c.args.role c.args.name.now _ _ _ _ _ _ _ _ _ c.gathered.ensures c.limit.ensures
     fetch.held fetch.limit fetch.absent fetch.above fetch.long fetch.length fetch.failed fetch.quiet fetch.later fetch.same fetch.lengths_stay

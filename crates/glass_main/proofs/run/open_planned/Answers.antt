@@ -18,7 +18,7 @@ returns c = record {
   plan = ap (λ run. run.plan) c.in_ok-run.ensures ∙ c.in_ok-plan.ensures.ok;
   orders = ap (λ run. run.orders) c.in_ok-run.ensures;
   until = ap (λ run. run.until) c.in_ok-run.ensures;
-  takes = ap (λ run. run.takes) c.in_ok-run.ensures;
+  takes = ap (λ run. run.takes) c.in_ok-run.ensures ∙ c.takes_of.ensures.value;
   base_is = ap (λ run. run.base) c.in_ok-run.ensures;
   saves_is = ap (λ run. run.saves) c.in_ok-run.ensures ∙ c.kind_of.ensures;
 }

@@ -14,5 +14,5 @@ returns-in-Err-clause-stopped c = λ from begins.
     let told : ℕ → Type 0 = λ n. c.check_amount.result ≡ unless (amount_refusal planned.plan planned.orders n c.args.until) tt in
     let exact = subst told at c.check_amount.ensures.exact in (
       amount-told planned.plan planned.orders (begins_at from) c.args.until c.check_amount.result c.in-Err.refused c.in-Err.is exact,
-      refused-amount (amount_refusal planned.plan planned.orders (begins_at from) c.args.until) (RunWork planned from c.args.until) c.check_amount.result c.in-Err.refused c.in-Err.is exact,
+      refused-amount (amount_refusal planned.plan planned.orders (begins_at from) c.args.until) (RunWork planned from c.args.until c.args.order.now.stop_after) c.check_amount.result c.in-Err.refused c.in-Err.is exact,
     )
