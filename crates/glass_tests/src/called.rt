@@ -91,14 +91,25 @@ pub fn call_words_of<R: AllocGlobal + Threads + Wait + Sync>(
     Ok(call_words(rt, &words, shelf, out, err))
 }
 
+/// Calls the program with the words of a line, over a store that is used further and these outputs.
+pub fn call_on_over<R: AllocGlobal + Threads + Wait + Sync>(
+    rt: &R,
+    line: &str,
+    shelf: &mut MemoryShelf,
+    out: MemorySink,
+    err: MemorySink,
+) -> Result<Called, Fail> {
+    let words = words_of(rt, line)?;
+    Ok(call_words_on(rt, &words, shelf, out, err))
+}
+
 /// Calls the program with the words of a line, over a store that is used further.
 pub fn call_on<R: AllocGlobal + Threads + Wait + Sync>(
     rt: &R,
     line: &str,
     shelf: &mut MemoryShelf,
 ) -> Result<Called, Fail> {
-    let words = words_of(rt, line)?;
-    Ok(call_words_on(rt, &words, shelf, ample(rt)?, ample(rt)?))
+    call_on_over(rt, line, shelf, ample(rt)?, ample(rt)?)
 }
 
 /// Calls the program with no words, over an empty store.

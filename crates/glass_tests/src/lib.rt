@@ -12,7 +12,11 @@ mod checkpoints;
 #[cfg(test)]
 mod couplings;
 #[cfg(test)]
+mod damage;
+#[cfg(test)]
 mod demo;
+#[cfg(test)]
+mod faults;
 #[cfg(test)]
 mod files;
 #[cfg(test)]
