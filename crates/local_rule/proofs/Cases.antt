@@ -1,6 +1,7 @@
 -- The case of a count below seven by its three bits, and the flip of a spin, on truth values.
 use Rattle.std.proofs.Common.{◌≡◌, ℕ, ◌+◌, ◌*◌, ◌-◌, ◌≤◌, ◌||◌, ◌&&◌, not, nat_le, Bool, true, false, if◌then◌else◌, refl, arith}
 use Rattle.multispin_word.specs.Planes.{one_if, differs}
+use Rattle.local_rule.specs.TurnedCounts.{accepted}
 
 -- heat bath: one of seven cases
 pub seven : (t : ℕ → Bool) (x y z : Bool) (n : ℕ) → n ≡ one_if x + 2 * one_if y + 4 * one_if z → n ≤ 6
@@ -39,24 +40,18 @@ flip false true false = refl
 flip false false true = refl
 flip false false false = refl
 
--- the same where a negation is a difference from true
-pub flip-ones : (s c a : Bool) → differs (differs s true) (c && differs a true) ≡ (if not c || a then not s else s)
-flip-ones true true true = refl
-flip-ones true true false = refl
-flip-ones true false true = refl
-flip-ones true false false = refl
-flip-ones false true true = refl
-flip-ones false true false = refl
-flip-ones false false true = refl
-flip-ones false false false = refl
-
 pub differs-true : (b : Bool) → differs b true ≡ not b
 differs-true true = refl
 differs-true false = refl
 
-pub differs-false : (b : Bool) → differs b false ≡ b
+differs-false : (b : Bool) → differs b false ≡ b
 differs-false true = refl
 differs-false false = refl
+
+-- to be equal to a set bit
+pub same-true : (b : Bool) → not (differs b true) ≡ b
+same-true true = refl
+same-true false = refl
 
 -- the low and the high bit of the sum of three bits
 abbrev pub low : Bool → Bool → Bool → Bool
@@ -76,50 +71,131 @@ sum-three false true false = refl
 sum-three false false true = refl
 sum-three false false false = refl
 
--- with all three turned, both are turned
-pub sum-turned : (x y z o : Bool)
-    → one_if (differs (low x y z) o) + 2 * one_if (differs (high x y z) o)
-    ≡ one_if (differs x o) + one_if (differs y o) + one_if (differs z o)
-sum-turned x y z false =
-    rw (differs-false (low x y z), differs-false (high x y z), differs-false x, differs-false y, differs-false z)
-    (sum-three x y z)
-sum-turned true true true true = refl
-sum-turned true true false true = refl
-sum-turned true false true true = refl
-sum-turned true false false true = refl
-sum-turned false true true true = refl
-sum-turned false true false true = refl
-sum-turned false false true true = refl
-sum-turned false false false true = refl
+-- so the sum of two such numbers has these three bits
+two-sums : (f g h k : Bool)
+    → one_if (differs f h) + 2 * one_if (differs (differs g k) (f && h)) + 4 * one_if (if differs g k then f && h else g)
+    ≡ one_if f + 2 * one_if g + (one_if h + 2 * one_if k)
+two-sums true true true true = refl
+two-sums true true true false = refl
+two-sums true true false true = refl
+two-sums true true false false = refl
+two-sums true false true true = refl
+two-sums true false true false = refl
+two-sums true false false true = refl
+two-sums true false false false = refl
+two-sums false true true true = refl
+two-sums false true true false = refl
+two-sums false true false true = refl
+two-sums false true false false = refl
+two-sums false false true true = refl
+two-sums false false true false = refl
+two-sums false false false true = refl
+two-sums false false false false = refl
 
--- the sum of two turned bits: its low bit is that of the bits themselves
-pub sum-two-turned : (x y o : Bool)
-    → one_if (differs x y) + 2 * one_if (differs x o && differs y o) ≡ one_if (differs x o) + one_if (differs y o)
-sum-two-turned true true true = refl
-sum-two-turned true true false = refl
-sum-two-turned true false true = refl
-sum-two-turned true false false = refl
-sum-two-turned false true true = refl
-sum-two-turned false true false = refl
-sum-two-turned false false true = refl
-sum-two-turned false false false = refl
-
--- the three bits of the sum of six turned bits
-pub six-turned : (u v w x y z o : Bool)
+-- and so has that of six bits
+pub six : (u v w x y z : Bool)
     → one_if (differs (low u v w) (low x y z))
-    + 2 * one_if (low (differs (high u v w) o) (differs (high x y z) o) (differs (low u v w) o && differs (low x y z) o))
-    + 4 * one_if (high (differs (high u v w) o) (differs (high x y z) o) (differs (low u v w) o && differs (low x y z) o))
-    ≡ one_if (differs u o) + one_if (differs v o) + one_if (differs w o) + one_if (differs x o) + one_if (differs y o) + one_if (differs z o)
-six-turned u v w x y z o =
-    let front = sum-turned u v w o in
-    let back = sum-turned x y z o in
-    let ones = sum-two-turned (low u v w) (low x y z) o in
-    let twos = sum-three (differs (high u v w) o) (differs (high x y z) o) (differs (low u v w) o && differs (low x y z) o) in
-    omega (arith, front, back, ones, twos)
+    + 2 * one_if (differs (differs (high u v w) (high x y z)) (low u v w && low x y z))
+    + 4 * one_if (if differs (high u v w) (high x y z) then low u v w && low x y z else high u v w)
+    ≡ one_if u + one_if v + one_if w + one_if x + one_if y + one_if z
+six u v w x y z =
+    omega (arith, sum-three u v w, sum-three x y z, two-sums (low u v w) (high u v w) (low x y z) (high x y z))
 
--- to differ from the other of two values
-pub differs-not : (b s : Bool) → differs b (not s) ≡ not (differs b s)
-differs-not true true = refl
-differs-not true false = refl
-differs-not false true = refl
-differs-not false false = refl
+-- of three bits compared with another both bits of the sum are compared with it
+sum-equal : (x y z s : Bool)
+    → one_if (not (differs (low x y z) s)) + 2 * one_if (not (differs (high x y z) s))
+    ≡ one_if (not (differs x s)) + one_if (not (differs y s)) + one_if (not (differs z s))
+sum-equal true true true true = refl
+sum-equal true true true false = refl
+sum-equal true true false true = refl
+sum-equal true true false false = refl
+sum-equal true false true true = refl
+sum-equal true false true false = refl
+sum-equal true false false true = refl
+sum-equal true false false false = refl
+sum-equal false true true true = refl
+sum-equal false true true false = refl
+sum-equal false true false true = refl
+sum-equal false true false false = refl
+sum-equal false false true true = refl
+sum-equal false false true false = refl
+sum-equal false false false true = refl
+sum-equal false false false false = refl
+
+-- the sum of two such numbers, with its bits of 2 and 4 turned over
+two-equal : (f g h k s : Bool)
+    → one_if (differs f h) + 2 * one_if (not (differs (differs g k) (differs f h || differs f s)))
+    + 4 * one_if (not (if differs g k then differs f h || differs f s else differs g s))
+    ≡ one_if (not (differs f s)) + 2 * one_if (not (differs g s)) + (one_if (not (differs h s)) + 2 * one_if (not (differs k s)))
+two-equal true true true true true = refl
+two-equal true true true true false = refl
+two-equal true true true false true = refl
+two-equal true true true false false = refl
+two-equal true true false true true = refl
+two-equal true true false true false = refl
+two-equal true true false false true = refl
+two-equal true true false false false = refl
+two-equal true false true true true = refl
+two-equal true false true true false = refl
+two-equal true false true false true = refl
+two-equal true false true false false = refl
+two-equal true false false true true = refl
+two-equal true false false true false = refl
+two-equal true false false false true = refl
+two-equal true false false false false = refl
+two-equal false true true true true = refl
+two-equal false true true true false = refl
+two-equal false true true false true = refl
+two-equal false true true false false = refl
+two-equal false true false true true = refl
+two-equal false true false true false = refl
+two-equal false true false false true = refl
+two-equal false true false false false = refl
+two-equal false false true true true = refl
+two-equal false false true true false = refl
+two-equal false false true false true = refl
+two-equal false false true false false = refl
+two-equal false false false true true = refl
+two-equal false false false true false = refl
+two-equal false false false false true = refl
+two-equal false false false false false = refl
+
+-- and that of six bits compared with another
+pub six-equal : (u v w x y z s : Bool)
+    → one_if (differs (low u v w) (low x y z))
+    + 2 * one_if (not (differs (differs (high u v w) (high x y z)) (differs (low u v w) (low x y z) || differs (low u v w) s)))
+    + 4 * one_if (not (if differs (high u v w) (high x y z) then differs (low u v w) (low x y z) || differs (low u v w) s else differs (high u v w) s))
+    ≡ one_if (not (differs u s)) + one_if (not (differs v s)) + one_if (not (differs w s)) + one_if (not (differs x s)) + one_if (not (differs y s)) + one_if (not (differs z s))
+six-equal u v w x y z s =
+    omega (arith, sum-equal u v w s, sum-equal x y z s, two-equal (low u v w) (high u v w) (low x y z) (high x y z) s)
+
+-- what differs from the difference
+pick-six : (x y : Bool) → differs x (differs x y) ≡ y
+pick-six true true = refl
+pick-six true false = refl
+pick-six false true = refl
+pick-six false false = refl
+
+-- one of three cases, put together by differences
+pub accept : (x y p q r : Bool)
+    → differs (differs p (x && differs p q)) (differs y true && differs p r) ≡ accepted x y p q r
+accept true y p q r = rw (differs-true y, pick-six p q) refl
+accept false y p q r = rw (differs-true y, differs-false p) refl
+
+turn-if : (s c : Bool) → differs s c ≡ (if c then not s else s)
+turn-if true true = refl
+turn-if true false = refl
+turn-if false true = refl
+turn-if false false = refl
+
+-- Metropolis by a count whose bits of 2 and 4 are turned over: the spin is turned where one of two holds
+pub turn : (t : ℕ → Bool) (x y z s : Bool) (n : ℕ) → n ≡ one_if x + 2 * one_if (not y) + 4 * one_if (not z) → n ≤ 6
+    → differs s (z || accepted x y (t 0) (t 1) (t 2)) ≡ (if nat_le n 3 || t (n - 4) then not s else s)
+turn t true true true s n e h = rw e (differs-true s)
+turn t true false true s n e h = rw e (differs-true s)
+turn t false true true s n e h = rw e (differs-true s)
+turn t false false true s n e h = rw e (differs-true s)
+turn t false true false s n e h = rw (e, differs-false (t 0)) (turn-if s (t 0))
+turn t true true false s n e h = rw (e, differs-false (t 1)) (turn-if s (t 1))
+turn t false false false s n e h = rw (e, pick-six (t 0) (t 2)) (turn-if s (t 2))
+turn t true false false s n e h = absurd (omega arith)

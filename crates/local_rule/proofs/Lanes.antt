@@ -1,10 +1,9 @@
 -- Operations on n words, lane by lane.
-use Rattle.std.proofs.Common.{◌≡◌, ℕ, ◌-◌, ◌^◌, ◌<◌, ◌&&◌, ◌||◌, not, nat_lt, Bool, true, false, cond, if◌then◌else◌, ltb, List, length, map, get_or, replicate, refl, sym, ap, ◌∙◌, arith, bit_xor, bit_and, bit_or, w64}
+use Rattle.std.proofs.Common.{◌≡◌, ℕ, ◌-◌, ◌^◌, ◌<◌, ◌&&◌, ◌||◌, nat_lt, Bool, true, false, cond, if◌then◌else◌, ltb, List, length, map, get_or, replicate, refl, sym, ap, ◌∙◌, arith, bit_xor, bit_and, bit_or, w64}
 use lib.Lanes.{zip2, sel_l, top}
 use Rattle.std.proofs.lemmas.Simd.{tops_compared, length-zip2, length-sel_l, get_or-sel_l, get_or-zip2, length-replicate, get_or-replicate}
 use Rattle.multispin_word.specs.Planes.{differs, is_set}
 use Rattle.multispin_word.proofs.Bits.{is_set-and, is_set-or, is_set-xor, is_set-ones, is_set-zero, is_set-choose}
-use Rattle.local_rule.proofs.Cases.{differs-true, flip-ones}
 
 -- n words of ones, and of zeros
 abbrev pub all : ℕ → List ℕ
@@ -81,42 +80,6 @@ chosen-at m x y i k p q r h =
     let masked = long bit_and m (zip2 bit_xor x y) p differ in
     rw (at bit_xor y (zip2 bit_and m (zip2 bit_xor x y)) i r masked h, at bit_and m (zip2 bit_xor x y) i p differ h, at bit_xor x y i q r h)
     (is_set-choose (get_or m i 0) (get_or x i 0) (get_or y i 0) k)
-
--- s turned, but kept where c is set and a is not
-abbrev pub turned : ℕ → List ℕ → List ℕ → List ℕ → List ℕ
-turned n s c a = zip2 bit_xor (zip2 bit_xor s (all n)) (zip2 bit_and c (zip2 bit_xor a (all n)))
-
-pub turned-long : (n : ℕ) (s c a : List ℕ) → length s ≡ n → length c ≡ n → length a ≡ n → length (turned n s c a) ≡ n
-turned-long n s c a p q r =
-    let other = long bit_xor s (all n) p (all-long n) in
-    let refused = long bit_xor a (all n) r (all-long n) in
-    long bit_xor (zip2 bit_xor s (all n)) (zip2 bit_and c (zip2 bit_xor a (all n))) other (long bit_and c (zip2 bit_xor a (all n)) q refused)
-
-turned-word : (s c a k : ℕ) → k < 64
-    → is_set (bit_xor (bit_xor s (2 ^ 64 - 1)) (bit_and c (bit_xor a (2 ^ 64 - 1)))) k
-    ≡ (if not (is_set c k) || is_set a k then not (is_set s k) else is_set s k)
-turned-word s c a k h =
-    rw (is_set-xor (bit_xor s (2 ^ 64 - 1)) (bit_and c (bit_xor a (2 ^ 64 - 1))) k, is_set-and c (bit_xor a (2 ^ 64 - 1)) k, is_set-xor s (2 ^ 64 - 1) k, is_set-xor a (2 ^ 64 - 1) k, is_set-ones k h)
-    (flip-ones (is_set s k) (is_set c k) (is_set a k))
-
-pub turned-at : (n : ℕ) (s c a : List ℕ) (i k : ℕ) → length s ≡ n → length c ≡ n → length a ≡ n → i < n → k < 64
-    → is_set (get_or (turned n s c a) i 0) k
-    ≡ (if not (is_set (get_or c i 0) k) || is_set (get_or a i 0) k then not (is_set (get_or s i 0) k) else is_set (get_or s i 0) k)
-turned-at n s c a i k p q r h l =
-    let ones : get_or (all n) i 0 ≡ 2 ^ 64 - 1 = get_or-replicate {A = ℕ} n i (2 ^ 64 - 1) 0 h in
-    let other = long bit_xor s (all n) p (all-long n) in
-    let refused = long bit_xor a (all n) r (all-long n) in
-    let kept = long bit_and c (zip2 bit_xor a (all n)) q refused in
-    rw (at bit_xor (zip2 bit_xor s (all n)) (zip2 bit_and c (zip2 bit_xor a (all n))) i other kept h, at bit_xor s (all n) i p (all-long n) h, at bit_and c (zip2 bit_xor a (all n)) i q refused h, at bit_xor a (all n) i r (all-long n) h, ones)
-    (turned-word (get_or s i 0) (get_or c i 0) (get_or a i 0) k l)
-
--- the other spin
-pub other-at : (n : ℕ) (s : List ℕ) (i k : ℕ) → length s ≡ n → i < n → k < 64
-    → is_set (get_or (zip2 bit_xor s (all n)) i 0) k ≡ not (is_set (get_or s i 0) k)
-other-at n s i k p h l =
-    let ones : get_or (all n) i 0 ≡ 2 ^ 64 - 1 = get_or-replicate {A = ℕ} n i (2 ^ 64 - 1) 0 h in
-    rw (at bit_xor s (all n) i p (all-long n) h, ones, is_set-xor (get_or s i 0) (2 ^ 64 - 1) k, is_set-ones k l)
-    (differs-true (is_set (get_or s i 0) k))
 
 -- ones where a draw is below t
 abbrev pub lower : ℕ → List ℕ → ℕ → List ℕ

@@ -1,1 +1,2 @@
 pub mod SiteBits
+pub mod TurnedCounts

@@ -12,11 +12,8 @@ site_bits six b = map (λ word. is_set word b) six
 abbrev pub set_count : List ℕ → ℕ → ℕ
 set_count six b = count_by (λ bit. bit) (site_bits six b)
 
--- how many of them differ from the sample's bit of another word
-abbrev pub differing_count : List ℕ → ℕ → ℕ → ℕ
-differing_count six word b = count_by (λ bit. differs bit (is_set word b)) (site_bits six b)
-
--- how many of them are equal to it: of aligned neighbours and the spin, the number of satisfied bonds
+-- how many of them are equal to the sample's bit of another word: of aligned neighbours and the spin, the number of
+-- satisfied bonds
 abbrev pub equal_count : List ℕ → ℕ → ℕ → ℕ
 equal_count six word b = count_by (λ bit. not (differs bit (is_set word b))) (site_bits six b)
 

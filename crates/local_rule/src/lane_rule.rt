@@ -3,10 +3,11 @@
 ghost use Rattle.std.specs.Prelude.{◌≡◌, ℕ, ◌<◌, slice_index};
 ghost use Rattle.multispin_word.specs.Planes.{is_set};
 ghost use Rattle.spin_model.specs.SiteRule as rule;
-ghost use Rattle.local_rule.specs.SiteBits.{differing_count, equal_count, lane_words, set_count};
+ghost use Rattle.local_rule.specs.SiteBits.{equal_count, lane_words, set_count};
 
 use crate::vectors::{
-    below_lanes, choose_lanes, count_lanes, flipped_lanes, load, other_lanes, widened,
+    accepted_lanes, below_lanes, choose_lanes, count_lanes, differing_lanes, equal_lanes,
+    joined_lanes, load, widened,
 };
 use threshold_table::RuleRow;
 
@@ -36,7 +37,7 @@ pub fn metropolis_lanes(
         ≡ rule.metropolis row.now.values (set_count (lane_words satisfied.now i) b)
         (slice_index draws.now i) (is_set (slice_index spins.old i) b) }
 {
-    *spins = turned_sites(draws, row, satisfied, &[0; 8], spins);
+    *spins = flipped_sites(draws, row, satisfied, &[u64::MAX; 8], spins);
 }
 
 /// The new spins of N sites by heat bath: in lane i those of the site with draw i, from word i of
@@ -54,7 +55,7 @@ pub fn heat_bath_sites<const N: usize>(
 {
     let cases = &row.values;
     let draw = widened(draws);
-    let [ones, twos, fours] = count_lanes(aligned, &[0; N]);
+    let [ones, twos, fours] = count_lanes(aligned);
     let (ones, twos) = (load(&ones), load(&twos));
     let zero_one = choose_lanes(
         ones,
@@ -92,32 +93,33 @@ pub fn metropolis_sites<const N: usize>(
         (equal_count (lane_words aligned.now i) (slice_index spins.now i) b)
         (slice_index draws.now i) (is_set (slice_index spins.now i) b) }
 {
-    turned_sites(draws, row, aligned, &other_lanes(spins), spins)
+    flipped_sites(draws, row, aligned, spins, spins)
 }
 
-// The same, where those bonds of a sample are satisfied whose bits differ from that of `other`.
+// The same, where those bonds of a sample are satisfied whose bits are equal to that of `same`.
 #[inline(always)]
-fn turned_sites<const N: usize>(
+fn flipped_sites<const N: usize>(
     draws: &[u32; N],
     row: &RuleRow,
     six: &[[u64; N]; 6],
-    other: &[u64; N],
+    same: &[u64; N],
     spins: &[u64; N],
 ) -> [u64; N]
     ensures { (i b : ℕ) → i < N → b < 64
         → is_set (slice_index result i) b
         ≡ rule.metropolis row.now.values
-        (differing_count (lane_words six.now i) (slice_index other.now i) b)
+        (equal_count (lane_words six.now i) (slice_index same.now i) b)
         (slice_index draws.now i) (is_set (slice_index spins.now i) b) }
 {
     let cases = &row.values;
     let draw = widened(draws);
-    let [ones, twos, fours] = count_lanes(six, other);
-    let four_five = choose_lanes(
+    let [ones, no_twos, no_fours] = equal_lanes(six, same);
+    let accepted = accepted_lanes(
         load(&ones),
-        below_lanes(draw, cases[1]),
+        load(&no_twos),
         below_lanes(draw, cases[0]),
+        below_lanes(draw, cases[1]),
+        below_lanes(draw, cases[2]),
     );
-    let accepted = choose_lanes(load(&twos), below_lanes(draw, cases[2]), four_five);
-    flipped_lanes(load(spins), load(&fours), accepted).to_array()
+    differing_lanes(load(spins), joined_lanes(load(&no_fours), accepted)).to_array()
 }

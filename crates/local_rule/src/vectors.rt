@@ -1,9 +1,10 @@
 //! Operations on N words at a time. In a clause a vector is the list of its words.
 
-ghost use Rattle.std.specs.Prelude.{◌≡◌, ℕ, ◌+◌, ◌*◌, ◌<◌, ◌&&◌, ◌||◌, not, nat_lt, if◌then◌else◌, length, slice_index};
+ghost use Rattle.std.specs.Prelude.{◌≡◌, ℕ, ◌+◌, ◌*◌, ◌<◌, ◌&&◌, ◌||◌, nat_lt, if◌then◌else◌, length, slice_index};
 ghost use Rattle.std.specs.Int.{bit_at};
 ghost use Rattle.multispin_word.specs.Planes.{differs, is_set, number};
-ghost use Rattle.local_rule.specs.SiteBits.{differing_count, lane_words};
+ghost use Rattle.local_rule.specs.SiteBits.{equal_count, lane_words, set_count};
+ghost use Rattle.local_rule.specs.TurnedCounts.{accepted, turned_number};
 
 use std::simd::prelude::*;
 
@@ -25,25 +26,47 @@ pub fn widened<const N: usize>(draws: &[u32; N]) -> Simd<u64, N>
     Simd::<u32, N>::from_array(*draws).cast()
 }
 
-/// How many of the six bits of each lane and sample differ from that of `other`: the planes of 1, 2
-/// and 4.
+/// How many of the six bits of each lane and sample are set: the planes of 1, 2 and 4.
 #[inline(always)]
-pub fn count_lanes<const N: usize>(six: &[[u64; N]; 6], other: &[u64; N]) -> [[u64; N]; 3]
-    ensures { (i b : ℕ) → i < N → number (lane_words result i) b
-        ≡ differing_count (lane_words six.now i) (slice_index other.now i) b }
+pub fn count_lanes<const N: usize>(six: &[[u64; N]; 6]) -> [[u64; N]; 3]
+    ensures { (i b : ℕ) → i < N
+        → number (lane_words result i) b ≡ set_count (lane_words six.now i) b }
 {
-    let other = load(other);
     let (a, b, c) = (load(&six[0]), load(&six[1]), load(&six[2]));
     let (d, e, f) = (load(&six[3]), load(&six[4]), load(&six[5]));
     let (front, back) = (sum_lanes(a, b, c), sum_lanes(d, e, f));
-    // Three turned bits have the turned sum and the turned carry, so these are turned, and not all six.
-    let front_twos = differing_lanes(carry_lanes(a, b, c), other);
-    let back_twos = differing_lanes(carry_lanes(d, e, f), other);
-    let carry = shared_lanes(differing_lanes(front, other), differing_lanes(back, other));
+    let front_twos = carry_lanes(a, b, c);
+    let either_twos = differing_lanes(front_twos, carry_lanes(d, e, f));
+    let carry = shared_lanes(front, back);
     [
         differing_lanes(front, back).to_array(),
-        sum_lanes(front_twos, back_twos, carry).to_array(),
-        carry_lanes(front_twos, back_twos, carry).to_array(),
+        differing_lanes(either_twos, carry).to_array(),
+        choose_lanes(either_twos, carry, front_twos).to_array(),
+    ]
+}
+
+/// How many of the six bits of each lane and sample are equal to that of `same`: the plane of 1, and
+/// those of 2 and 4 turned over.
+#[inline(always)]
+pub fn equal_lanes<const N: usize>(six: &[[u64; N]; 6], same: &[u64; N]) -> [[u64; N]; 3]
+    ensures { (i b : ℕ) → i < N → equal_count (lane_words six.now i) (slice_index same.now i) b
+        ≡ turned_number (lane_words result i) b }
+{
+    let same = load(same);
+    let (a, b, c) = (load(&six[0]), load(&six[1]), load(&six[2]));
+    let (d, e, f) = (load(&six[3]), load(&six[4]), load(&six[5]));
+    let (front, back) = (sum_lanes(a, b, c), sum_lanes(d, e, f));
+    let front_twos = carry_lanes(a, b, c);
+    // Where two bits differ that doesn't depend on `same`, and three bits compared with it have the
+    // compared sum and the compared carry.
+    let ones = differing_lanes(front, back);
+    let either_twos = differing_lanes(front_twos, carry_lanes(d, e, f));
+    let no_carry = joined_lanes(ones, differing_lanes(front, same));
+    let few_twos = differing_lanes(front_twos, same);
+    [
+        ones.to_array(),
+        differing_lanes(either_twos, no_carry).to_array(),
+        choose_lanes(either_twos, no_carry, few_twos).to_array(),
     ]
 }
 
@@ -76,38 +99,32 @@ pub fn below_lanes<const N: usize>(draws: Simd<u64, N>, threshold: u64) -> Simd<
         .select(Simd::<u64, N>::splat(u64::MAX), Simd::<u64, N>::splat(0))
 }
 
-/// The other spin in each lane and sample.
+/// Of a count above three, by its plane of 1 and that of 2 turned over: the bits for five, for six, or
+/// else those for four.
 #[inline(always)]
-pub fn other_lanes<const N: usize>(spins: &[u64; N]) -> [u64; N]
-    ensures { (i b : ℕ) → i < N → b < 64
-        → is_set (slice_index result i) b ≡ not (is_set (slice_index spins.now i) b) }
+pub fn accepted_lanes<const N: usize>(
+    ones: Simd<u64, N>,
+    no_twos: Simd<u64, N>,
+    four: Simd<u64, N>,
+    five: Simd<u64, N>,
+    six: Simd<u64, N>,
+) -> Simd<u64, N>
+    requires { (length ones ≡ N) × (length no_twos ≡ N) × (length four ≡ N) × (length five ≡ N)
+        × (length six ≡ N) }
+    ensures length { length result ≡ N }
+    ensures accepted { (i b : ℕ) → i < N → b < 64 → is_set (slice_index result i) b
+        ≡ accepted (is_set (slice_index ones.entry i) b) (is_set (slice_index no_twos.entry i) b)
+        (is_set (slice_index four.entry i) b) (is_set (slice_index five.entry i) b) (is_set (slice_index six.entry i) b) }
 {
     // By all ones, since the range of a lane has no name that `!` could use.
-    (load(spins) ^ Simd::<u64, N>::splat(u64::MAX)).to_array()
+    let twos = differing_lanes(no_twos, Simd::<u64, N>::splat(u64::MAX));
+    let by_ones = differing_lanes(four, shared_lanes(ones, differing_lanes(four, five)));
+    differing_lanes(by_ones, shared_lanes(twos, differing_lanes(four, six)))
 }
 
-/// The other spin, but the old one where the flip costs energy and is not accepted.
+/// Where two bits differ, in each lane and sample.
 #[inline(always)]
-pub fn flipped_lanes<const N: usize>(
-    spins: Simd<u64, N>,
-    costly: Simd<u64, N>,
-    accepted: Simd<u64, N>,
-) -> Simd<u64, N>
-    requires { (length spins ≡ N) × (length costly ≡ N) × (length accepted ≡ N) }
-    ensures length { length result ≡ N }
-    ensures flipped { (i b : ℕ) → i < N → b < 64
-        → is_set (slice_index result i) b
-        ≡ (if not (is_set (slice_index costly.entry i) b) || is_set (slice_index accepted.entry i) b
-        then not (is_set (slice_index spins.entry i) b) else is_set (slice_index spins.entry i) b) }
-{
-    // By all ones, as above.
-    let all = Simd::<u64, N>::splat(u64::MAX);
-    (spins ^ all) ^ (costly & (accepted ^ all))
-}
-
-// Where two bits differ, in each lane and sample.
-#[inline(always)]
-fn differing_lanes<const N: usize>(a: Simd<u64, N>, b: Simd<u64, N>) -> Simd<u64, N>
+pub fn differing_lanes<const N: usize>(a: Simd<u64, N>, b: Simd<u64, N>) -> Simd<u64, N>
     requires { (length a ≡ N) × (length b ≡ N) }
     ensures length { length result ≡ N }
     ensures differing { (i k : ℕ) → i < N → is_set (slice_index result i) k
@@ -125,6 +142,17 @@ fn shared_lanes<const N: usize>(a: Simd<u64, N>, b: Simd<u64, N>) -> Simd<u64, N
         ≡ (is_set (slice_index a.entry i) k && is_set (slice_index b.entry i) k) }
 {
     a & b
+}
+
+/// Where one of two is set.
+#[inline(always)]
+pub fn joined_lanes<const N: usize>(a: Simd<u64, N>, b: Simd<u64, N>) -> Simd<u64, N>
+    requires { (length a ≡ N) × (length b ≡ N) }
+    ensures length { length result ≡ N }
+    ensures joined { (i k : ℕ) → i < N → is_set (slice_index result i) k
+        ≡ (is_set (slice_index a.entry i) k || is_set (slice_index b.entry i) k) }
+{
+    a | b
 }
 
 // Of three bits of each lane and sample the low bit of their sum.

@@ -1,20 +1,17 @@
 -- In each lane the count's three bits pick its case among seven.
-use Rattle.std.proofs.Common.{ℕ, ◌≤◌, [], nat_lt, slice_index, slice_index_or, arith, ap, ◌∙◌}
-use Rattle.std.proofs.lemmas.Simd.{get_or-replicate}
+use Rattle.std.proofs.Common.{ℕ, [], nat_lt, slice_index, slice_index_or, arith}
 use Rattle.multispin_word.specs.Planes.{is_set}
-use Rattle.local_rule.specs.SiteBits.{differing_count, set_count, lane_words}
+use Rattle.local_rule.specs.SiteBits.{set_count, lane_words}
 use Rattle.local_rule.proofs.Cases.{seven}
-use Rattle.local_rule.proofs.Counts.{lane-digits, differing-most, differing-zero}
+use Rattle.local_rule.proofs.Counts.{lane-digits, lane-six, set_count-most}
 use Rattle.local_rule.proofs.lane_rule.heat_bath_sites.Goals as goal
 
 pub returns : goal.returns
 returns g c = λ i b h l.
     let planes = c.count_lanes.result in
     let six = lane_words c.args.aligned.now i in
-    let zero = get_or-replicate {A = ℕ} g.row.N i 0 0 h in
-    let count = ap (λ o. differing_count six o b) zero ∙ differing-zero six b in
-    let digits = lane-digits planes i b (set_count six b) (omega arith) (c.count_lanes.ensures i b h ∙ count) in
-    let most : set_count six b ≤ 6 = rw (← differing-zero six b) (differing-most c.args.aligned.now i 0 b (omega arith)) in
+    let digits = lane-digits planes i b (set_count six b) (omega arith) (c.count_lanes.ensures i b h) in
+    let most = set_count-most six b (lane-six c.args.aligned.now i (omega arith)) in
     let bit : ℕ → _ = λ n. is_set (slice_index (slice_index_or planes n []) i) b in
     rw (
       c.choose_lanes.ensures.chosen i b h,

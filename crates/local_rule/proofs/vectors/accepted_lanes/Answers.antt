@@ -1,0 +1,24 @@
+-- In each lane the bits of one of three cases are put together.
+use Rattle.std.proofs.Common.{ℕ, slice_index, ◌-◌, ◌^◌}
+use Rattle.multispin_word.specs.Planes.{is_set}
+use Rattle.multispin_word.proofs.Bits.{is_set-ones}
+use Rattle.std.proofs.lemmas.Simd.{get_or-replicate}
+use Rattle.local_rule.proofs.Cases.{accept}
+use Rattle.local_rule.proofs.vectors.accepted_lanes.Goals as goal
+
+pub returns-clause-accepted : goal.returns-clause-accepted
+returns-clause-accepted g c = λ i b h l.
+    let bit : _ → _ = λ ws. is_set (slice_index ws i) b in
+    let ones = get_or-replicate {A = ℕ} g.row.N i (2 ^ 64 - 1) 0 h in
+    rw (
+      c.differing_lanes-3.ensures.differing i b h,
+      c.differing_lanes-by_ones.ensures.differing i b h,
+      c.shared_lanes.ensures.shared i b h,
+      c.shared_lanes-2.ensures.shared i b h,
+      c.differing_lanes-2.ensures.differing i b h,
+      c.differing_lanes.ensures.differing i b h,
+      c.differing_lanes-twos.ensures.differing i b h,
+      ones,
+      is_set-ones b l,
+    )
+    (accept (bit c.args.ones) (bit c.args.no_twos) (bit c.args.four) (bit c.args.five) (bit c.args.six))
