@@ -113,6 +113,13 @@ unfolding HaveShape bank_len
 shape-len l n [] shape some = absurd (omega arith)
 shape-len l n (plan ∷ plans) shape some = rw (shape.0, shape.1) refl
 
+-- a plan that was read has the shape
+pub plan-shape : {X : Type 0} (f : X → Plan) (xs : List X) (g : ℕ) (x : X) (shape : HaveOneShape (map f xs)) → g < length xs → x ≡ get_or xs g x → ((f x).size ≡ shape.size) × (slots_of (f x) ≡ shape.slots)
+plan-shape f xs g x shape within is =
+    let own : get_or (map f xs) g (f x) ≡ f x = get_or-map f xs g x (f x) within ∙ ap f (sym is) in
+    let both = shape-at shape.size shape.slots (map f xs) g (f x) shape.shape (omega (arith, length-map xs f)) in
+    (sym (ap (λ (p : Plan). p.size) own) ∙ both.0, sym (ap slots_of own) ∙ both.1)
+
 -- the length of the checkpoint of a plan that was read
 pub plan-len : {X : Type 0} (f : X → Plan) (xs : List X) (g : ℕ) (x : X) → HaveOneShape (map f xs) → g < length xs → x ≡ get_or xs g x → bank_len (map f xs) ≡ encoding_len (f x).size (slots_of (f x))
 plan-len f xs g x shape within is =

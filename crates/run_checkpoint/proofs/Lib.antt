@@ -20,3 +20,4 @@ pub mod BankForm
 pub mod BankClauses
 pub mod OneEncoding
 pub mod BankParts
+pub mod FilledLevels

@@ -3,6 +3,7 @@ pub mod Lengths
 pub mod PackedBytes
 pub mod Rooms
 pub mod Reading
+pub mod Unfilled
 pub mod Tests
 pub mod Decoding
 pub mod UnevenEncoding

@@ -7,14 +7,16 @@ ghost use Rattle.run_checkpoint.specs.BankDecoding as model;
 ghost use Rattle.run_checkpoint.specs.BankEncoding.{bank_len, banks_len, banks_encoding, HaveOneShape, AreBanks, BanksStand};
 ghost use Rattle.run_checkpoint.specs.declared.refused.CheckpointRefused.TheVariants as refused;
 ghost use Rattle.run_checkpoint.specs.Lengths.{encoding_len};
+ghost use Rattle.run_checkpoint.specs.Unfilled.{HasRoom};
 ghost use Rattle.scalar_rule.specs.Plan.{slots_of, IsLawfulPlan};
 ghost use Rattle.scalar_rule.specs.declared.sample.Sample.{Sample};
 
 use crate::checks::{damaged, other_kind, other_length, short};
-use crate::decoding::{level_refusal, stand_of};
+use crate::decoding::{fill_stand, level_refusal};
 use crate::lengths::length;
 use crate::places::{behind, piece, u32_at, u64_at};
 use crate::refused::CheckpointRefused;
+use crate::unfilled::unfilled_stand;
 use glass_edges::NoMemory;
 use plane_sweep::Stand;
 use scalar_rule::Plan;
@@ -197,13 +199,14 @@ fn epochs_refused(count: usize, len: usize, bytes: &[u8]) -> Option<CheckpointRe
     None
 }
 
-// The packed states, of banks that passed the tests.
+// The packed states, of banks that passed the tests. All memory is taken before the first is filled.
 fn stands_of(
     alloc: Global,
     plans: &[Arc<Plan, Global>],
     len: usize,
     bytes: &[u8],
 ) -> Result<Vec<Stand>, NoMemory>
+    requires some { 1 ≤ length plans.now }
     requires few { length plans.now ≤ 4 }
     requires bound { len ≤ 136235888 }
     requires long { len * length plans.now ≤ length bytes.now }
@@ -211,10 +214,31 @@ fn stands_of(
     requires len { len ≡ bank_len (map arc_value plans.now) }
     ensures { IfOk result (λ stands. stands.items ≡ model.banks_in len (map arc_value plans.now) bytes.now) }
 {
-    let mut stands = Vec::with_capacity(alloc, plans.len())?;
+    let (size, slots) = (plans[0].lattice().size(), plans[0].slots());
+    let mut stands = unfilled_stands(alloc, plans.len(), size, slots)?;
     'banks: for g in 0..plans.len() {
         let bank = piece(behind(bytes, len * g), 0, len);
-        stands.push(stand_of(alloc, &plans[g], bank)?)?;
+        fill_stand(&mut stands[g], &plans[g], bank);
+    }
+    Ok(stands)
+}
+
+// So many states, with all memory that they take.
+fn unfilled_stands(
+    alloc: Global,
+    banks: usize,
+    size: u32,
+    count: u32,
+) -> Result<Vec<Stand>, NoMemory>
+    requires size { size ≤ 64 }
+    requires some { 1 ≤ count }
+    requires few { count ≤ 32 }
+    ensures count { IfOk result (λ stands. length stands.items ≡ banks) }
+    ensures room { IfOk result (λ stands. All (HasRoom size count) stands.items) }
+{
+    let mut stands = Vec::with_capacity(alloc, banks)?;
+    'banks: for g in 0..banks {
+        stands.push(unfilled_stand(alloc, 0, size, count)?)?;
     }
     Ok(stands)
 }

@@ -9,14 +9,16 @@ ghost use Rattle.run_checkpoint.specs.Decoding as model;
 ghost use Rattle.run_checkpoint.specs.Encoding.{encoding, AreBankStates};
 ghost use Rattle.run_checkpoint.specs.Lengths.{encoding_len};
 ghost use Rattle.run_checkpoint.specs.Reading.{stand_in};
+ghost use Rattle.run_checkpoint.specs.Unfilled.{HasRoom};
 ghost use Rattle.run_checkpoint.specs.declared.refused.CheckpointRefused.TheVariants as refused;
 
 use crate::checks::{damaged, late, other_kind, other_length, other_plan, other_shape, short};
 use crate::labels::wrong_label;
 use crate::lengths::length;
 use crate::places::{behind, u64_at};
-use crate::reading::{read_pairs, read_slots};
+use crate::reading::fill_contents;
 use crate::refused::CheckpointRefused;
+use crate::unfilled::unfilled_stand;
 use glass_edges::NoMemory;
 use plane_sweep::Stand;
 use scalar_rule::Plan;
@@ -99,17 +101,30 @@ pub(crate) fn level_form(plan: &Plan, bytes: &[u8]) -> Option<CheckpointRefused>
     other_plan(bytes, plan)
 }
 
-// The state, of bytes that passed the tests of the form.
-#[tactic(auto, unfolding(crate::specs::Reading::stand_in, crate::specs::Lengths::encoding_len, crate::specs::Lengths::contents_len))]
-pub(crate) fn stand_of(alloc: Global, plan: &Plan, bytes: &[u8]) -> Result<Stand, NoMemory>
+// The state, of bytes that passed the tests of the form. All its memory is taken before it is filled.
+fn stand_of(alloc: Global, plan: &Plan, bytes: &[u8]) -> Result<Stand, NoMemory>
     requires { length bytes.now ≡ encoding_len plan.now.size (slots_of plan.now) }
     ensures { IfOk result (λ stand. stand ≡ stand_in plan.now bytes.now) }
 {
+    let mut stand = unfilled_stand(alloc, 0, plan.lattice().size(), plan.slots())?;
+    fill_stand(&mut stand, plan, bytes);
+    Ok(stand)
+}
+
+// Fills it.
+#[tactic(auto, unfolding(crate::specs::Reading::stand_in, crate::specs::Lengths::encoding_len, crate::specs::Lengths::contents_len))]
+pub(crate) fn fill_stand(stand: &mut Stand, plan: &Plan, bytes: &[u8])
+    requires len { length bytes.now ≡ encoding_len plan.now.size (slots_of plan.now) }
+    requires room { HasRoom plan.now.size (slots_of plan.now) stand.old }
+    ensures { stand.new ≡ stand_in plan.now bytes.now }
+{
     let size = plan.lattice().size();
-    let contents = behind(bytes, 56);
-    Ok(Stand {
-        epoch: u64_at(bytes, 40),
-        slots: read_slots(alloc, size, plan.slots(), contents)?,
-        pairs: read_pairs(alloc, size, plan.slots(), contents)?,
-    })
+    stand.epoch = u64_at(bytes, 40);
+    fill_contents(
+        &mut stand.slots,
+        &mut stand.pairs,
+        size,
+        plan.slots(),
+        behind(bytes, 56),
+    );
 }

@@ -16,6 +16,7 @@ mod room;
 mod uneven_checks;
 mod uneven_decoding;
 mod uneven_encoding;
+mod unfilled;
 
 pub use bank_decoding::decode_banks;
 pub use bank_encoding::{begin_banks, end_banks};

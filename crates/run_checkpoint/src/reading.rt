@@ -1,62 +1,71 @@
-//! The packed state that bytes are which passed the tests.
+//! A packed state is filled with what bytes say that passed the tests. No memory is taken.
 
-ghost use Rattle.std.specs.Prelude.{◌≡◌, ◌+◌, ◌-◌, ◌*◌, ◌<◌, ◌≤◌, length, IfOk, take, drop};
+ghost use Rattle.std.specs.Prelude.{◌≡◌, ◌+◌, ◌-◌, ◌*◌, ◌<◌, ◌≤◌, All, length, take, drop};
 ghost use Rattle.spin_model.specs.Lattice.{half_plane};
 ghost use Rattle.run_checkpoint.specs.Lengths as lengths;
 ghost use Rattle.run_checkpoint.specs.UnevenDecoding as uneven;
+ghost use Rattle.run_checkpoint.specs.Unfilled.{HasWords, HasPlanes, HasReplicas};
 ghost use Rattle.run_checkpoint.specs.Reading.{words_at, items_at, plane_in, replica_in, slot_in, pair_in, slots_in, pairs_in};
 
 use crate::lengths::{plane_len, replica_len, slot_len};
 use crate::places::{behind, i32_at, piece, u64_at};
 use byteorder::{BigEndian, ByteOrder};
-use glass_edges::NoMemory;
 use plain_list::Items;
 use plane_sweep::{Duo, PairWheels, Place, Plane, Replica};
 use pr_generator::Wheel;
 use scalar_rule::Record;
-use std::alloc::Global;
 
-// The slots of a lattice of this size.
-#[tactic(auto, unfolding(crate::specs::Reading::slots_in))]
-pub(crate) fn read_slots(
-    alloc: Global,
+// Fills a state of so many slots with what bytes say that passed the tests.
+pub(crate) fn fill_contents(
+    slots: &mut Items<Duo>,
+    pairs: &mut Items<PairWheels>,
     size: u32,
     count: u32,
     bytes: &[u8],
-) -> Result<Items<Duo>, NoMemory>
+)
+    requires size { size ≤ 64 }
+    requires some { 1 ≤ count }
+    requires few { count ≤ 32 }
+    requires count { length slots.old ≡ count }
+    requires rooms { All (HasReplicas size) slots.old }
+    requires pairs { length pairs.old ≡ count - 1 }
+    requires len { lengths.slot_len size * count + 488 * (count - 1) ≤ length bytes.now }
+    ensures slots { slots.new ≡ slots_in size count bytes.now }
+    ensures pairs { pairs.new ≡ pairs_in size count bytes.now }
+{
+    fill_slots(slots, size, count, bytes);
+    fill_pairs(pairs, size, count, bytes);
+}
+
+#[tactic(auto, unfolding(crate::specs::Reading::slots_in))]
+fn fill_slots(slots: &mut Items<Duo>, size: u32, count: u32, bytes: &[u8])
     requires size { size ≤ 64 }
     requires few { count ≤ 32 }
+    requires count { length slots.old ≡ count }
+    requires rooms { All (HasReplicas size) slots.old }
     requires len { lengths.slot_len size * count ≤ length bytes.now }
-    ensures { IfOk result (λ slots. slots ≡ slots_in size count bytes.now) }
+    ensures { slots.new ≡ slots_in size count bytes.now }
 {
     let len = slot_len(size) as usize;
-    let mut slots = Vec::with_capacity(alloc, count as usize)?;
     'slots: for t in 0..count as usize {
-        slots.push(slot_of(alloc, size, behind(bytes, len * t))?)?;
+        fill_slot(slots.at_mut(t), size, behind(bytes, len * t));
     }
-    Ok(Items::of(slots))
 }
 
 // The pairs behind that many slots.
 #[tactic(auto, unfolding(crate::specs::Reading::pairs_in))]
-pub(crate) fn read_pairs(
-    alloc: Global,
-    size: u32,
-    count: u32,
-    bytes: &[u8],
-) -> Result<Items<PairWheels>, NoMemory>
+fn fill_pairs(pairs: &mut Items<PairWheels>, size: u32, count: u32, bytes: &[u8])
     requires size { size ≤ 64 }
     requires some { 1 ≤ count }
     requires few { count ≤ 32 }
+    requires count { length pairs.old ≡ count - 1 }
     requires len { lengths.slot_len size * count + 488 * (count - 1) ≤ length bytes.now }
-    ensures { IfOk result (λ pairs. pairs ≡ pairs_in size count bytes.now) }
+    ensures { pairs.new ≡ pairs_in size count bytes.now }
 {
     let rest = behind(bytes, slot_len(size) as usize * count as usize);
-    let mut pairs = Vec::with_capacity(alloc, count as usize - 1)?;
     'pairs: for k in 0..count as usize - 1 {
-        pairs.push(pair_of(behind(rest, 488 * k)))?;
+        *pairs.at_mut(k) = pair_of(behind(rest, 488 * k));
     }
-    Ok(Items::of(pairs))
 }
 
 #[tactic(auto, unfolding(crate::specs::Reading::pair_in))]
@@ -71,27 +80,29 @@ fn pair_of(bytes: &[u8]) -> PairWheels
 }
 
 #[tactic(auto, unfolding(crate::specs::Reading::slot_in, crate::specs::Lengths::slot_len))]
-fn slot_of(alloc: Global, size: u32, bytes: &[u8]) -> Result<Duo, NoMemory>
+fn fill_slot(slot: &mut Duo, size: u32, bytes: &[u8])
     requires size { size ≤ 64 }
+    requires room { HasReplicas size slot.old }
     requires len { lengths.slot_len size ≤ length bytes.now }
-    ensures { IfOk result (λ slot. slot ≡ slot_in size bytes.now) }
+    ensures { slot.new ≡ slot_in size bytes.now }
 {
-    Ok(Duo {
-        first: replica_of(alloc, size, bytes)?,
-        second: replica_of(alloc, size, behind(bytes, replica_len(size) as usize))?,
-    })
+    fill_replica(&mut slot.first, size, bytes);
+    fill_replica(
+        &mut slot.second,
+        size,
+        behind(bytes, replica_len(size) as usize),
+    );
 }
 
 #[tactic(auto, unfolding(crate::specs::Reading::replica_in, crate::specs::Lengths::replica_len))]
-fn replica_of(alloc: Global, size: u32, bytes: &[u8]) -> Result<Replica, NoMemory>
+fn fill_replica(replica: &mut Replica, size: u32, bytes: &[u8])
     requires size { size ≤ 64 }
+    requires room { HasPlanes size replica.old }
     requires len { lengths.replica_len size ≤ length bytes.now }
-    ensures { IfOk result (λ replica. replica ≡ replica_in size bytes.now) }
+    ensures { replica.new ≡ replica_in size bytes.now }
 {
-    Ok(Replica {
-        planes: planes_of(alloc, size, behind(bytes, 64))?,
-        labels: labels_of(bytes),
-    })
+    fill_planes(&mut replica.planes, size, behind(bytes, 64));
+    replica.labels = labels_of(bytes);
 }
 
 fn labels_of(bytes: &[u8]) -> [u8; 64]
@@ -103,40 +114,37 @@ fn labels_of(bytes: &[u8]) -> [u8; 64]
     labels
 }
 
-fn planes_of(alloc: Global, size: u32, bytes: &[u8]) -> Result<Items<Plane>, NoMemory>
+fn fill_planes(planes: &mut Items<Plane>, size: u32, bytes: &[u8])
     requires size { size ≤ 64 }
+    requires count { length planes.old ≡ 2 * size }
+    requires rooms { All (HasWords size) planes.old }
     requires len { lengths.plane_len size * (2 * size) ≤ length bytes.now }
-    ensures { IfOk result (λ planes. planes ≡ items_at (plane_in size) (lengths.plane_len size) (2 * size) bytes.now) }
+    ensures { planes.new ≡ items_at (plane_in size) (lengths.plane_len size) (2 * size) bytes.now }
 {
     let len = plane_len(size) as usize;
-    let count = 2 * size as usize;
-    let mut planes = Vec::with_capacity(alloc, count)?;
-    'planes: for k in 0..count {
-        planes.push(plane_of(alloc, size, behind(bytes, len * k))?)?;
+    'planes: for k in 0..2 * size as usize {
+        fill_plane(planes.at_mut(k), size, behind(bytes, len * k));
     }
-    Ok(Items::of(planes))
 }
 
 #[tactic(auto, unfolding(crate::specs::Reading::plane_in, crate::specs::Lengths::plane_len))]
-fn plane_of(alloc: Global, size: u32, bytes: &[u8]) -> Result<Plane, NoMemory>
+fn fill_plane(plane: &mut Plane, size: u32, bytes: &[u8])
     requires size { size ≤ 64 }
+    requires room { HasWords size plane.old }
     requires len { lengths.plane_len size ≤ length bytes.now }
-    ensures { IfOk result (λ plane. plane ≡ plane_in size bytes.now) }
+    ensures { plane.new ≡ plane_in size bytes.now }
 {
     let sites = size as usize * (size as usize / 2);
-    Ok(Plane {
-        words: spins_of(alloc, sites, piece(bytes, 244, 8 * sites))?,
-        wheel: generator_of(piece(bytes, 0, 244)),
-    })
+    fill_words(&mut plane.words, sites, piece(bytes, 244, 8 * sites));
+    plane.wheel = generator_of(piece(bytes, 0, 244));
 }
 
-fn spins_of(alloc: Global, count: usize, bytes: &[u8]) -> Result<Items<u64>, NoMemory>
-    requires { length bytes.now ≡ 8 * count }
-    ensures { IfOk result (λ words. words ≡ words_at 8 count bytes.now) }
+fn fill_words(words: &mut Items<u64>, count: usize, bytes: &[u8])
+    requires count { length words.old ≡ count }
+    requires len { length bytes.now ≡ 8 * count }
+    ensures { words.new ≡ words_at 8 count bytes.now }
 {
-    let mut words = vec![in alloc; 0u64; count]?;
     BigEndian::read_u64_into(bytes, words.as_mut_slice());
-    Ok(Items::of(words))
 }
 
 fn generator_of(bytes: &[u8]) -> Wheel
@@ -148,22 +156,17 @@ fn generator_of(bytes: &[u8]) -> Wheel
     Wheel::from_words(&words)
 }
 
-// The positions of so many slots.
+// The positions of the slots.
 #[tactic(auto, unfolding(crate::specs::UnevenDecoding::places_in))]
-pub(crate) fn read_places(
-    alloc: Global,
-    count: usize,
-    bytes: &[u8],
-) -> Result<Items<Place>, NoMemory>
+pub(crate) fn fill_places(places: &mut Items<Place>, count: usize, bytes: &[u8])
     requires few { count ≤ 32 }
+    requires count { length places.old ≡ count }
     requires len { 9 * count ≤ length bytes.now }
-    ensures { IfOk result (λ places. places ≡ uneven.places_in count bytes.now) }
+    ensures { places.new ≡ uneven.places_in count bytes.now }
 {
-    let mut places = Vec::with_capacity(alloc, count)?;
     'places: for t in 0..count {
-        places.push(place_of(behind(bytes, 9 * t)))?;
+        *places.at_mut(t) = place_of(behind(bytes, 9 * t));
     }
-    Ok(Items::of(places))
 }
 
 #[tactic(auto, unfolding(crate::specs::UnevenDecoding::place_in))]
@@ -177,22 +180,17 @@ fn place_of(bytes: &[u8]) -> Place
     }
 }
 
-// So many records.
+// The records.
 #[tactic(auto, unfolding(crate::specs::UnevenDecoding::records_in))]
-pub(crate) fn read_records(
-    alloc: Global,
-    count: usize,
-    bytes: &[u8],
-) -> Result<Items<Record>, NoMemory>
+pub(crate) fn fill_records(records: &mut Items<Record>, count: usize, bytes: &[u8])
     requires few { count < 4294967296 }
+    requires count { length records.old ≡ count }
     requires len { 14 * count ≤ length bytes.now }
-    ensures { IfOk result (λ records. records ≡ uneven.records_in count bytes.now) }
+    ensures { records.new ≡ uneven.records_in count bytes.now }
 {
-    let mut records = Vec::with_capacity(alloc, count)?;
     'records: for i in 0..count {
-        records.push(record_of(behind(bytes, 14 * i)))?;
+        *records.at_mut(i) = record_of(behind(bytes, 14 * i));
     }
-    Ok(Items::of(records))
 }
 
 #[tactic(auto, unfolding(crate::specs::UnevenDecoding::record_in))]

@@ -2,9 +2,10 @@
 
 ghost use Rattle.std.specs.Prelude.{◌≡◌, ℕ, ◌+◌, ◌*◌, ◌<◌, ◌≤◌, [], List, true, length, IfOk, IfErr, IfNone};
 ghost use Rattle.glass_edges.specs.Refusals.{GivesAfterTests};
-ghost use Rattle.plane_sweep.specs.Uneven.{uneven_part, RaggedStandFits};
+ghost use Rattle.plane_sweep.specs.Uneven.{level_stand, uneven_part, RaggedStandFits};
 ghost use Rattle.run_checkpoint.specs.Encoding.{encoding, AreBankStates};
-ghost use Rattle.run_checkpoint.specs.Lengths.{uneven_len};
+ghost use Rattle.run_checkpoint.specs.Lengths.{encoding_len, uneven_len};
+ghost use Rattle.run_checkpoint.specs.Reading.{stand_in};
 ghost use Rattle.run_checkpoint.specs.UnevenDecoding as model;
 ghost use Rattle.run_checkpoint.specs.UnevenEncoding.{uneven_encoding, AreUnevenStates};
 ghost use Rattle.run_checkpoint.specs.declared.refused.CheckpointRefused.TheVariants as refused;
@@ -16,13 +17,14 @@ ghost use Rattle.scalar_rule.specs.declared.sample.Record.{Record};
 ghost use Rattle.scalar_rule.specs.declared.sample.Sample.{Sample};
 
 use crate::checks::{damaged, late, other_kind, other_length, other_plan, other_shape, short};
-use crate::decoding::{level_refusal, stand_of};
+use crate::decoding::level_refusal;
 use crate::labels::wrong_label;
 use crate::lengths::{contents_len, uneven_len};
-use crate::places::{behind, u32_at};
-use crate::reading::{read_pairs, read_places, read_records, read_slots};
+use crate::places::{behind, u32_at, u64_at};
+use crate::reading::{fill_contents, fill_places, fill_records};
 use crate::refused::CheckpointRefused;
 use crate::uneven_checks::{greatest_done, other_count, other_orders, wrong_place};
+use crate::unfilled::{unfilled_ragged, unfilled_stand};
 use glass_edges::NoMemory;
 use plane_sweep::RaggedStand;
 use scalar_rule::Plan;
@@ -191,7 +193,7 @@ fn uneven_form(plan: &Plan, bytes: &[u8]) -> Option<CheckpointRefused>
     other_plan(bytes, plan)
 }
 
-// The state, of bytes that passed the tests.
+// The state, of bytes that passed the tests. All its memory is taken before it is filled.
 #[tactic(auto, unfolding(crate::specs::UnevenDecoding::any_in))]
 fn ragged_of(alloc: Global, plan: &Plan, bytes: &[u8]) -> Result<RaggedStand, NoMemory>
     requires header { 88 ≤ length bytes.now }
@@ -201,8 +203,26 @@ fn ragged_of(alloc: Global, plan: &Plan, bytes: &[u8]) -> Result<RaggedStand, No
     if is_uneven(bytes) {
         uneven_of(alloc, plan, bytes)
     } else {
-        RaggedStand::level(alloc, stand_of(alloc, plan, bytes)?)
+        level_of(alloc, plan, bytes)
     }
+}
+
+#[tactic(auto, unfolding(crate::specs::Reading::stand_in, crate::specs::Lengths::encoding_len, crate::specs::Lengths::contents_len))]
+fn level_of(alloc: Global, plan: &Plan, bytes: &[u8]) -> Result<RaggedStand, NoMemory>
+    requires { length bytes.now ≡ encoding_len plan.now.size (slots_of plan.now) }
+    ensures { IfOk result (λ stand. stand ≡ level_stand (stand_in plan.now bytes.now)) }
+{
+    let size = plan.lattice().size();
+    let stand = unfilled_stand(alloc, u64_at(bytes, 40), size, plan.slots())?;
+    let mut ragged = RaggedStand::level(alloc, stand)?;
+    fill_contents(
+        &mut ragged.slots,
+        &mut ragged.pairs,
+        size,
+        plan.slots(),
+        behind(bytes, 56),
+    );
+    Ok(ragged)
 }
 
 #[tactic(auto, unfolding(crate::specs::UnevenDecoding::uneven_in, crate::specs::Lengths::uneven_len, crate::specs::Lengths::contents_len))]
@@ -212,12 +232,12 @@ fn uneven_of(alloc: Global, plan: &Plan, bytes: &[u8]) -> Result<RaggedStand, No
 {
     let size = plan.lattice().size();
     let slots = plan.slots();
+    let count = u32_at(bytes, 60) as usize;
+    let mut ragged = unfilled_ragged(alloc, size, slots, count)?;
     let contents = behind(bytes, 64 + 9 * slots as usize);
     let records = behind(contents, contents_len(size, slots) as usize);
-    Ok(RaggedStand {
-        places: read_places(alloc, slots as usize, behind(bytes, 64))?,
-        slots: read_slots(alloc, size, slots, contents)?,
-        pairs: read_pairs(alloc, size, slots, contents)?,
-        pending: read_records(alloc, u32_at(bytes, 60) as usize, records)?,
-    })
+    fill_places(&mut ragged.places, slots as usize, behind(bytes, 64));
+    fill_contents(&mut ragged.slots, &mut ragged.pairs, size, slots, contents);
+    fill_records(&mut ragged.pending, count, records);
+    Ok(ragged)
 }
