@@ -36,25 +36,25 @@ drawn-spins l z c b k first w words lawful plane below within moved drawn =
     ∙ ap (λ v. is_set v (b % 32)) (draw-advanced first (2 * (l * l) * z) (2 * s + b / 32) ∙ ap (draw first) place)
     ∙ sym (get_or-table _ (volume l) i false (site_of-below l c z k lawful))
 
-plane-spins : (plan : Plan) (start : Start) (slot replica c z : ℕ) (w words : List ℕ) → IsLawfulSize plan.size → z < plan.size
-    → (start ≡ Random → w ≡ advanced (start_words plan.seed slot replica 0) (2 * (plan.size * plan.size) * z))
+plane-spins : (plan : Plan) (start : Start) (bank slot replica c z : ℕ) (w words : List ℕ) → IsLawfulSize plan.size → z < plan.size
+    → (start ≡ Random → w ≡ advanced (start_words plan.seed slot replica bank) (2 * (plan.size * plan.size) * z))
     → (start ≡ Up → HasSpins plan.size (λ _. all_up plan.size) c z words) → (start ≡ Random → HasDraws plan.size w c z words)
-    → HasSpins plan.size (λ b. start_spins plan start 0 b slot replica) c z words
+    → HasSpins plan.size (λ b. start_spins plan start bank b slot replica) c z words
 unfolding start_spins
-plane-spins plan Up slot replica c z w words lawful plane moved up random = up refl
-plane-spins plan Random slot replica c z w words lawful plane moved up random =
-    λ b k below within. drawn-spins plan.size z c b k (start_words plan.seed slot replica 0) w words lawful plane below within (moved refl) (random refl)
+plane-spins plan Up bank slot replica c z w words lawful plane moved up random = up refl
+plane-spins plan Random bank slot replica c z w words lawful plane moved up random =
+    λ b k below within. drawn-spins plan.size z c b k (start_words plan.seed slot replica bank) w words lawful plane below within (moved refl) (random refl)
 
-pub begins-plane : (plan : Plan) (start : Start) (slot replica c z : ℕ) (w words wheel : List ℕ) → IsLawfulSize plan.size → z < plan.size
-    → (start ≡ Random → w ≡ advanced (start_words plan.seed slot replica 0) (2 * (plan.size * plan.size) * z))
+pub begins-plane : (plan : Plan) (start : Start) (bank slot replica c z : ℕ) (w words wheel : List ℕ) → IsLawfulSize plan.size → z < plan.size
+    → (start ≡ Random → w ≡ advanced (start_words plan.seed slot replica bank) (2 * (plan.size * plan.size) * z))
     → ArePlaneWords plan.size words → (start ≡ Up → HasSpins plan.size (λ _. all_up plan.size) c z words) → (start ≡ Random → HasDraws plan.size w c z words)
     → wheel ≡ sweep_words plan.seed slot replica c z → AreGeneratorWords wheel
-    → BeginsPlane plan start slot replica (c * plan.size + z) (record { words = words; wheel = wheel })
-begins-plane plan start slot replica c z w words wheel lawful plane moved fits up random seeded generator =
+    → BeginsPlane plan start bank slot replica (c * plan.size + z) (record { words = words; wheel = wheel })
+begins-plane plan start bank slot replica c z w words wheel lawful plane moved fits up random seeded generator =
     let l = plan.size in
     let colour = plane-colour l c z plane in
     let height = plane-z l c z plane in
-    let spins = plane-spins plan start slot replica c z w words lawful plane moved up random in
+    let spins = plane-spins plan start bank slot replica c z w words lawful plane moved up random in
     record {
       fits = record { sized = fits.sized; in_range = fits.in_range; generator = generator };
       spins = rw (colour, height) spins;

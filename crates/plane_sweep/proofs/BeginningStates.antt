@@ -21,73 +21,73 @@ use Rattle.plane_sweep.proofs.Gathering.{all-each, map-each}
 use Rattle.plane_sweep.proofs.PartSpins.{spins_of-planes}
 use Rattle.plane_sweep.proofs.Labels.{permutes-same}
 
-length-start_spins : (plan : Plan) (start : Start) (b slot r : ℕ) → length (start_spins plan start 0 b slot r) ≡ volume plan.size
+length-start_spins : (plan : Plan) (start : Start) (bank b slot r : ℕ) → length (start_spins plan start bank b slot r) ≡ volume plan.size
 unfolding start_spins
-length-start_spins plan Up b slot r = length-replicate (volume plan.size) true
-length-start_spins plan Random b slot r = length-table _ (volume plan.size)
+length-start_spins plan Up bank b slot r = length-replicate (volume plan.size) true
+length-start_spins plan Random bank b slot r = length-table _ (volume plan.size)
 
-part_copy-begins : (plan : Plan) (start : Start) (slot r b : ℕ) (planes : List Plane) (labels : List ℕ) → IsLawfulSize plan.size → b < 64
-    → Each (BeginsPlane plan start slot r) (2 * plan.size) planes → labels ≡ replicate 64 slot
-    → part_copy plan.size b (record { planes = planes; labels = labels }) ≡ opening_copy plan start 0 b slot r
-part_copy-begins plan start slot r b planes labels lawful below items same =
+part_copy-begins : (plan : Plan) (start : Start) (bank slot r b : ℕ) (planes : List Plane) (labels : List ℕ) → IsLawfulSize plan.size → b < 64
+    → Each (BeginsPlane plan start bank slot r) (2 * plan.size) planes → labels ≡ replicate 64 slot
+    → part_copy plan.size b (record { planes = planes; labels = labels }) ≡ opening_copy plan start bank b slot r
+part_copy-begins plan start bank slot r b planes labels lawful below items same =
     let l = plan.size in
-    let spins : spins_of l b planes ≡ start_spins plan start 0 b slot r =
-    spins_of-planes l b planes (start_spins plan start 0 b slot r) lawful (length-start_spins plan start b slot r)
+    let spins : spins_of l b planes ≡ start_spins plan start bank b slot r =
+    spins_of-planes l b planes (start_spins plan start bank b slot r) lawful (length-start_spins plan start bank b slot r)
     (λ k j chosen within. (items.each k no_plane chosen).spins b j below within) in
     let wheels : generators_of planes ≡ seeded_words l plan.seed slot r =
-    map-each (BeginsPlane plan start slot r) (λ (plane : Plane). plane.wheel) _ no_plane [] (2 * l) planes items (λ k x chosen begins. begins.generator) in
+    map-each (BeginsPlane plan start bank slot r) (λ (plane : Plane). plane.wheel) _ no_plane [] (2 * l) planes items (λ k x chosen begins. begins.generator) in
     let label : get_or labels b 0 ≡ slot = ap (λ xs. get_or xs b 0) same ∙ get_or-replicate 64 b slot 0 below in
     cc
 
-pub begins-replica : (plan : Plan) (start : Start) (slot r : ℕ) (planes : List Plane) (labels : List ℕ) → IsLawfulSize plan.size
-    → Each (BeginsPlane plan start slot r) (2 * plan.size) planes → labels ≡ replicate 64 slot
-    → BeginsReplica plan start slot r (record { planes = planes; labels = labels })
-begins-replica plan start slot r planes labels lawful items same = record {
+pub begins-replica : (plan : Plan) (start : Start) (bank slot r : ℕ) (planes : List Plane) (labels : List ℕ) → IsLawfulSize plan.size
+    → Each (BeginsPlane plan start bank slot r) (2 * plan.size) planes → labels ≡ replicate 64 slot
+    → BeginsReplica plan start bank slot r (record { planes = planes; labels = labels })
+begins-replica plan start bank slot r planes labels lawful items same = record {
   fits = record {
     count = items.sized;
-    planes = all-each (BeginsPlane plan start slot r) (FitsPlane plan.size) (2 * plan.size) planes items (λ k x chosen begins. begins.fits);
+    planes = all-each (BeginsPlane plan start bank slot r) (FitsPlane plan.size) (2 * plan.size) planes items (λ k x chosen begins. begins.fits);
     labels = ap length same ∙ length-replicate 64 slot;
   };
-  parts = λ b below. part_copy-begins plan start slot r b planes labels lawful below items same;
+  parts = λ b below. part_copy-begins plan start bank slot r b planes labels lawful below items same;
 }
 
-pub begins-duo : (plan : Plan) (start : Start) (slot : ℕ) (first second : Replica) → BeginsReplica plan start slot 0 first → BeginsReplica plan start slot 1 second
-    → BeginsDuo plan start slot (record { first = first; second = second })
-begins-duo plan start slot first second one two = record {
+pub begins-duo : (plan : Plan) (start : Start) (bank slot : ℕ) (first second : Replica) → BeginsReplica plan start bank slot 0 first → BeginsReplica plan start bank slot 1 second
+    → BeginsDuo plan start bank slot (record { first = first; second = second })
+begins-duo plan start bank slot first second one two = record {
   fits = record { first = one.fits; second = two.fits };
   parts = λ b below. let e = one.parts b below in let f = two.parts b below in cc;
 }
 
-pub begins-stand : (plan : Plan) (start : Start) (slots : List Duo) (pairs : List PairWheels)
-    → Each (BeginsDuo plan start) (slots_of plan) slots → Each (BeginsPair plan) (pairs_of plan) pairs
-    → StandsFor plan (opening plan start 0) (record { epoch = 0; slots = slots; pairs = pairs })
+pub begins-stand : (plan : Plan) (start : Start) (bank : ℕ) (slots : List Duo) (pairs : List PairWheels)
+    → Each (BeginsDuo plan start bank) (slots_of plan) slots → Each (BeginsPair plan bank) (pairs_of plan) pairs
+    → StandsFor plan (opening plan start bank) (record { epoch = 0; slots = slots; pairs = pairs })
 unfolding part
-begins-stand plan start slots pairs all_slots all_pairs b below =
+begins-stand plan start bank slots pairs all_slots all_pairs b below =
     let l = plan.size in
-    let duos : map (part_slot l b) slots ≡ table (opening_slot plan start 0 b) (slots_of plan) =
-    map-each (BeginsDuo plan start) (part_slot l b) _ no_duo no_slot (slots_of plan) slots all_slots (λ k x chosen begins. begins.parts b below) in
-    let wheels : map part_pair pairs ≡ table (opening_pair plan 0) (pairs_of plan) =
-    map-each (BeginsPair plan) part_pair _ no_wheels no_pair (pairs_of plan) pairs all_pairs (λ k x chosen begins. begins.parts) in
+    let duos : map (part_slot l b) slots ≡ table (opening_slot plan start bank b) (slots_of plan) =
+    map-each (BeginsDuo plan start bank) (part_slot l b) _ no_duo no_slot (slots_of plan) slots all_slots (λ k x chosen begins. begins.parts b below) in
+    let wheels : map part_pair pairs ≡ table (opening_pair plan bank) (pairs_of plan) =
+    map-each (BeginsPair plan bank) part_pair _ no_wheels no_pair (pairs_of plan) pairs all_pairs (λ k x chosen begins. begins.parts) in
     cc
 
-pub opening-labels : (plan : Plan) (start : Start) (b : ℕ) → PermutesLabels plan (opening plan start 0 b)
-opening-labels plan start b =
+pub opening-labels : (plan : Plan) (start : Start) (bank b : ℕ) → PermutesLabels plan (opening plan start bank b)
+opening-labels plan start bank b =
     let n = slots_of plan in
     record {
-      first = permutes-same n _ (λ t within. ap (λ (s : PlainSlot). s.first.replica) (get_or-table (opening_slot plan start 0 b) n t _ within));
-      second = permutes-same n _ (λ t within. ap (λ (s : PlainSlot). s.second.replica) (get_or-table (opening_slot plan start 0 b) n t _ within));
+      first = permutes-same n _ (λ t within. ap (λ (s : PlainSlot). s.first.replica) (get_or-table (opening_slot plan start bank b) n t _ within));
+      second = permutes-same n _ (λ t within. ap (λ (s : PlainSlot). s.second.replica) (get_or-table (opening_slot plan start bank b) n t _ within));
     }
 
-pub beginning-fits : (plan : Plan) (start : Start) (slots : List Duo) (pairs : List PairWheels)
-    → Each (BeginsDuo plan start) (slots_of plan) slots → Each (BeginsPair plan) (pairs_of plan) pairs
+pub beginning-fits : (plan : Plan) (start : Start) (bank : ℕ) (slots : List Duo) (pairs : List PairWheels)
+    → Each (BeginsDuo plan start bank) (slots_of plan) slots → Each (BeginsPair plan bank) (pairs_of plan) pairs
     → StandFits plan (record { epoch = 0; slots = slots; pairs = pairs })
-beginning-fits plan start slots pairs all_slots all_pairs = record {
+beginning-fits plan start bank slots pairs all_slots all_pairs = record {
   epoch = omega arith;
   slots = all_slots.sized;
-  each_slot = all-each (BeginsDuo plan start) (FitsDuo plan.size) (slots_of plan) slots all_slots (λ k x chosen begins. begins.fits);
+  each_slot = all-each (BeginsDuo plan start bank) (FitsDuo plan.size) (slots_of plan) slots all_slots (λ k x chosen begins. begins.fits);
   pairs = all_pairs.sized;
-  each_pair = all-each (BeginsPair plan) ArePairGenerators (pairs_of plan) pairs all_pairs (λ k x chosen begins. begins.fits);
+  each_pair = all-each (BeginsPair plan bank) ArePairGenerators (pairs_of plan) pairs all_pairs (λ k x chosen begins. begins.fits);
   labels = λ b below.
       let P : Sample → Type 0 = λ s. PermutesLabels plan s in
-      subst P (sym (begins-stand plan start slots pairs all_slots all_pairs b below)) (opening-labels plan start b);
+      subst P (sym (begins-stand plan start bank slots pairs all_slots all_pairs b below)) (opening-labels plan start bank b);
 }

@@ -1,4 +1,5 @@
--- What a packed state is made of when a run begins: its planes, replicas, slots and pairs, each for all 64 samples.
+-- What a packed state is made of when a run begins: its planes, replicas, slots and pairs, each for all 64 samples of
+-- a bank.
 use Rattle.std.specs.Prelude.{◌≡◌, ℕ, ◌+◌, ◌*◌, ◌/◌, ◌%◌, ◌^◌, ◌<◌, Bool, List, length, slice_index, slice_index_or, All}
 use Rattle.spin_model.specs.Words.{is_set}
 use Rattle.spin_model.specs.Stream.{draw}
@@ -38,19 +39,19 @@ abbrev pub HasDraws : ℕ → List ℕ → ℕ → ℕ → List ℕ → Type 0
 HasDraws l w c z words = (b k : ℕ) → b < 64 → k < half_plane l
     → is_set (slice_index words k) b ≡ is_set (draw w (2 * (site_of l c z k % (l * l)) + b / 32)) (b % 32)
 
-pub record BeginsPlane (plan : Plan) (start : Start) (slot replica k : ℕ) (plane : Plane) : Type 0 where
+pub record BeginsPlane (plan : Plan) (start : Start) (bank slot replica k : ℕ) (plane : Plane) : Type 0 where
   pub fits : FitsPlane plan.size plane
-  pub spins : HasSpins plan.size (λ b. start_spins plan start 0 b slot replica) (k / plan.size) (k % plan.size) plane.words
+  pub spins : HasSpins plan.size (λ b. start_spins plan start bank b slot replica) (k / plan.size) (k % plan.size) plane.words
   pub generator : plane.wheel ≡ sweep_words plan.seed slot replica (k / plan.size) (k % plan.size)
 
-pub record BeginsReplica (plan : Plan) (start : Start) (slot r : ℕ) (replica : Replica) : Type 0 where
+pub record BeginsReplica (plan : Plan) (start : Start) (bank slot r : ℕ) (replica : Replica) : Type 0 where
   pub fits : FitsReplica plan.size replica
-  pub parts : (b : ℕ) → b < 64 → part_copy plan.size b replica ≡ opening_copy plan start 0 b slot r
+  pub parts : (b : ℕ) → b < 64 → part_copy plan.size b replica ≡ opening_copy plan start bank b slot r
 
-pub record BeginsDuo (plan : Plan) (start : Start) (slot : ℕ) (duo : Duo) : Type 0 where
+pub record BeginsDuo (plan : Plan) (start : Start) (bank slot : ℕ) (duo : Duo) : Type 0 where
   pub fits : FitsDuo plan.size duo
-  pub parts : (b : ℕ) → b < 64 → part_slot plan.size b duo ≡ opening_slot plan start 0 b slot
+  pub parts : (b : ℕ) → b < 64 → part_slot plan.size b duo ≡ opening_slot plan start bank b slot
 
-pub record BeginsPair (plan : Plan) (k : ℕ) (pair : PairWheels) : Type 0 where
+pub record BeginsPair (plan : Plan) (bank k : ℕ) (pair : PairWheels) : Type 0 where
   pub fits : ArePairGenerators pair
-  pub parts : part_pair pair ≡ opening_pair plan 0 k
+  pub parts : part_pair pair ≡ opening_pair plan bank k

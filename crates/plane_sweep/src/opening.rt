@@ -23,44 +23,55 @@ pub(crate) fn opening_slots(
     alloc: Global,
     plan: &Plan,
     start: Start,
+    bank: u32,
 ) -> Result<Items<Duo>, NoMemory>
-    ensures { IfOk result (Each (BeginsDuo plan.now start) (slots_of plan.now)) }
+    ensures { IfOk result (Each (BeginsDuo plan.now start bank) (slots_of plan.now)) }
 {
     let mut slots = Vec::with_capacity(alloc, plan.slots() as usize)?;
     'opened: for slot in 0..plan.slots() {
-        slots.push(opening_duo(alloc, plan, start, slot)?)?;
+        slots.push(opening_duo(alloc, plan, start, bank, slot)?)?;
     }
     Ok(Items::of(slots))
 }
 
 /// All pairs, pair 0 first.
-pub(crate) fn opening_pairs(alloc: Global, plan: &Plan) -> Result<Items<PairWheels>, NoMemory>
-    ensures { IfOk result (Each (BeginsPair plan.now) (pairs_of plan.now)) }
+pub(crate) fn opening_pairs(
+    alloc: Global,
+    plan: &Plan,
+    bank: u32,
+) -> Result<Items<PairWheels>, NoMemory>
+    ensures { IfOk result (Each (BeginsPair plan.now bank) (pairs_of plan.now)) }
 {
     let count = plan.slots() - 1;
     let mut pairs = Vec::with_capacity(alloc, count as usize)?;
     'opened: for pair in 0..count {
-        pairs.push(opening_pair(plan, pair))?;
+        pairs.push(opening_pair(plan, bank, pair))?;
     }
     Ok(Items::of(pairs))
 }
 
-fn opening_pair(plan: &Plan, pair: u32) -> PairWheels
-    ensures { BeginsPair plan.now pair result }
+fn opening_pair(plan: &Plan, bank: u32, pair: u32) -> PairWheels
+    ensures { BeginsPair plan.now bank pair result }
 {
     PairWheels {
-        first: seeded(plan.seed(), 2, pair, 0, 0),
-        second: seeded(plan.seed(), 2, pair, 1, 0),
+        first: seeded(plan.seed(), 2, pair, 0, bank),
+        second: seeded(plan.seed(), 2, pair, 1, bank),
     }
 }
 
-fn opening_duo(alloc: Global, plan: &Plan, start: Start, slot: u32) -> Result<Duo, NoMemory>
+fn opening_duo(
+    alloc: Global,
+    plan: &Plan,
+    start: Start,
+    bank: u32,
+    slot: u32,
+) -> Result<Duo, NoMemory>
     requires { slot < slots_of plan.now }
-    ensures { IfOk result (BeginsDuo plan.now start slot) }
+    ensures { IfOk result (BeginsDuo plan.now start bank slot) }
 {
     Ok(Duo {
-        first: opening_replica(alloc, plan, start, slot, 0)?,
-        second: opening_replica(alloc, plan, start, slot, 1)?,
+        first: opening_replica(alloc, plan, start, bank, slot, 0)?,
+        second: opening_replica(alloc, plan, start, bank, slot, 1)?,
     })
 }
 
@@ -69,18 +80,19 @@ fn opening_replica(
     alloc: Global,
     plan: &Plan,
     start: Start,
+    bank: u32,
     slot: u32,
     replica: u32,
 ) -> Result<Replica, NoMemory>
     requires slot { slot < slots_of plan.now }
     requires replica { replica < 2 }
-    ensures { IfOk result (BeginsReplica plan.now start slot replica) }
+    ensures { IfOk result (BeginsReplica plan.now start bank slot replica) }
 {
     // A plan has at most 32 slots.
     let _ = plan.slots();
     let mut planes = Vec::with_capacity(alloc, 2 * plan.lattice().size() as usize)?;
-    push_colour(alloc, &mut planes, plan, start, slot, replica, 0)?;
-    push_colour(alloc, &mut planes, plan, start, slot, replica, 1)?;
+    push_colour(alloc, &mut planes, plan, start, bank, slot, replica, 0)?;
+    push_colour(alloc, &mut planes, plan, start, bank, slot, replica, 1)?;
     Ok(Replica {
         planes: Items::of(planes),
         labels: labels_of(slot as u8),
@@ -100,17 +112,18 @@ fn push_colour(
     planes: &mut Vec<Plane>,
     plan: &Plan,
     start: Start,
+    bank: u32,
     slot: u32,
     replica: u32,
     colour: u32,
 ) -> Result<(), NoMemory>
     requires replica { replica < 2 }
     requires colour { colour < 2 }
-    requires before { Each (BeginsPlane plan.now start slot replica) (colour * plan.now.size) planes.old.items }
-    ensures { OnOk result (Each (BeginsPlane plan.now start slot replica) ((colour + 1) * plan.now.size) planes.new.items) }
+    requires before { Each (BeginsPlane plan.now start bank slot replica) (colour * plan.now.size) planes.old.items }
+    ensures { OnOk result (Each (BeginsPlane plan.now start bank slot replica) ((colour + 1) * plan.now.size) planes.new.items) }
 {
     let lattice = plan.lattice();
-    let mut wheel = Wheel::seeded(plan.seed(), 4, slot, replica, 0);
+    let mut wheel = Wheel::seeded(plan.seed(), 4, slot, replica, bank);
     'planes: for z in 0..lattice.size() {
         planes.push(Plane {
             words: opening_words(alloc, &lattice, start, &mut wheel, colour, z)?,

@@ -37,8 +37,8 @@ pub struct Stand {
 }
 
 impl Stand {
-    /// The states that all 64 disorder samples begin with: epoch 0, each replica labelled by its
-    /// slot, the generators as the seed gives them.
+    /// The states that the 64 disorder samples of bank 0 begin with: epoch 0, each replica labelled
+    /// by its slot, the generators as the seed gives them.
     ///
     /// # Errors
     ///
@@ -47,10 +47,30 @@ impl Stand {
         ensures opening { IfOk result (StandsFor plan.now (model.opening plan.now start 0)) }
         ensures fits { IfOk result (StandFits plan.now) }
     {
+        Stand::opening_bank(alloc, plan, start, 0)
+    }
+
+    /// The states that the 64 disorder samples of a bank begin with, sample 64 bank + b in bit b: as
+    /// `opening`, but the generators of the exchanges and of a random start are the bank's. There
+    /// are four banks.
+    ///
+    /// # Errors
+    ///
+    /// Refuses only for want of memory.
+    pub fn opening_bank(
+        alloc: Global,
+        plan: &Plan,
+        start: Start,
+        bank: u32,
+    ) -> Result<Stand, NoMemory>
+        requires { bank < 4 }
+        ensures opening { IfOk result (StandsFor plan.now (model.opening plan.now start bank)) }
+        ensures fits { IfOk result (StandFits plan.now) }
+    {
         Ok(Stand {
             epoch: 0,
-            slots: opening_slots(alloc, plan, start)?,
-            pairs: opening_pairs(alloc, plan)?,
+            slots: opening_slots(alloc, plan, start, bank)?,
+            pairs: opening_pairs(alloc, plan, bank)?,
         })
     }
 

@@ -128,6 +128,21 @@ fn a_copied_opening_has_the_64_samples(rt: HostRuntime) -> Result<(), Fail> {
 }
 
 #[test]
+fn bank_3_opens_with_samples_of_its_own(rt: HostRuntime) -> Result<(), Fail> {
+    let alloc = rt.alloc();
+    let plan = plan_of(alloc, 6, RuleKind::Heat)?;
+    let stand = Stand::opening_bank(alloc, &plan, Start::Random, 3)?;
+    for bit in 0..64 {
+        let part = stand.sample(alloc, &plan, bit)?;
+        let sample = Sample::opening_bank(alloc, &plan, bit, Start::Random, 3)?;
+        assert!(rt; same_sample(&part, &sample), "bit {bit}");
+        let first = Sample::opening(alloc, &plan, bit, Start::Random)?;
+        assert!(rt; !same_spins_everywhere(&part, &first), "bit {bit}");
+    }
+    Ok(())
+}
+
+#[test]
 fn a_stored_sample_comes_back_and_the_others_stay(rt: HostRuntime) -> Result<(), Fail> {
     let alloc = rt.alloc();
     let plan = plan_of(alloc, 6, RuleKind::Heat)?;

@@ -132,7 +132,7 @@ unfolding values_of
 values-lawful members passed =
     let sweeps = number-bounded members Sweeps 1 1000000 refl (passed Sweeps) in
     let seed = number-bounded members Seed 0 9223372036854775807 refl (passed Seed) in
-    let samples = number-bounded members Samples 1 64 refl (passed Samples) in
+    let samples = number-bounded members Samples 1 256 refl (passed Samples) in
     let epochs = number-bounded members Epochs 0 1000000000 refl (passed Epochs) in
     let every = number-bounded members Every 1 1000000000 refl (passed Every) in
     record {

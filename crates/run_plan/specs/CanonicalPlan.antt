@@ -1,8 +1,9 @@
 -- The canonical bytes of a plan: all that fixes the physics of a run, as the one message whose SHA-256 is the plan's
 -- digest. Numbers are big-endian and unsigned.
-use Rattle.std.specs.Prelude.{ℕ, ◌+◌, ◌*◌, ◌/◌, ◌%◌, ◌++◌, List, length, codes}
+use Rattle.std.specs.Prelude.{ℕ, ◌+◌, ◌*◌, ◌/◌, ◌%◌, ◌++◌, List, [], ◌∷◌, length, codes}
 use Rattle.std.specs.List.{flat_map, sum_by}
 use Rattle.byteorder.specs.Endian.{big_bytes}
+use Rattle.sha2.specs.Sha256.{sha256}
 use Rattle.spin_model.specs.Lattice.{volume, bond_count}
 use Rattle.spin_model.specs.Steps.{table}
 use Rattle.coupling_set.specs.CouplingWords.{CouplingsView, bond_word}
@@ -40,7 +41,20 @@ canonical plan =
     header_bytes plan ++ flat_map number_bytes plan.rules.rows ++ flat_map pair_bytes plan.swaps
     ++ number_bytes (bond_words plan.couplings)
 
--- how many they are
+-- the digest of a plan
+abbrev pub plan_digest : Plan → List ℕ
+plan_digest plan = sha256 (canonical plan)
+
+-- of a run of several banks: eight letters, the number of banks, 4 bytes, and the digest of each bank's plan
+unfoldable pub banks_message : List Plan → List ℕ
+banks_message plans = codes "GLASSPL2" ++ big_bytes 4 (length plans) ++ flat_map plan_digest plans
+
+-- the digest of a run's plans, one for each bank: that of the only one, or of the digests of all
+unfoldable pub banks_digest : List Plan → List ℕ
+banks_digest (plan ∷ []) = plan_digest plan
+banks_digest plans = sha256 (banks_message plans)
+
+-- how many canonical bytes there are
 abbrev pub canonical_length : Plan → ℕ
 canonical_length plan =
     32 + 8 * (cases_of plan.rules.kind * slots_of plan) + sum_by (λ entries. 4 + 8 * length entries) plan.swaps

@@ -1,4 +1,5 @@
 pub mod Amounts
+pub mod Banks
 pub mod RunFile
 pub mod CanonicalPlan
 pub mod PlanOf

@@ -66,7 +66,7 @@ row_of Swaps = name
 row_of Couplings = source
 row_of Sweeps = integer (pos 1) (pos 1000000)
 row_of Seed = integer (pos 0) (pos 9223372036854775807)
-row_of Samples = integer (pos 1) (pos 64)
+row_of Samples = integer (pos 1) (pos 256)
 row_of Epochs = integer (pos 0) (pos 1000000000)
 row_of Every = integer (pos 1) (pos 1000000000)
 row_of StartKey = word (codes "up") (codes "random")
@@ -213,13 +213,21 @@ run_file bytes = run_file_in (document bytes)
 
 -- ---- limits
 
--- orders within their limits
-pub record AreLawfulOrders (orders : Orders) : Type 0 where
+-- orders within their limits, of at most so many samples
+pub record AreOrdersUpTo (most : ℕ) (orders : Orders) : Type 0 where
   pub some_samples : 1 ≤ orders.samples
-  pub few_samples : orders.samples ≤ 64
+  pub few_samples : orders.samples ≤ most
   pub epochs : orders.epochs ≤ 1000000000
   pub some_every : 1 ≤ orders.every
   pub every : orders.every ≤ 1000000000
+
+-- orders of one bank of 64 samples
+abbrev pub AreLawfulOrders : Orders → Type 0
+AreLawfulOrders orders = AreOrdersUpTo 64 orders
+
+-- orders of up to four banks, as a run file may give them
+abbrev pub AreOrdersOfBanks : Orders → Type 0
+AreOrdersOfBanks orders = AreOrdersUpTo 256 orders
 
 -- a run file within its limits
 pub record IsLawfulRunFile (file : RunFile) : Type 0 where
@@ -227,4 +235,4 @@ pub record IsLawfulRunFile (file : RunFile) : Type 0 where
   pub some_sweeps : 1 ≤ file.sweeps
   pub few_sweeps : file.sweeps ≤ 1000000
   pub seed : file.seed ≤ 9223372036854775807
-  pub orders : AreLawfulOrders file.orders
+  pub orders : AreOrdersOfBanks file.orders

@@ -3,18 +3,12 @@
 ghost use Rattle.std.specs.Prelude.{◌≡◌, ◌*◌, ◌≤◌, IfOk};
 ghost use Rattle.glass_edges.specs.Refusals.{unless};
 ghost use Rattle.run_plan.specs.Amounts.{amount_refusal, row_count as rows_of_run, spin_bits as bits_of_run};
-ghost use Rattle.run_plan.specs.RunFile.{AreLawfulOrders};
 ghost use Rattle.scalar_rule.specs.Plan.{slots_of};
 
+use crate::limits::{MOST_ROWS, MOST_SPIN_BITS};
 use crate::refused::PlanRefused;
 use crate::run_file::Orders;
 use scalar_rule::Plan;
-
-/// The most rows of one run.
-const MOST_ROWS: u64 = 4194304;
-
-/// The most spins that one run prints.
-const MOST_SPIN_BITS: u64 = 268435456;
 
 /// Tests the amount of what a run from epoch `from` to epoch `until` prints. Takes no memory.
 ///
@@ -23,7 +17,8 @@ const MOST_SPIN_BITS: u64 = 268435456;
 /// `Spins` where spins are to be printed and would be too many, else `Rows` where the rows would be.
 #[tactic(auto, unfolding(crate::specs::Amounts::amount_refusal))]
 pub fn check_amount(plan: &Plan, orders: &Orders, from: u64, until: u64) -> Result<(), PlanRefused>
-    requires orders { AreLawfulOrders orders.now }
+    requires few_samples { orders.now.samples ≤ 256 }
+    requires some_every { 1 ≤ orders.now.every }
     requires window { from ≤ until }
     requires until { until ≤ 1000000000 }
     ensures exact { result ≡ unless (amount_refusal plan.now orders.now from until) tt }
@@ -42,7 +37,7 @@ pub fn check_amount(plan: &Plan, orders: &Orders, from: u64, until: u64) -> Resu
 
 // The spins that a run prints, where it prints them.
 fn spin_bits(plan: &Plan, orders: &Orders) -> u64
-    requires { AreLawfulOrders orders.now }
+    requires { orders.now.samples ≤ 256 }
     ensures { result ≡ bits_of_run plan.now orders.now }
 {
     printed_slots(plan, orders) * 2 * plan.lattice().sites() as u64
@@ -50,7 +45,7 @@ fn spin_bits(plan: &Plan, orders: &Orders) -> u64
 
 /// The rows that a run from epoch `from` to epoch `until` prints. Takes no memory.
 pub fn row_count(plan: &Plan, orders: &Orders, from: u64, until: u64) -> u64
-    requires few_samples { orders.now.samples ≤ 64 }
+    requires few_samples { orders.now.samples ≤ 256 }
     requires some_every { 1 ≤ orders.now.every }
     requires window { from ≤ until }
     requires until { until ≤ 1000000000 }
@@ -61,9 +56,9 @@ pub fn row_count(plan: &Plan, orders: &Orders, from: u64, until: u64) -> u64
 
 // The slots of all printed samples.
 fn printed_slots(plan: &Plan, orders: &Orders) -> u64
-    requires { orders.now.samples ≤ 64 }
+    requires { orders.now.samples ≤ 256 }
     ensures value { result ≡ orders.now.samples * slots_of plan.now }
-    ensures few { result ≤ 2048 }
+    ensures few { result ≤ 8192 }
 {
     orders.samples as u64 * plan.slots() as u64
 }

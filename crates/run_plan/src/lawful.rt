@@ -7,6 +7,7 @@ ghost use Rattle.glass_edges.specs.Refusals.{first_found};
 ghost use Rattle.run_plan.specs.RunFile as model;
 
 use crate::key::{Key, is_key, keys};
+use crate::limits::MOST_SAMPLES;
 use crate::refused::PlanRefused;
 use toml::{Table, Value};
 
@@ -118,7 +119,7 @@ fn refuse_value(key: Key, value: &Value) -> Option<PlanRefused>
         Key::Couplings => source(key, value),
         Key::Sweeps => integer(key, value, 1, 1_000_000),
         Key::Seed => integer(key, value, 0, i64::MAX),
-        Key::Samples => integer(key, value, 1, 64),
+        Key::Samples => integer(key, value, 1, MOST_SAMPLES as i64),
         Key::Epochs => integer(key, value, 0, 1_000_000_000),
         Key::Every => integer(key, value, 1, 1_000_000_000),
         Key::Start => word(key, value, "up", "random"),

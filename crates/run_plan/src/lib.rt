@@ -2,9 +2,11 @@
 #![tactic(auto)]
 
 mod amounts;
+mod banks;
 mod demo;
 mod key;
 mod lawful;
+mod limits;
 mod plan_digest;
 mod reading;
 mod refused;
@@ -13,13 +15,16 @@ mod texts;
 mod values;
 
 pub use amounts::{check_amount, row_count};
+pub use banks::check_banks;
 pub use demo::demo_plan;
 pub use key::Key;
-pub use plan_digest::{canonical_length, digest};
+pub use plan_digest::{canonical_length, digest, digest_banks};
 pub use reading::read_plan;
 pub use refused::PlanRefused;
 pub use run_file::{CouplingSource, Orders, RunFile};
 pub use texts::{KeyText, NameText};
 
+#[cfg(test)]
+mod bank_tests;
 #[cfg(test)]
 mod tests;

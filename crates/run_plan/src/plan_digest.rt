@@ -1,6 +1,7 @@
-//! The digest of a plan.
+//! The digest of a plan, and of the plans of several banks.
 
-ghost use Rattle.std.specs.Prelude.{◌≡◌, ℕ, ◌<◌, ◌++◌, List, length, flat_map};
+ghost use Rattle.std.specs.Prelude.{◌≡◌, ℕ, ◌<◌, ◌≤◌, ◌++◌, List, length, map, flat_map};
+ghost use Rattle.std.specs.Arc.{arc_value};
 ghost use Rattle.byteorder.specs.Endian.{big_bytes};
 ghost use Rattle.sha2.specs.Hashers.{Holds256};
 ghost use Rattle.sha2.specs.Sha256.{sha256};
@@ -12,6 +13,8 @@ use byteorder::{BigEndian, ByteOrder};
 use coupling_set::Couplings;
 use scalar_rule::Plan;
 use sha2::{Digest, Sha256};
+use std::alloc::Global;
+use std::sync::Arc;
 use threshold_table::{RuleKind, RuleTable, SwapTable};
 
 /// The SHA-256 of the plan's canonical bytes, which stand in docs/specification/run_file.md. Takes
@@ -26,6 +29,34 @@ pub fn digest(plan: &Plan) -> [u8; 32]
     add_swaps(&mut hasher, plan.swaps());
     add_couplings(&mut hasher, plan.couplings());
     hasher.finalize()
+}
+
+/// The digest of a run's plans, one for each bank of 64 samples, which differ in their couplings: of
+/// one plan its own, of more the SHA-256 of the letters GLASSPL2, the number of plans and their
+/// digests in order. Takes no memory.
+pub fn digest_banks(plans: &[Arc<Plan, Global>]) -> [u8; 32]
+    requires some { 1 ≤ length plans.now }
+    requires few { length plans.now ≤ 4 }
+    ensures { result ≡ model.banks_digest (map arc_value plans.now) }
+{
+    if plans.len() == 1 {
+        return digest(&plans[0]);
+    }
+    let mut hasher = Sha256::new();
+    hasher.update(b"GLASSPL2");
+    add_u32(&mut hasher, plans.len() as u32);
+    add_digests(&mut hasher, plans);
+    hasher.finalize()
+}
+
+// Adds the digests of plans one after the other.
+fn add_digests(hasher: &mut Sha256, plans: &[Arc<Plan, Global>])
+    ensures { (m : List ℕ) → Holds256 hasher.old m →
+        Holds256 hasher.new (m ++ flat_map model.plan_digest (map arc_value plans.now)) }
+{
+    'plans: for plan in plans {
+        hasher.update(&digest(plan));
+    }
 }
 
 /// The law of the number of a plan's canonical bytes: by the numbers of its slots, entries and sites,

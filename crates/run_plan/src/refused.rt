@@ -5,7 +5,7 @@ use crate::texts::KeyText;
 use glass_edges::NoMemory;
 use thiserror::Error;
 
-/// Why a run file was refused, or the amount of what it orders.
+/// Why a run file was refused, or what it orders.
 #[derive(Debug, Drop, Error)]
 pub enum PlanRefused {
     /// The bytes are no TOML document.
@@ -35,6 +35,9 @@ pub enum PlanRefused {
     /// There was not enough memory.
     #[error("no memory")]
     NoMemory,
+    /// The command runs one bank of samples, and there are more.
+    #[error("this command needs at most 64 samples, not {samples}")]
+    Banks { samples: u32 },
 }
 
 impl From<NoMemory> for PlanRefused {

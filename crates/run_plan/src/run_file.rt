@@ -20,7 +20,7 @@ pub enum CouplingSource {
 /// plan's digest, is among the orders.
 #[derive(Clone, Copy, Debug, PartialEq, Eq)]
 pub struct Orders {
-    /// How many disorder samples are printed, 1 to 64.
+    /// How many disorder samples are printed, 1 to 256.
     pub samples: u32,
     /// The epoch at which the run ends, at most 1000000000.
     pub epochs: u64,

@@ -21,7 +21,7 @@ spins = true
 ";
 
 // The file with its first such part replaced.
-fn changed(alloc: Global, old: &str, new: &str) -> Result<String, AllocError> {
+pub(crate) fn changed(alloc: Global, old: &str, new: &str) -> Result<String, AllocError> {
     let mut text = String::new(alloc);
     if let Some((before, after)) = FILE.split_once(old) {
         text.push_str(before)?;
@@ -42,8 +42,8 @@ fn run_file_refusals_by_key(rt: HostRuntime) -> Result<(), Fail> {
         ("\"rules.csv\"", "4", "key rules has the wrong kind"),
         (
             "samples = 1",
-            "samples = 65",
-            "key samples is out of range: 65",
+            "samples = 257",
+            "key samples is out of range: 257",
         ),
         (
             "samples = 1",
@@ -274,7 +274,7 @@ fn ferromagnet(alloc: Global, size: u32, slots: u32) -> Result<Plan, Fail> {
 
 /// What the amount of a run from epoch 0, which prints each row and all spins, is answered.
 fn amount(alloc: Global, plan: &Plan, samples: u32, until: u64) -> Result<String, Fail> {
-    if samples < 1 || samples > 64 || until > 1000000000 {
+    if samples < 1 || samples > 256 || until > 1000000000 {
         return Err("an amount within its limits".into());
     }
     let orders = Orders {
@@ -299,6 +299,8 @@ fn amounts_at_their_limits(rt: HostRuntime) -> Result<(), Fail> {
         (64, 8, 64, 0, "printed"),
         (64, 9, 64, 0, "too many spin bits: 301989888"),
         (64, 9, 64, 1000000000, "too many spin bits: 301989888"),
+        (4, 32, 256, 512, "printed"),
+        (4, 32, 256, 513, "too many rows: 4202496"),
     ] {
         let plan = ferromagnet(alloc, size, slots)?;
         assert_eq!(rt; amount(alloc, &plan, samples, until)?.as_str(), told);

@@ -19,8 +19,8 @@ use pr_generator::Wheel;
 use std::alloc::Global;
 
 impl Sample {
-    /// The state that the disorder sample at bit `bit` of its bank begins with: epoch 0, each
-    /// replica labelled by its slot, the generators as the seed gives them.
+    /// The state that the disorder sample at bit `bit` of bank 0 begins with: epoch 0, each replica
+    /// labelled by its slot, the generators as the seed gives them.
     ///
     /// # Errors
     ///
@@ -30,11 +30,32 @@ impl Sample {
         ensures opening { IfOk result (λ s. s ≡ model.opening plan.now start 0 bit) }
         ensures fits { IfOk result (λ s. Fits plan.now s) }
     {
+        Sample::opening_bank(alloc, plan, bit, start, 0)
+    }
+
+    /// The state that disorder sample 64 bank + bit begins with: as `opening`, but the generators of
+    /// the exchanges and of a random start are the bank's. There are four banks.
+    ///
+    /// # Errors
+    ///
+    /// Refuses only for want of memory.
+    pub fn opening_bank(
+        alloc: Global,
+        plan: &Plan,
+        bit: u32,
+        start: Start,
+        bank: u32,
+    ) -> Result<Sample, NoMemory>
+        requires bit { bit < 64 }
+        requires bank { bank < 4 }
+        ensures opening { IfOk result (λ s. s ≡ model.opening plan.now start bank bit) }
+        ensures fits { IfOk result (λ s. Fits plan.now s) }
+    {
         Ok(Sample {
             bit,
             epoch: 0,
-            slots: opening_slots(alloc, plan, bit, start)?,
-            pairs: opening_pairs(alloc, plan)?,
+            slots: opening_slots(alloc, plan, bit, start, bank)?,
+            pairs: opening_pairs(alloc, plan, bank)?,
         })
     }
 }
@@ -45,36 +66,37 @@ fn opening_slots(
     plan: &Plan,
     bit: u32,
     start: Start,
+    bank: u32,
 ) -> Result<Items<PlainSlot>, NoMemory>
     requires { bit < 64 }
     ensures { IfOk result (λ slots. slots ≡
-        table (model.opening_slot plan.now start 0 bit) (slots_of plan.now)) }
+        table (model.opening_slot plan.now start bank bit) (slots_of plan.now)) }
 {
     let mut slots = Vec::with_capacity(alloc, plan.slots() as usize)?;
     'opened: for slot in 0..plan.slots() {
-        slots.push(opening_slot(alloc, plan, bit, start, slot)?)?;
+        slots.push(opening_slot(alloc, plan, bit, start, bank, slot)?)?;
     }
     Ok(Items::of(slots))
 }
 
 // All pairs, pair 0 first.
-fn opening_pairs(alloc: Global, plan: &Plan) -> Result<Items<PlainPair>, NoMemory>
-    ensures { IfOk result (λ pairs. pairs ≡ table (model.opening_pair plan.now 0) (pairs_of plan.now)) }
+fn opening_pairs(alloc: Global, plan: &Plan, bank: u32) -> Result<Items<PlainPair>, NoMemory>
+    ensures { IfOk result (λ pairs. pairs ≡ table (model.opening_pair plan.now bank) (pairs_of plan.now)) }
 {
     let count = plan.slots() - 1;
     let mut pairs = Vec::with_capacity(alloc, count as usize)?;
     'opened: for pair in 0..count {
-        pairs.push(opening_pair(plan, pair))?;
+        pairs.push(opening_pair(plan, bank, pair))?;
     }
     Ok(Items::of(pairs))
 }
 
-fn opening_pair(plan: &Plan, pair: u32) -> PlainPair
-    ensures { result ≡ model.opening_pair plan.now 0 pair }
+fn opening_pair(plan: &Plan, bank: u32, pair: u32) -> PlainPair
+    ensures { result ≡ model.opening_pair plan.now bank pair }
 {
     PlainPair {
-        first: Wheel::seeded(plan.seed(), 2, pair, 0, 0),
-        second: Wheel::seeded(plan.seed(), 2, pair, 1, 0),
+        first: Wheel::seeded(plan.seed(), 2, pair, 0, bank),
+        second: Wheel::seeded(plan.seed(), 2, pair, 1, bank),
     }
 }
 
@@ -83,15 +105,16 @@ fn opening_slot(
     plan: &Plan,
     bit: u32,
     start: Start,
+    bank: u32,
     slot: u32,
 ) -> Result<PlainSlot, NoMemory>
     requires bit { bit < 64 }
     requires slot { slot < slots_of plan.now }
-    ensures { IfOk result (λ s. s ≡ model.opening_slot plan.now start 0 bit slot) }
+    ensures { IfOk result (λ s. s ≡ model.opening_slot plan.now start bank bit slot) }
 {
     Ok(PlainSlot {
-        first: opening_copy(alloc, plan, bit, start, slot, 0)?,
-        second: opening_copy(alloc, plan, bit, start, slot, 1)?,
+        first: opening_copy(alloc, plan, bit, start, bank, slot, 0)?,
+        second: opening_copy(alloc, plan, bit, start, bank, slot, 1)?,
     })
 }
 
@@ -101,18 +124,19 @@ fn opening_copy(
     plan: &Plan,
     bit: u32,
     start: Start,
+    bank: u32,
     slot: u32,
     replica: u32,
 ) -> Result<PlainCopy, NoMemory>
     requires bit { bit < 64 }
     requires slot { slot < slots_of plan.now }
     requires replica { replica < 2 }
-    ensures { IfOk result (λ copy. copy ≡ model.opening_copy plan.now start 0 bit slot replica) }
+    ensures { IfOk result (λ copy. copy ≡ model.opening_copy plan.now start bank bit slot replica) }
 {
     // A plan has at most 32 slots.
     let _ = plan.slots();
     Ok(PlainCopy {
-        spins: start_spins(alloc, plan, bit, start, slot, replica)?,
+        spins: start_spins(alloc, plan, bit, start, bank, slot, replica)?,
         wheels: seeded_wheels(alloc, &plan.lattice(), plan.seed(), slot, replica)?,
         replica: slot as u8,
     })
@@ -124,17 +148,18 @@ fn start_spins(
     plan: &Plan,
     bit: u32,
     start: Start,
+    bank: u32,
     slot: u32,
     replica: u32,
 ) -> Result<Items<bool>, NoMemory>
     requires bit { bit < 64 }
-    ensures { IfOk result (λ spins. spins ≡ model.start_spins plan.now start 0 bit slot replica) }
+    ensures { IfOk result (λ spins. spins ≡ model.start_spins plan.now start bank bit slot replica) }
 {
     let lattice = plan.lattice();
     match start {
         Start::Up => all_up(alloc, &lattice),
         Start::Random => {
-            let mut wheel = Wheel::seeded(plan.seed(), 4, slot, replica, 0);
+            let mut wheel = Wheel::seeded(plan.seed(), 4, slot, replica, bank);
             random_spins(alloc, &lattice, &mut wheel, bit)
         }
     }

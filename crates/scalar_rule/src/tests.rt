@@ -4,9 +4,10 @@ ghost use Rattle.std.specs.Prelude.{◌≡◌, ◌+◌, ◌<◌, length, IfOk};
 ghost use Rattle.scalar_rule.specs.Plan.{slots_of};
 ghost use Rattle.scalar_rule.specs.Shape.{Fits};
 
-use crate::{Plan, Record, Sample, Start};
+use crate::{PlainCopy, Plan, Record, Sample, Start};
 use coupling_set::Couplings;
 use lattice_geometry::Lattice;
+use pr_generator::Wheel;
 use std::alloc::Global;
 use std::test::Fail;
 use threshold_table::{RuleKind, RuleRow, RuleTable, SwapTable};
@@ -193,5 +194,54 @@ fn equal_energies_swap_in_the_pairs_whose_turn_it_is(rt: HostRuntime) -> Result<
         rows.as_slice(),
         [record(-192, 1), record(-192, 2), record(-192, 0)].as_slice()
     );
+    Ok(())
+}
+
+// The spins of a replica as digits 0 and 1, 1 for +1, in the order of the sites.
+fn digits(alloc: Global, replica: &PlainCopy) -> Result<String, Fail> {
+    let mut text = String::new(alloc);
+    for up in replica.spins.as_slice() {
+        text.push(if *up { '1' } else { '0' })?;
+    }
+    Ok(text)
+}
+
+// The first and the last word of a generator.
+fn first_and_last(wheel: &Wheel) -> (u32, u32) {
+    let mut words = [0; 61];
+    wheel.words(&mut words);
+    (words[0], words[60])
+}
+
+// The values were made by an independent program, tools/reference/compare.py --opening 4 2 7 101.
+#[test]
+fn sample_101_begins_as_bit_37_of_bank_1(rt: HostRuntime) -> Result<(), Fail> {
+    let alloc = rt.alloc();
+    let rules = RuleTable::from_rows(alloc, RuleKind::Heat, &[DOWN, DOWN])?;
+    let swaps = SwapTable::from_rows(alloc, &[[0; 1]])?;
+    let plan = plan_of(alloc, rules, swaps)?;
+    let sample = Sample::opening_bank(alloc, &plan, 37, Start::Random, 1)?;
+    let mut spins = Vec::new(alloc);
+    for slot in sample.slots.as_slice() {
+        spins.push(digits(alloc, &slot.first)?)?;
+        spins.push(digits(alloc, &slot.second)?)?;
+    }
+    let known = [
+        "0100101010100001101111100010100110101001010000000110100000101010",
+        "0100011011000101010001010110000111111011111100001000110000111011",
+        "0111010101010111100110000100110011110000110110001111001001111011",
+        "0111101010001110100110100010001001000101110001110011010001100011",
+    ];
+    assert_eq!(rt; spins.len(), known.len());
+    for (found, known) in spins.iter().zip(&known) {
+        assert_eq!(rt; found.as_str(), *known);
+    }
+    let mut ends = Vec::new(alloc);
+    for pair in sample.pairs.as_slice() {
+        ends.push(first_and_last(&pair.first))?;
+        ends.push(first_and_last(&pair.second))?;
+    }
+    let known = [(2040743980, 2347870371), (685961419, 2888153379)];
+    assert_eq!(rt; ends.as_slice(), known.as_slice());
     Ok(())
 }

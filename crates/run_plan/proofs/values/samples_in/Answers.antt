@@ -7,5 +7,5 @@ use Rattle.run_plan.proofs.values.samples_in.Goals as goal
 
 pub overflow_cast-result : goal.overflow_cast-result
 overflow_cast-result c =
-    let small = number-bounded (table_view c.args.table.now) Samples 1 64 refl c.requires in
+    let small = number-bounded (table_view c.args.table.now) Samples 1 256 refl c.requires in
     omega (arith, small.1, c.number.ensures)

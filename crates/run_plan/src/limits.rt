@@ -1,0 +1,13 @@
+//! The limits of a run.
+
+/// How many disorder samples a bank has.
+pub(crate) const BANK_SAMPLES: u32 = 64;
+
+/// The most samples of one run, which has up to four banks.
+pub(crate) const MOST_SAMPLES: u32 = 256;
+
+/// The most rows of one run.
+pub(crate) const MOST_ROWS: u64 = 4194304;
+
+/// The most spins that one run prints.
+pub(crate) const MOST_SPIN_BITS: u64 = 268435456;
