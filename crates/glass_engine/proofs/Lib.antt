@@ -12,3 +12,10 @@ pub mod LevelReports
 pub mod Leaving
 pub mod Summaries
 pub mod SummaryTexts
+pub mod BankStarts
+pub mod BankLoops
+pub mod BankLaws
+pub mod BankDrives
+pub mod BankRows
+pub mod BankReports
+pub mod BankSavings

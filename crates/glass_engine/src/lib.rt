@@ -1,6 +1,12 @@
 //! The engine of a run: it is opened with all its memory, driven to its end, and reported.
 #![tactic(auto)]
 
+mod bank_driving;
+mod bank_opening;
+mod bank_report;
+mod bank_rows;
+mod bank_saving;
+mod banks;
 mod done;
 mod driving;
 mod laws;
@@ -15,10 +21,16 @@ mod summary;
 mod tests;
 mod workers;
 
+pub use bank_driving::drive_banks;
+pub use bank_opening::open_banks;
+pub use bank_report::write_banks;
+pub use bank_saving::save_banks;
+pub use banks::{Banks, BanksDone};
 pub use done::Done;
 pub use driving::drive;
 pub use laws::{
-    level_checkpoint_is_serial, level_report_is_serial, level_run_is_serial,
+    banks_checkpoint_is_serial, banks_report_is_serial, level_checkpoint_is_serial,
+    level_report_is_serial, level_run_is_serial, samples_below_64_are_of_bank_0,
     unstopped_run_is_whole, whole_checkpoint_is_the_rules,
 };
 pub use opening::open;

@@ -1,6 +1,6 @@
 //! The report of a run.
 
-ghost use Rattle.std.specs.Prelude.{◌≡◌, ℕ, ◌+◌, ◌-◌, ◌*◌, ◌/◌, ◌^◌, ◌<◌, ◌≤◌, ◌&&◌, ◌==◌, [], if◌then◌else◌, length, All, IfOk, OnOk, OnErr};
+ghost use Rattle.std.specs.Prelude.{◌≡◌, ℕ, ◌+◌, ◌-◌, ◌*◌, ◌/◌, ◌%◌, ◌^◌, ◌<◌, ◌≤◌, ◌&&◌, ◌==◌, [], if◌then◌else◌, length, All, IfOk, OnOk, OnErr};
 ghost use Rattle.glass_edges.specs.Causes.{HasCause};
 ghost use Rattle.glass_edges.specs.Contents.{appended, AppendsPrefix};
 ghost use Rattle.exchange_board.specs.Content as board;
@@ -127,8 +127,8 @@ fn write_spins<O: Sink>(
     Ok(())
 }
 
-// Puts the spins of one sample.
-fn write_sample_spins<O: Sink>(
+/// Puts the spins of one sample, which is a bit of these states.
+pub(crate) fn write_sample_spins<O: Sink>(
     out: &mut O,
     plan: &Plan,
     stand: &RaggedStand,
@@ -136,11 +136,10 @@ fn write_sample_spins<O: Sink>(
 ) -> Result<(), Fault>
     requires count { length stand.now.slots ≡ slots_of plan.now }
     requires fits { All (FitsDuo plan.now.size) stand.now.slots }
-    requires few { sample < 64 }
     ensures whole { OnOk result (O.taken out.new ≡ appended (O.taken out.old)
-        (text.sample_spins plan.now sample (uneven_part plan.now.size sample stand.now).slots)) }
+        (text.sample_spins plan.now sample (uneven_part plan.now.size (sample % 64) stand.now).slots)) }
     ensures prefix { OnErr result (AppendsPrefix (O.taken out.old) (O.taken out.new)
-        (text.sample_spins plan.now sample (uneven_part plan.now.size sample stand.now).slots)) }
+        (text.sample_spins plan.now sample (uneven_part plan.now.size (sample % 64) stand.now).slots)) }
     ensures cause { HasCause (O.faults out.old) (O.faults out.new) result }
 {
     'slots: for slot in 0..plan.slots() {
@@ -164,11 +163,10 @@ fn write_slot_spins<O: Sink>(
     duo: &Duo,
 ) -> Result<(), Fault>
     requires fits { FitsDuo lattice duo.now }
-    requires few { sample < 64 }
     ensures whole { OnOk result (O.taken out.new ≡ appended (O.taken out.old)
-        (text.slot_spins lattice sample slot (part_slot lattice sample duo.now))) }
+        (text.slot_spins lattice sample slot (part_slot lattice (sample % 64) duo.now))) }
     ensures prefix { OnErr result (AppendsPrefix (O.taken out.old) (O.taken out.new)
-        (text.slot_spins lattice sample slot (part_slot lattice sample duo.now))) }
+        (text.slot_spins lattice sample slot (part_slot lattice (sample % 64) duo.now))) }
     ensures cause { HasCause (O.faults out.old) (O.faults out.new) result }
 {
     spins(out, sample, slot, 0, &duo.first, lattice)?;

@@ -127,8 +127,8 @@ fn add_epoch<O: Sink>(
     Ok(())
 }
 
-// Adds the rows of one sample at one epoch.
-fn add_sample<O: Sink>(
+/// Adds the rows of one sample at one epoch.
+pub(crate) fn add_sample<O: Sink>(
     out: &mut O,
     line: &mut Line,
     epoch: u64,

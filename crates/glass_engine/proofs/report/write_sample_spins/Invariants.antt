@@ -1,4 +1,4 @@
-use Rattle.std.proofs.Common.{◌≡◌, flat_map}
+use Rattle.std.proofs.Common.{◌≡◌, ◌%◌, flat_map}
 use Rattle.glass_edges.specs.Contents.{appended}
 use Rattle.plane_sweep.specs.Uneven.{uneven_part}
 use Rattle.scalar_rule.specs.Epoch.{slot_at}
@@ -9,6 +9,6 @@ use Rattle.glass_engine.proofs.report.write_sample_spins.Given as goal
 abbrev pub invariant-slots : goal.invariant-slots
 invariant-slots g l = record {
   text : g.O.Sink.taken l.out ≡ appended (g.O.Sink.taken l.fn.out)
-      (flat_map (λ t. slot_spins l.plan.size l.sample t (slot_at (uneven_part l.plan.size l.sample l.stand).slots t)) (table (λ t. t) l.slot));
+      (flat_map (λ t. slot_spins l.plan.size l.sample t (slot_at (uneven_part l.plan.size (l.sample % 64) l.stand).slots t)) (table (λ t. t) l.slot));
   passed : g.O.Sink.faults l.out ≡ g.O.Sink.faults l.fn.out;
 }

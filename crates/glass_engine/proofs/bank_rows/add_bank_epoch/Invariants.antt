@@ -1,0 +1,12 @@
+use Rattle.std.proofs.Common.{◌≡◌, ◌++◌}
+use Rattle.glass_edges.specs.Contents.{PutsFront}
+use Rattle.glass_engine.specs.BankPieces.{banks_in}
+use Rattle.glass_engine.specs.Banks.{banks_measured}
+use Rattle.glass_engine.specs.Report.{epoch_rows}
+use Rattle.glass_engine.proofs.bank_rows.add_bank_epoch.Given as goal
+
+abbrev pub invariant-samples : goal.invariant-samples
+invariant-samples g l = record {
+  text : PutsFront (g.O.Sink.taken l.fn.out) (g.O.Sink.taken l.out) (l.fn.line ++ epoch_rows (banks_measured (banks_in l.driven)) l.b l.epoch) l.line;
+  passed : g.O.Sink.faults l.out ≡ g.O.Sink.faults l.fn.out;
+}

@@ -1,0 +1,39 @@
+use Rattle.std.proofs.Common.{rules, arith, ◌+◌, ap, sym, subst, refl, ◌∙◌}
+use Rattle.glass_edges.proofs.Puts.{OnErr_of}
+use Rattle.glass_engine.specs.BankPieces.{banks_in, AreRowsFrom}
+use Rattle.glass_engine.specs.Banks.{banks_measured}
+use Rattle.glass_engine.proofs.Adding.{add-none, add-more, add-failed}
+use Rattle.glass_engine.proofs.BankRows.{rows-next}
+use Rattle.glass_engine.proofs.Joined.{window-none, window-at}
+use Rattle.glass_engine.proofs.Pieces.{rows_if, rows-more}
+use Rattle.glass_engine.proofs.bank_rows.add_bank_rows.Goals as goal
+
+pub epochs-init : goal.epochs-init
+epochs-init g c = record {
+  text = add-none _ _ _ (window-none _ c.args.from);
+  rows = c.requires;
+  faultless = refl;
+}
+
+pub add_bank_recorded-requires : goal.add_bank_recorded-requires
+add_bank_recorded-requires g c = record {
+  to = c.args.to;
+  below = c.epochs-test.true;
+  rows = c.epochs.invariant.rows;
+}
+
+pub returns-in_err-count-clause-prefix : goal.returns-in_err-count-clause-prefix
+returns-in_err-count-clause-prefix g c =
+    let m = banks_measured (banks_in c.args.driven.now) in
+    OnErr_of _ (add-failed _ _ _ _ _ _ _ _ _ c.epochs.invariant.text c.in_err-count.ensures.prefix
+    (window-at (rows_if m c.args.orders.now.samples c.args.orders.now.every) c.args.from c.epochs.epoch c.args.to (search (rules, arith)) c.epochs-test.true))
+
+pub epochs-preserved : goal.epochs-preserved
+epochs-preserved g c =
+    let m = banks_measured (banks_in c.args.driven.now) in
+    let next = rows-next c.args.driven.now c.args.orders.now c.args.slots c.epochs.epoch c.args.to c.epochs.passed c.epochs-test.true c.epochs.invariant.rows in
+    record {
+      text = add-more _ _ _ _ _ _ _ _ _ c.epochs.invariant.text c.in_ok-count.ensures.front (rows-more m c.args.orders.now.samples c.args.orders.now.every c.args.from c.epochs.epoch (search (rules, arith)));
+      rows = subst (AreRowsFrom c.args.driven.now c.args.orders.now c.args.slots (c.epochs.epoch + 1) c.args.to) (ap (λ k. c.epochs.passed + k) (sym c.in_ok-count.ensures.count)) next;
+      faultless = c.in_ok-count.ensures.cause.passed ∙ c.epochs.invariant.faultless;
+    }

@@ -1,0 +1,13 @@
+use Rattle.std.proofs.Common.{◌≡◌, ◌++◌}
+use Rattle.glass_edges.specs.Contents.{PutsFront}
+use Rattle.glass_engine.specs.BankPieces.{banks_in, AreRowsFrom}
+use Rattle.glass_engine.specs.Banks.{banks_measured}
+use Rattle.glass_engine.specs.Report.{rows_in_order}
+use Rattle.glass_engine.proofs.bank_rows.add_bank_rows.Given as goal
+
+abbrev pub invariant-epochs : goal.invariant-epochs
+invariant-epochs g l = record {
+  text : PutsFront (g.O.Sink.taken l.fn.out) (g.O.Sink.taken l.out) (l.fn.line ++ rows_in_order (banks_measured (banks_in l.driven)) l.orders.samples l.orders.every l.from l.epoch) l.line;
+  rows : AreRowsFrom l.driven l.orders l.slots l.epoch l.to l.passed;
+  faultless : g.O.Sink.faults l.out ≡ g.O.Sink.faults l.fn.out;
+}

@@ -1,0 +1,138 @@
+//! The rows of a run over several banks, in order of epoch, sample and slot over all banks.
+
+ghost use Rattle.std.specs.Prelude.{◌≡◌, ◌+◌, ◌*◌, ◌/◌, ◌<◌, ◌≤◌, ◌++◌, [], if◌then◌else◌, length, take, drop, slice_index_or, true, IfOk, OnOk, OnErr};
+ghost use Rattle.glass_edges.specs.Causes.{HasCause};
+ghost use Rattle.glass_edges.specs.Contents.{appended, AppendsPrefix, PutsFront};
+ghost use Rattle.scalar_rule.specs.Records.{is_recorded};
+ghost use Rattle.glass_engine.specs.BankPieces.{banks_in, AreRowsFrom, HaveNext};
+ghost use Rattle.glass_engine.specs.Banks.{banks_measured};
+ghost use Rattle.glass_engine.specs.Report as text;
+
+use crate::done::Done;
+use crate::rows::add_sample;
+use glass_edges::{Fault, Line, Sink};
+use run_plan::Orders;
+use scalar_rule::Record;
+
+/// Puts the rows of all banks between two epochs.
+pub(crate) fn write_bank_rows<O: Sink>(
+    out: &mut O,
+    driven: &[Done],
+    orders: &Orders,
+    slots: usize,
+    from: u64,
+    to: u64,
+) -> Result<(), Fault>
+    requires { AreRowsFrom driven.now orders.now slots from to 0 }
+    ensures whole { OnOk result (O.taken out.new ≡ appended (O.taken out.old)
+        (text.rows_in_order (banks_measured (banks_in driven.now)) orders.now.samples orders.now.every from to)) }
+    ensures prefix { OnErr result (AppendsPrefix (O.taken out.old) (O.taken out.new)
+        (text.rows_in_order (banks_measured (banks_in driven.now)) orders.now.samples orders.now.every from to)) }
+    ensures cause { HasCause (O.faults out.old) (O.faults out.new) result }
+{
+    let mut line = Line::new();
+    add_bank_rows(out, &mut line, driven, orders, slots, from, to)?;
+    line.put(out)
+}
+
+// Adds the rows between two epochs behind a text that is still to be put.
+fn add_bank_rows<O: Sink>(
+    out: &mut O,
+    line: &mut Line,
+    driven: &[Done],
+    orders: &Orders,
+    slots: usize,
+    from: u64,
+    to: u64,
+) -> Result<(), Fault>
+    requires { AreRowsFrom driven.now orders.now slots from to 0 }
+    ensures front { OnOk result (PutsFront (O.taken out.old) (O.taken out.new) (line.old
+        ++ text.rows_in_order (banks_measured (banks_in driven.now)) orders.now.samples orders.now.every from to)
+        line.new) }
+    ensures prefix { OnErr result (AppendsPrefix (O.taken out.old) (O.taken out.new) (line.old
+        ++ text.rows_in_order (banks_measured (banks_in driven.now)) orders.now.samples orders.now.every from to)) }
+    ensures cause { HasCause (O.faults out.old) (O.faults out.new) result }
+{
+    // How many of the epochs so far were recorded.
+    let mut passed = 0usize;
+    'epochs: for epoch in from..to {
+        let count = add_bank_recorded(out, line, driven, orders, slots, epoch, passed)?;
+        passed += count;
+    }
+    Ok(())
+}
+
+// Adds the rows of an epoch if it is recorded, before which so many were, and answers how many more
+// there are behind it.
+fn add_bank_recorded<O: Sink>(
+    out: &mut O,
+    line: &mut Line,
+    driven: &[Done],
+    orders: &Orders,
+    slots: usize,
+    epoch: u64,
+    passed: usize,
+) -> Result<usize, Fault>
+    requires { HaveNext driven.now orders.now slots epoch passed }
+    ensures count { IfOk result (λ count. count ≡ (if is_recorded orders.now.every epoch then 1 else 0)) }
+    ensures front { OnOk result (PutsFront (O.taken out.old) (O.taken out.new) (line.old
+        ++ (if is_recorded orders.now.every epoch
+        then text.epoch_rows (banks_measured (banks_in driven.now)) orders.now.samples epoch else [])) line.new) }
+    ensures prefix { OnErr result (AppendsPrefix (O.taken out.old) (O.taken out.new) (line.old
+        ++ (if is_recorded orders.now.every epoch
+        then text.epoch_rows (banks_measured (banks_in driven.now)) orders.now.samples epoch else []))) }
+    ensures cause { HasCause (O.faults out.old) (O.faults out.new) result }
+{
+    if epoch % orders.every != orders.every - 1 {
+        return Ok(0);
+    }
+    add_bank_epoch(out, line, driven, orders, slots, epoch, passed)?;
+    Ok(1)
+}
+
+// Adds the rows of a recorded epoch, before which so many were recorded.
+fn add_bank_epoch<O: Sink>(
+    out: &mut O,
+    line: &mut Line,
+    driven: &[Done],
+    orders: &Orders,
+    slots: usize,
+    epoch: u64,
+    passed: usize,
+) -> Result<(), Fault>
+    requires next { HaveNext driven.now orders.now slots epoch passed }
+    requires recorded { is_recorded orders.now.every epoch ≡ true }
+    ensures front { OnOk result (PutsFront (O.taken out.old) (O.taken out.new) (line.old
+        ++ text.epoch_rows (banks_measured (banks_in driven.now)) orders.now.samples epoch) line.new) }
+    ensures prefix { OnErr result (AppendsPrefix (O.taken out.old) (O.taken out.new) (line.old
+        ++ text.epoch_rows (banks_measured (banks_in driven.now)) orders.now.samples epoch)) }
+    ensures cause { HasCause (O.faults out.old) (O.faults out.new) result }
+{
+    'samples: for b in 0..orders.samples {
+        let bank = bank_with(driven, b);
+        let records = sample_records(bank, slots, passed, b as usize % 64);
+        add_sample(out, line, epoch, b, records)?;
+    }
+    Ok(())
+}
+
+/// The bank that a sample is in.
+pub(crate) fn bank_with(driven: &[Done], sample: u32) -> &Done
+    requires { sample / 64 < length driven.now }
+    ensures { result.now ≡ slice_index_or driven.now (sample / 64) result.now }
+{
+    &driven[sample as usize / 64]
+}
+
+// The records of a bit of a bank in a recorded epoch, before which so many were recorded.
+fn sample_records(bank: &Done, slots: usize, passed: usize, bit: usize) -> &[Record]
+    requires short { passed ≤ 1000000000 }
+    requires few_slots { slots ≤ 32 }
+    requires few_bits { bit < 64 }
+    requires within { (passed * bank.now.run.orders.samples + bit) * slots + slots ≤ length bank.now.ended.records }
+    ensures { result.now ≡ take slots
+        (drop ((passed * bank.now.run.orders.samples + bit) * slots) bank.now.ended.records) }
+{
+    let at = (passed * bank.orders.samples as usize + bit) * slots;
+    &bank.ended.records()[at..at + slots]
+}
