@@ -205,4 +205,4 @@ run-lawful planned until lawful orders within =
     let plan : Plan = planned.plan in
     let start : ℕ → Sample = opening plan planned.orders.start 0 in
     composed plan planned.orders.samples planned.orders.every 0 until (measured_from plan start) (λ b. (serial plan (start b) until).slots) planned.orders.spins lawful orders.some_samples (omega (arith, orders.few_samples)) (omega arith) within
-    (opening-measured plan start planned.orders.samples 0 until (λ b. length-table (opening_pair plan 0) (pairs_of plan)) (λ b. opening-labels plan planned.orders.start b))
+    (opening-measured plan start planned.orders.samples 0 until (λ b. length-table (opening_pair plan 0) (pairs_of plan)) (λ b. opening-labels plan planned.orders.start 0 b))

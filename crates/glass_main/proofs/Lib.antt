@@ -1,4 +1,5 @@
 pub mod Numbers
+pub mod AgeTimes
 pub mod SpinText
 pub mod Fetching
 pub mod SwapPairs
@@ -12,9 +13,12 @@ pub mod Amounts
 pub mod RunEndings
 pub mod AddingUp
 pub mod ReadStops
+pub mod SavedStates
 pub mod SaidWords
 pub mod Reports
 pub mod ReportRows
 pub mod ReportSpins
 pub mod LawfulReports
 pub mod UnevenReports
+pub mod BankedFiles
+pub mod Completing

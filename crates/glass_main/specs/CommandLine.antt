@@ -1,7 +1,9 @@
 -- The command that the words after the program's name ask for.
-use Rattle.std.specs.Prelude.{ℕ, ◌^◌, ◌-◌, Bool, true, false, not, ◌&&◌, ◌==◌, nat_le, nat_lt, if◌then◌else◌, List, length, take, drop, codes, Option, Some, None, option_map, unwrap_or}
+use Rattle.std.specs.Prelude.{ℕ, ◌^◌, ◌+◌, ◌-◌, Bool, true, false, not, ◌&&◌, ◌==◌, nat_le, nat_lt, if◌then◌else◌, List, length, take, drop, codes, Option, Some, None, option_map, unwrap_or}
 use Rattle.std.specs.List.{fold, position_or_len, before_first, after_first}
 use Rattle.std.specs.Str.{bytes_eq}
+use Rattle.glass_main.specs.PottsWords.{PottsOrder, potts_order}
+use Rattle.glass_main.specs.AgeWords.{AgeOrder, times_of}
 use Rattle.glass_main.specs.Words.{given, word_at, size_word, number_word, number_words}
 
 -- one replica of the ferromagnet: the side of the lattice, the number of sweeps, the seed, and the seven thresholds
@@ -28,14 +30,22 @@ pub record AverageOrder : Type 0 where
   pub report : List ℕ
   pub blocks : ℕ
 
+-- link overlaps and correlation lines: the names of the run file and of the checkpoint
+pub record LinesOrder : Type 0 where
+  pub run : List ℕ
+  pub checkpoint : List ℕ
+
 -- a command of the program: one replica of the ferromagnet; a look at the run file of a name; a run; averages of a report; a large
--- run whose plan is made from a number
+-- run whose plan is made from a number; link overlaps and correlation lines of a checkpoint; a run of the Potts glass; an aging run
 pub data Command : Type 0 where
   Plain : PlainOrder → Command
   Check : List ℕ → Command
   Run : RunOrder → Command
   Average : AverageOrder → Command
   Demo : ℕ → Command
+  Lines : LinesOrder → Command
+  Potts : PottsOrder → Command
+  Age : AgeOrder → Command
 
 -- `plain SIZE SWEEPS SEED T0 T1 T2 T3 T4 T5 T6`
 unfoldable pub plain_order : List (List ℕ) → Option PlainOrder
@@ -73,9 +83,28 @@ average_order words =
     Some (record { report = report; blocks = blocks })))
     else None
 
+-- `age RUN TW N` and N times: a waiting time up to a million, 1 to 32 times
+unfoldable pub age_order : List (List ℕ) → Option AgeOrder
+age_order words =
+    given (name_word (word_at words 1)) (λ run.
+    given (number_word 0 1000000 (word_at words 2)) (λ wait.
+    given (number_word 1 32 (word_at words 3)) (λ count.
+    if length words == 4 + count then
+    given (times_of count words) (λ times. Some (record { run = run; wait = wait; times = times }))
+    else None)))
+
 -- `demo N`, N up to a million
 unfoldable pub demo_number : List (List ℕ) → Option ℕ
 demo_number words = if length words == 2 then number_word 0 1000000 (word_at words 1) else None
+
+-- `lines RUN CHECKPOINT`
+unfoldable pub lines_order : List (List ℕ) → Option LinesOrder
+lines_order words =
+    if length words == 3 then
+    given (name_word (word_at words 1)) (λ run.
+    given (name_word (word_at words 2)) (λ checkpoint.
+    Some (record { run = run; checkpoint = checkpoint })))
+    else None
 
 -- ---- the words of `run`, read from the left
 
@@ -205,6 +234,9 @@ command_of words =
     else if bytes_eq (word_at words 0) (codes "run") then option_map Run (run_order words)
     else if bytes_eq (word_at words 0) (codes "average") then option_map Average (average_order words)
     else if bytes_eq (word_at words 0) (codes "demo") then option_map Demo (demo_number words)
+    else if bytes_eq (word_at words 0) (codes "lines") then option_map Lines (lines_order words)
+    else if bytes_eq (word_at words 0) (codes "potts") then option_map Potts (potts_order words)
+    else if bytes_eq (word_at words 0) (codes "age") then option_map Age (age_order words)
     else None
 
 -- the name under which words ask for a checkpoint to be saved
@@ -215,3 +247,6 @@ saved_name (Some (Check name)) = None
 saved_name (Some (Run order)) = order.save
 saved_name (Some (Average order)) = None
 saved_name (Some (Demo n)) = None
+saved_name (Some (Lines order)) = None
+saved_name (Some (Potts order)) = None
+saved_name (Some (Age order)) = None

@@ -1,5 +1,5 @@
 -- Which endings words may have, over any store: what holds also where no file is observable.
-use Rattle.std.specs.Prelude.{◌≡◌, ◌≢◌, ◌⊎◌, ℕ, ◌<◌, List, Option, Some, None, option_map, IfSome, Err}
+use Rattle.std.specs.Prelude.{◌≡◌, ◌≢◌, ◌⊎◌, ℕ, ◌<◌, false, List, Option, Some, None, option_map, IfSome, Err}
 use Rattle.glass_edges.specs.Contents.{Files}
 use Rattle.coupling_set.specs.CouplingsFile.{couplings_in}
 use Rattle.coupling_set.specs.declared.refused.CouplingsRefused.{CouplingsRefused}
@@ -8,6 +8,7 @@ use Rattle.threshold_table.specs.Tables.{RuleView, rule_table, swap_table}
 use Rattle.threshold_table.specs.declared.refused.TableRefused.{TableRefused}
 use Rattle.threshold_table.specs.declared.refused.TableRefused.TheVariants as table
 use Rattle.threshold_table.specs.declared.rule_table.RuleKind.{RuleKind}
+use Rattle.run_checkpoint.specs.Decoding.{level_refusal}
 use Rattle.run_checkpoint.specs.UnevenDecoding.{any_refusal}
 use Rattle.run_checkpoint.specs.declared.refused.CheckpointRefused.{CheckpointRefused}
 use Rattle.run_checkpoint.specs.declared.refused.CheckpointRefused.TheVariants as checkpoint
@@ -19,8 +20,8 @@ use Rattle.sample_average.specs.Averages.{IsRefusal}
 use Rattle.sample_average.specs.declared.refused.ReportRefused.{ReportRefused}
 use Rattle.sample_average.specs.declared.refused.ReportRefused.TheVariants as report
 use Rattle.scalar_rule.specs.Plan as rule
-use Rattle.glass_main.specs.CommandLine.{RunOrder, Command, Plain, Check, Run, Average, Demo}
-use Rattle.glass_main.specs.Request.{limit_of, and_then, IsAccepted, run_file_at, rules_at, swaps_at, tables_at, plan_at}
+use Rattle.glass_main.specs.CommandLine.{RunOrder, Command, Plain, Check, Run, Average, Demo, Lines, Potts, Age}
+use Rattle.glass_main.specs.Request.{limit_of, and_then, banked, IsAccepted, run_file_at, rules_at, swaps_at, tables_at, plan_at}
 use Rattle.glass_main.specs.declared.role.Role.{Role}
 use Rattle.glass_main.specs.declared.role.Role.TheVariants as roles
 use Rattle.glass_main.specs.declared.refusal.Refusal.{Refusal}
@@ -30,10 +31,10 @@ use Rattle.glass_main.specs.declared.ending.Ending.TheVariants.{Done, Refused, U
 
 -- ---- refusals
 
--- some run file is refused so; a reader's want of memory is no refusal
+-- some run file is refused so, or for more samples than the command can run; a reader's want of memory is no refusal
 pub record IsOfRunFile (e : PlanRefused) : Type 0 where
   pub refusal : ¬ (e ≡ plan.NoMemory)
-  pub cause : (bytes : List ℕ) × (run_file bytes ≡ Err e)
+  pub cause : (bytes : List ℕ) × (banked false (run_file bytes) ≡ Err e)
 
 -- some rule table is refused so
 pub record IsOfRules (e : TableRefused) : Type 0 where
@@ -78,6 +79,11 @@ IsOfAverages blocks (refused.Absent role) = role ≡ roles.Report
 IsOfAverages blocks (refused.TooLong role n) = (role ≡ roles.Report) × (limit_of role < n)
 IsOfAverages blocks (refused.Report e) = IsOfReport blocks e
 IsOfAverages blocks told = ⊥
+
+-- of a checkpoint that is refused at one epoch, which is at most 1000000000: some bytes are, for some plan
+abbrev pub IsOfOneEpoch : Refusal → Type 0
+IsOfOneEpoch (refused.Checkpoint e) = (plan : rule.Plan) × (bytes : List ℕ) × (level_refusal plan 1000000000 bytes ≡ Some e)
+IsOfOneEpoch told = Unit {0}
 
 -- a length that is told of a file is the one that a fetch of it answers, where the store says that beforehand
 abbrev pub TellsLength : (List ℕ → ℕ → Option ℕ) → Refusal → Type 0
@@ -132,24 +138,36 @@ pub record IsResumed (order : RunOrder) (held : Option Files) (role : Role) : Ty
   pub fetches : FetchesCheckpoint order.from role
   pub reached : IfSome (option_map (plan_at order.run) held) IsAccepted
 
+-- which files of a run and of a checkpoint that is read behind them
+abbrev pub IsReachedSaved : List ℕ → Option Files → Role → Type 0
+IsReachedSaved name held roles.Checkpoint = IfSome (option_map (plan_at name) held) IsAccepted
+IsReachedSaved name held role = IsReached name held role
+
 -- ---- commands
 
--- the files that a command fetches, at which the store may fail: `plain` and `demo` fetch none
+-- the files that a command fetches, at which the store may fail: `plain`, `demo` and `potts` fetch none
 abbrev pub MayFetch : Command → Option Files → Role → Type 0
 MayFetch (Plain order) held role = ⊥
 MayFetch (Check name) held role = IsReached name held role
 MayFetch (Run order) held role = IsReached order.run held role ⊎ IsResumed order held role
 MayFetch (Average order) held role = role ≡ roles.Report
 MayFetch (Demo n) held role = ⊥
+MayFetch (Lines order) held role = IsReachedSaved order.run held role
+MayFetch (Potts order) held role = ⊥
+MayFetch (Age order) held role = IsReached order.run held role
 
--- what a command may be refused for: `plain` and `demo` read no file, and are never refused; `check` and a run are for a file that they
--- fetch, of which no step before refuses; `check` prints one line, whatever a run would print
+-- what a command may be refused for: `plain`, `demo` and `potts` read no file, and are never refused; `check`, `lines`, `age` and a run are
+-- for a file that they fetch, of which no step before refuses; no amount is asked for but by a run; `lines` reads a checkpoint at one
+-- epoch alone
 abbrev pub MayRefuse : Command → Option Files → Refusal → Type 0
 MayRefuse (Plain order) held told = ⊥
 MayRefuse (Check name) held told = IsOfFile (MayFetch (Check name) held) told
 MayRefuse (Run order) held told = IsOfFile (MayFetch (Run order) held) told ⊎ IsOfAmount told
 MayRefuse (Average order) held told = IsOfAverages order.blocks told
 MayRefuse (Demo n) held told = ⊥
+MayRefuse (Lines order) held told = IsOfFile (MayFetch (Lines order) held) told × IsOfOneEpoch told
+MayRefuse (Potts order) held told = ⊥
+MayRefuse (Age order) held told = IsOfFile (MayFetch (Age order) held) told
 
 -- the commands that may fail at their checkpoint: runs that save one
 abbrev pub MaySave : Command → Type 0
@@ -158,6 +176,9 @@ MaySave (Check name) = ⊥
 MaySave (Run order) = order.save ≢ None
 MaySave (Average order) = ⊥
 MaySave (Demo n) = ⊥
+MaySave (Lines order) = ⊥
+MaySave (Potts order) = ⊥
+MaySave (Age order) = ⊥
 
 -- how a command may end, where the store holds these files
 abbrev pub MayEnd : Command → Option Files → Ending → Type 0
@@ -168,7 +189,7 @@ MayEnd command held Unwritten = Unit {0}
 MayEnd command held Unsaved = MaySave command
 MayEnd command held NoMemory = Unit {0}
 
--- words that read no file: those of `plain` and `demo`, and those that are no command
+-- words that read no file: those of `plain`, `demo` and `potts`, and those that are no command
 abbrev pub ReadsNoFile : Option Command → Type 0
 ReadsNoFile None = Unit {0}
 ReadsNoFile (Some (Plain order)) = Unit {0}
@@ -176,6 +197,9 @@ ReadsNoFile (Some (Check name)) = ⊥
 ReadsNoFile (Some (Run order)) = ⊥
 ReadsNoFile (Some (Average order)) = ⊥
 ReadsNoFile (Some (Demo n)) = Unit {0}
+ReadsNoFile (Some (Lines order)) = ⊥
+ReadsNoFile (Some (Potts order)) = Unit {0}
+ReadsNoFile (Some (Age order)) = ⊥
 
 -- words that are no command are refused as such, and no others
 abbrev pub Reads : Option Command → Option Files → Ending → Type 0

@@ -1,6 +1,10 @@
 pub mod Words
+pub mod PottsWords
+pub mod AgeWords
 pub mod CommandLine
 pub mod Texts
+pub mod PottsRun
+pub mod AgeRun
 pub mod Beginnings
 pub mod Stops
 pub mod Outside
@@ -10,8 +14,11 @@ pub mod Endings
 pub mod Statuses
 pub mod Gathers
 pub mod Resumes
+pub mod ReadPotts
+pub mod ReadAge
 pub mod ReadCommand
 pub mod Opened
 pub mod StopLaws
 pub mod DemoRun
 pub mod LawfulRuns
+pub mod SavedLaws

@@ -47,6 +47,7 @@ plan_line (plan.Unknown key) = codes "glass: unknown key " ++ map printable key 
 plan_line (plan.Rows count) = codes "glass: too many rows: " ++ decimal count ++ codes "\n"
 plan_line (plan.Spins bits) = codes "glass: too many spin bits: " ++ decimal bits ++ codes "\n"
 plan_line plan.NoMemory = memory_line
+plan_line (plan.Banks samples) = codes "glass: this command needs at most 64 samples, not " ++ decimal samples ++ codes "\n"
 
 -- how a line begins that speaks of a file, of a record of a table, and of a field of a record
 unfoldable pub file_front : Role → List ℕ

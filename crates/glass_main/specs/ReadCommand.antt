@@ -2,10 +2,13 @@
 use Rattle.std.specs.Borrow.{Bor}
 use Rattle.std.specs.Prelude.{ℕ, ◌≤◌, List, Option, option_map, IfSome}
 use Rattle.glass_main.specs.CommandLine as model
+use Rattle.glass_main.specs.ReadPotts.{read_potts_order, IsLawfulPotts}
+use Rattle.glass_main.specs.ReadAge.{read_age_order, IsLawfulAge}
 use Rattle.glass_main.specs.declared.average_words.AverageOrder.{AverageOrder}
+use Rattle.glass_main.specs.declared.correlation_words.LinesOrder.{LinesOrder}
 use Rattle.glass_main.specs.declared.command_line.PlainOrder.{PlainOrder}
 use Rattle.glass_main.specs.declared.command_line.Command.{Command}
-use Rattle.glass_main.specs.declared.command_line.Command.TheVariants.{Plain, Check, Run, Average, Demo}
+use Rattle.glass_main.specs.declared.command_line.Command.TheVariants.{Plain, Check, Run, Average, Demo, Lines, Potts, Age}
 use Rattle.glass_main.specs.declared.run_words.RunOrder.{RunOrder}
 use Rattle.glass_main.specs.declared.run_words.RunWords.{RunWords}
 
@@ -33,6 +36,10 @@ read_run_order order = record {
 abbrev pub read_average_order : AverageOrder → model.AverageOrder
 read_average_order order = record { report = order.report.now; blocks = order.blocks }
 
+-- the order of `lines`
+abbrev pub read_lines_order : LinesOrder → model.LinesOrder
+read_lines_order order = record { run = order.run.now; checkpoint = order.checkpoint.now }
+
 -- a command
 abbrev pub read_command : Command → model.Command
 read_command (Plain order) = model.Plain (read_order order)
@@ -40,6 +47,9 @@ read_command (Check name) = model.Check name.now
 read_command (Run order) = model.Run (read_run_order order)
 read_command (Average order) = model.Average (read_average_order order)
 read_command (Demo n) = model.Demo n
+read_command (Lines order) = model.Lines (read_lines_order order)
+read_command (Potts order) = model.Potts (read_potts_order order)
+read_command (Age order) = model.Age (read_age_order order)
 
 -- what the words of `run` have said
 abbrev pub read_said : RunWords → model.RunWords
@@ -82,3 +92,6 @@ IsLawfulCommand (Check name) = Unit {0}
 IsLawfulCommand (Run order) = IsLawfulOrder order
 IsLawfulCommand (Average order) = IsLawfulAverage order
 IsLawfulCommand (Demo n) = n ≤ 1000000
+IsLawfulCommand (Lines order) = Unit {0}
+IsLawfulCommand (Potts order) = IsLawfulPotts order
+IsLawfulCommand (Age order) = IsLawfulAge order

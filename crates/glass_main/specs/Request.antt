@@ -1,5 +1,5 @@
 -- What a command asks for, over the files that the store holds: work, or the first refusal on the way to it.
-use Rattle.std.specs.Prelude.{ℕ, nat_le, if◌then◌else◌, List, [], length, Option, Some, None, option_map, unwrap_or, Result, Ok, Err}
+use Rattle.std.specs.Prelude.{ℕ, Bool, false, nat_le, if◌then◌else◌, List, [], length, Option, Some, None, option_map, unwrap_or, Result, Ok, Err}
 use Rattle.std.specs.FinMap as map
 use Rattle.glass_edges.specs.Contents.{Files}
 use Rattle.glass_edges.specs.Refusals.{unless}
@@ -10,17 +10,26 @@ use Rattle.coupling_set.specs.CouplingWords.{CouplingsView}
 use Rattle.coupling_set.specs.CouplingsFile.{couplings_in}
 use Rattle.run_plan.specs.declared.run_file.RunFile.{RunFile}
 use Rattle.run_plan.specs.RunFile.{run_file}
+use Rattle.run_plan.specs.Banks.{banks_refusal}
+use Rattle.run_plan.specs.declared.refused.PlanRefused.{PlanRefused}
 use Rattle.run_plan.specs.Amounts.{amount_refusal}
 use Rattle.run_plan.specs.declared.run_file.CouplingSource.{CouplingSource}
 use Rattle.run_plan.specs.declared.run_file.CouplingSource.TheVariants as sources
 use Rattle.run_plan.specs.PlanOf.{plan_with}
+use Rattle.run_checkpoint.specs.Decoding.{decoded}
+use Rattle.plane_sweep.specs.declared.stand.Stand.{Stand}
+use Rattle.scalar_rule.specs.Plan.{Plan}
 use Rattle.sample_average.specs.Averages.{AveragesView, averages_text}
 use Rattle.sample_average.specs.ReadReport.{averages_in}
-use Rattle.glass_main.specs.CommandLine.{PlainOrder, RunOrder, AverageOrder, Command, Plain, Check, Run, Average, Demo, command_of}
+use Rattle.glass_main.specs.CommandLine.{PlainOrder, RunOrder, AverageOrder, LinesOrder, Command, Plain, Check, Run, Average, Demo, Lines, Potts, Age, command_of}
+use Rattle.glass_main.specs.PottsRun.{potts_report}
+use Rattle.glass_main.specs.PottsWords.{PottsOrder}
+use Rattle.glass_main.specs.AgeRun.{age_text}
 use Rattle.glass_main.specs.Beginnings.{Beginning, opened_by, resumed_by, begins_at}
 use Rattle.glass_main.specs.Stops.{RunGives}
-use Rattle.glass_main.specs.Texts.{plain_text, check_text, demo_text}
+use Rattle.glass_main.specs.Texts.{plain_text, check_text, demo_text, saved_text}
 use Rattle.glass_main.specs.declared.planned.Planned.{Planned}
+use Rattle.glass_main.specs.declared.saved_state.SavedState.{SavedState}
 use Rattle.glass_main.specs.declared.role.Role.{Role}
 use Rattle.glass_main.specs.declared.role.Role.TheVariants as roles
 use Rattle.glass_main.specs.declared.refusal.Refusal.{Refusal}
@@ -35,6 +44,9 @@ pub data Work : Type 0 where
   RunWork : Planned → Beginning → ℕ → Option ℕ → Work
   AverageWork : AveragesView → Work
   DemoWork : ℕ → Work
+  LinesWork : SavedState → Work
+  PottsWork : PottsOrder → Work
+  AgeWork : Planned → ℕ → List ℕ → Work
 
 -- what holds of the text that the work prints, and of the checkpoint that it saves where it is asked to
 abbrev pub Gives : Work → (List ℕ → List ℕ → Type 0) → Type 0
@@ -43,6 +55,9 @@ Gives (CheckWork planned) P = P (check_text planned) []
 Gives (RunWork planned from until stop_after) P = RunGives stop_after planned from until P
 Gives (AverageWork averages) P = P (averages_text averages) []
 Gives (DemoWork n) P = P (demo_text n) []
+Gives (LinesWork saved) P = P (saved_text saved) []
+Gives (PottsWork order) P = P (potts_report order) []
+Gives (AgeWork planned wait times) P = P (age_text planned wait times) []
 
 -- ---- steps
 
@@ -78,9 +93,14 @@ bytes_in role (Some bytes) = if nat_le (length bytes) (limit_of role) then Ok by
 abbrev pub bytes_at : Role → List ℕ → Files → Result (List ℕ) Refusal
 bytes_at role name files = bytes_in role (map.get files name)
 
--- the run file of a name
+-- a run file whose samples a command can run, that runs many banks of 64 or but one
+abbrev pub banked : Bool → Result RunFile PlanRefused → Result RunFile PlanRefused
+banked many (Ok file) = unless (banks_refusal file.orders many) file
+banked many (Err refusal) = Err refusal
+
+-- the run file of a name; every command runs one bank
 unfoldable pub run_file_at : List ℕ → Files → Result RunFile Refusal
-run_file_at name files = and_then (bytes_at roles.RunFile name files) (λ bytes. told_as refused.Plan (run_file bytes))
+run_file_at name files = and_then (bytes_at roles.RunFile name files) (λ bytes. told_as refused.Plan (banked false (run_file bytes)))
 
 -- the rule table that a run file names
 unfoldable pub rules_at : RunFile → Files → Result RuleView Refusal
@@ -154,6 +174,18 @@ run_at order held = and_then (plan_at order.run held) (λ planned. run_from orde
 unfoldable pub averages_at : AverageOrder → Files → Result AveragesView Refusal
 averages_at order files = and_then (bytes_at roles.Report order.report files) (λ bytes. told_as refused.Report (averages_in order.blocks bytes))
 
+-- the packed state that the checkpoint of a name is, whose slots are all at one epoch
+unfoldable pub stand_at : Plan → List ℕ → Files → Result Stand Refusal
+stand_at plan name files =
+    and_then (bytes_at roles.Checkpoint name files) (λ bytes. told_as refused.Checkpoint (decoded plan 1000000000 bytes))
+
+-- the plan and the orders of a run, and then the state of a checkpoint of it
+unfoldable pub saved_at : LinesOrder → Files → Result SavedState Refusal
+saved_at order files =
+    and_then (plan_at order.run files) (λ planned.
+    and_then (stand_at planned.plan order.checkpoint files) (λ base.
+    Ok (record { planned = planned; base = base })))
+
 -- ---- requests
 
 -- what a command asks for; none where it depends on files that aren't observable
@@ -163,6 +195,9 @@ request_of (Check name) files = option_map (λ held. and_then (plan_at name held
 request_of (Run order) files = option_map (run_at order) files
 request_of (Average order) files = option_map (λ held. and_then (averages_at order held) (λ averages. Ok (AverageWork averages))) files
 request_of (Demo n) files = Some (Ok (DemoWork n))
+request_of (Lines order) files = option_map (λ held. and_then (saved_at order held) (λ saved. Ok (LinesWork saved))) files
+request_of (Potts order) files = Some (Ok (PottsWork order))
+request_of (Age order) files = option_map (λ held. and_then (plan_at order.run held) (λ planned. Ok (AgeWork planned order.wait order.times))) files
 
 -- the same of words that may be no command
 abbrev pub request_for : Option Command → Option Files → Option (Result Work Refusal)

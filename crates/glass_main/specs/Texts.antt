@@ -14,8 +14,11 @@ use Rattle.scalar_rule.specs.Plan.{Plan, slots_of}
 use Rattle.scalar_rule.specs.declared.sample.Start.TheVariants.{Random}
 use Rattle.report_text.specs.Lines.{kind_text}
 use Rattle.glass_engine.specs.Summary.{summary}
+use Rattle.overlap_lines.specs.LineText.{lines_text}
+use Rattle.plane_sweep.specs.Packed.{part}
 use Rattle.glass_main.specs.CommandLine.{PlainOrder}
 use Rattle.glass_main.specs.declared.planned.Planned.{Planned}
+use Rattle.glass_main.specs.declared.saved_state.SavedState.{SavedState}
 
 -- the spins that a plain run ends with
 abbrev pub plain_spins : PlainOrder → List Bool
@@ -60,3 +63,8 @@ check_text planned = plan_sizes planned ++ plan_dynamics planned.plan ++ plan_di
 -- spins by the serial dynamics
 abbrev pub demo_text : ℕ → List ℕ
 demo_text n = summary n (demo_plan n) (opening (demo_plan n) Random 0) 16
+
+-- what `lines` prints: of the states of the first samples, at the epoch of the checkpoint, the link overlaps and the correlation lines
+abbrev pub saved_text : SavedState → List ℕ
+saved_text saved =
+    lines_text saved.planned.plan saved.planned.orders.samples saved.base.epoch (λ b. part saved.planned.plan.size b saved.base)

@@ -6,7 +6,10 @@ ghost use Rattle.glass_main.specs.ReadCommand.{read_command, read_order, IsLawfu
 ghost use Rattle.glass_main.specs.Words as model;
 ghost use Rattle.glass_main.specs.Words.{texts, size_word};
 
+use crate::age_words::{AgeOrder, read_age};
 use crate::average_words::{AverageOrder, read_average};
+use crate::correlation_words::{LinesOrder, read_lines};
+use crate::potts_words::{PottsOrder, read_potts};
 use crate::run_words::{RunOrder, read_run};
 use crate::words::{name_word, number_word, word_at};
 use lattice_geometry::Lattice;
@@ -34,6 +37,12 @@ pub enum Command<'a> {
     Average(AverageOrder<'a>),
     /// A large run whose plan is made from this number, at most a million.
     Demo(u64),
+    /// Link overlaps and correlation lines of a checkpoint.
+    Lines(LinesOrder<'a>),
+    /// A four-state Potts glass.
+    Potts(PottsOrder),
+    /// An aging run.
+    Age(AgeOrder<'a>),
 }
 
 /// Reads the words. It takes no memory.
@@ -44,34 +53,28 @@ pub(crate) fn read_words(words: &[String]) -> Option<Command<'_>>
 {
     let name = word_at(words, 0);
     if name == "plain" {
-        return match read_plain(words) {
-            Some(order) => Some(Command::Plain(order)),
-            None => None,
-        };
+        return Some(Command::Plain(read_plain(words)?));
     }
     if name == "check" {
-        return match read_check(words) {
-            Some(run) => Some(Command::Check(run)),
-            None => None,
-        };
+        return Some(Command::Check(read_check(words)?));
     }
     if name == "run" {
-        return match read_run(words) {
-            Some(order) => Some(Command::Run(order)),
-            None => None,
-        };
+        return Some(Command::Run(read_run(words)?));
     }
     if name == "average" {
-        return match read_average(words) {
-            Some(order) => Some(Command::Average(order)),
-            None => None,
-        };
+        return Some(Command::Average(read_average(words)?));
     }
     if name == "demo" {
-        return match read_demo(words) {
-            Some(n) => Some(Command::Demo(n)),
-            None => None,
-        };
+        return Some(Command::Demo(read_demo(words)?));
+    }
+    if name == "lines" {
+        return Some(Command::Lines(read_lines(words)?));
+    }
+    if name == "potts" {
+        return Some(Command::Potts(read_potts(words)?));
+    }
+    if name == "age" {
+        return Some(Command::Age(read_age(words)?));
     }
     None
 }
@@ -119,8 +122,8 @@ fn read_plain(words: &[String]) -> Option<PlainOrder>
     })
 }
 
-// The lattice whose side a word writes.
-fn size_word(text: &str) -> Option<Lattice>
+/// The lattice whose side a word writes.
+pub(crate) fn size_word(text: &str) -> Option<Lattice>
     ensures { option_map (λ (l : ℕ). l) result ≡ size_word text.now }
 {
     let size = number_word(text, 4, 64)?;
@@ -139,8 +142,8 @@ fn threshold_words(words: &[String]) -> Option<[u64; 7]>
     }
 }
 
-// Reads as many number words as the list is long, from word `start` on, and answers whether each is one.
-fn read_numbers(words: &[String], start: usize, high: u64, values: &mut [u64]) -> bool
+/// Reads as many number words as the list is long, from word `start` on, and answers whether each is one.
+pub(crate) fn read_numbers(words: &[String], start: usize, high: u64, values: &mut [u64]) -> bool
     requires { start + length values.old < 2 ^ 32 }
     ensures { model.number_words 0 high (texts words.now) start (length values.old)
         ≡ (if result then Some values.new else None) }

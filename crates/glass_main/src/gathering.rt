@@ -1,9 +1,10 @@
 //! Reading what a run file names, step by step.
 
-ghost use Rattle.std.specs.Prelude.{◌≡◌, ◌≤◌, ◌+◌, length, option_map, IfOk};
+ghost use Rattle.std.specs.Prelude.{◌≡◌, ◌≤◌, ◌+◌, false, length, option_map, IfOk};
 ghost use Rattle.coupling_set.specs.BondsAsWords.{couplings_with};
 ghost use Rattle.spin_model.specs.Couplings.{plus, random};
-ghost use Rattle.run_plan.specs.RunFile.{IsLawfulRunFile, AreLawfulOrders};
+ghost use Rattle.glass_edges.specs.Refusals.{Gives};
+ghost use Rattle.run_plan.specs.RunFile.{run_file, IsLawfulRunFile, AreLawfulOrders};
 ghost use Rattle.run_plan.specs.PlanOf.{plan_with};
 ghost use Rattle.glass_main.specs.Endings.{IsReached, IsReachedAfter, IsReachedAfterRules};
 ghost use Rattle.glass_main.specs.Gathers.{Gathers, Fetches, gathered};
@@ -18,7 +19,7 @@ use coupling_set::{Couplings, CouplingsRefused, couplings_are_their_bonds};
 use glass_edges::{Fetched, NoMemory, Shelf};
 use lattice_geometry::Lattice;
 use plain_list::Items;
-use run_plan::{CouplingSource, PlanRefused, RunFile, read_plan};
+use run_plan::{CouplingSource, PlanRefused, RunFile, check_banks, read_plan};
 use scalar_rule::Plan;
 use std::alloc::Global;
 use threshold_table::{RuleTable, SwapTable, TableRefused, read_rule, read_swap};
@@ -46,7 +47,8 @@ fn gather_after_file<H: Shelf>(
     shelf: &mut H,
     file: &RunFile,
 ) -> Result<Planned, Ending>
-    requires { IsLawfulRunFile file.now }
+    requires lawful { IsLawfulRunFile file.now }
+    requires orders { AreLawfulOrders file.now.orders }
     ensures asked { Gathers (option_map (model.plan_after_file file.now) (H.holds shelf.old))
         (IsReachedAfter file.now (H.holds shelf.old)) result
         (store H.holds H.faults H.lengths shelf.old) (store H.holds H.faults H.lengths shelf.new) }
@@ -64,7 +66,8 @@ fn gather_after_rules<H: Shelf>(
     file: &RunFile,
     rules: RuleTable,
 ) -> Result<Planned, Ending>
-    requires { IsLawfulRunFile file.now }
+    requires lawful { IsLawfulRunFile file.now }
+    requires orders { AreLawfulOrders file.now.orders }
     ensures asked { Gathers (option_map (model.plan_after_rules file.now rules) (H.holds shelf.old))
         (IsReachedAfterRules file.now rules (H.holds shelf.old)) result
         (store H.holds H.faults H.lengths shelf.old) (store H.holds H.faults H.lengths shelf.new) }
@@ -92,13 +95,25 @@ fn gather_run_file<H: Shelf>(alloc: Global, shelf: &mut H, name: &str) -> Result
         (Fetches Role.RunFile) result
         (store H.holds H.faults H.lengths shelf.old) (store H.holds H.faults H.lengths shelf.new) }
     ensures lawful { IfOk result IsLawfulRunFile }
+    ensures orders { IfOk result (λ file. AreLawfulOrders file.orders) }
 {
     let bytes = gather_bytes(alloc, shelf, Role::RunFile, name)?;
-    match read_plan(alloc, bytes.as_slice()) {
+    match read_run_file(alloc, bytes.as_slice(), false) {
         Ok(file) => Ok(file),
         Err(PlanRefused::NoMemory) => Err(Ending::NoMemory),
         Err(refused) => Err(Ending::Refused(Refusal::Plan(refused))),
     }
+}
+
+// The run file that the bytes are, for a command that runs many banks of 64 samples or but one.
+fn read_run_file(alloc: Global, bytes: &[u8], many: bool) -> Result<RunFile, PlanRefused>
+    ensures value { Gives PlanRefused.NoMemory (λ file. file) result (model.banked many (run_file bytes.now)) }
+    ensures lawful { IfOk result IsLawfulRunFile }
+    ensures orders { many ≡ false → IfOk result (λ file. AreLawfulOrders file.orders) }
+{
+    let file = read_plan(alloc, bytes)?;
+    check_banks(&file.orders, many)?;
+    Ok(file)
 }
 
 // Reads the rule table that a run file names.
@@ -182,8 +197,8 @@ fn gather_couplings_file<H: Shelf>(
     }
 }
 
-// The ferromagnet.
-fn make_plus(alloc: Global, lattice: Lattice) -> Result<Couplings, NoMemory>
+/// The ferromagnet.
+pub(crate) fn make_plus(alloc: Global, lattice: Lattice) -> Result<Couplings, NoMemory>
     ensures made { IfOk result (λ couplings. couplings ≡ couplings_with lattice plus) }
     ensures size { IfOk result (λ couplings. couplings.size ≡ lattice) }
 {
@@ -192,8 +207,8 @@ fn make_plus(alloc: Global, lattice: Lattice) -> Result<Couplings, NoMemory>
     Ok(couplings)
 }
 
-// Random couplings of a seed.
-fn make_random(alloc: Global, lattice: Lattice, seed: u64) -> Result<Couplings, NoMemory>
+/// Random couplings of a seed.
+pub(crate) fn make_random(alloc: Global, lattice: Lattice, seed: u64) -> Result<Couplings, NoMemory>
     ensures made { IfOk result (λ couplings. couplings ≡ couplings_with lattice (random seed)) }
     ensures size { IfOk result (λ couplings. couplings.size ≡ lattice) }
 {

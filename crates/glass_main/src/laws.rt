@@ -1,6 +1,7 @@
 //! What holds of the definitions: each law is the contract of a function with an empty body.
 
 ghost use Rattle.glass_main.specs.LawfulRuns.{EndedReportsAreLawful, RunReportsAreLawful};
+ghost use Rattle.glass_main.specs.SavedLaws.{EncodedStatesAreRead, ReadStatesAreEncoded};
 ghost use Rattle.glass_main.specs.StopLaws.{AcceptedCheckpointsAreEncodings, SavedStopsAreRead, StoppedRunsAddUp};
 
 /// The report that a run prints is one that `average` reads.
@@ -29,4 +30,15 @@ pub fn saved_stops_are_read()
 /// last are those of the one.
 pub fn stopped_runs_add_up()
     ensures { StoppedRunsAddUp }
+{}
+
+/// The bytes of a checkpoint whose link overlaps and correlation lines are printed are the encoding of the
+/// states that they are of.
+pub fn read_states_are_encoded()
+    ensures { ReadStatesAreEncoded }
+{}
+
+/// And the encoding of states that fit, at an epoch in time, is read as them.
+pub fn encoded_states_are_read()
+    ensures { EncodedStatesAreRead }
 {}

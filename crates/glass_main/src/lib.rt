@@ -1,11 +1,15 @@
 //! The program's top call: from the words of the command line to the bytes and the exit status.
 #![tactic(auto)]
 
+mod age;
+mod age_words;
 mod average;
 mod average_words;
 mod check;
 mod checkpoint_lines;
 mod command_line;
+mod correlation;
+mod correlation_words;
 mod couplings_lines;
 mod demo;
 mod digest_lines;
@@ -18,27 +22,34 @@ mod long_line;
 mod plain;
 mod plan_lines;
 mod planned;
+mod potts;
+mod potts_words;
 mod refusal;
 mod report_lines;
 mod resuming;
 mod role;
 mod run;
 mod run_words;
+mod saved_state;
 mod spin_text;
 mod table_lines;
 mod top;
 mod words;
 
+pub use age_words::AgeOrder;
 pub use average_words::AverageOrder;
 pub use command_line::{Command, PlainOrder};
+pub use correlation_words::LinesOrder;
 pub use ending::Ending;
 pub use laws::{
-    accepted_checkpoints_are_encodings, ended_reports_are_lawful, run_reports_are_lawful,
-    saved_stops_are_read, stopped_runs_add_up,
+    accepted_checkpoints_are_encodings, encoded_states_are_read, ended_reports_are_lawful,
+    read_states_are_encoded, run_reports_are_lawful, saved_stops_are_read, stopped_runs_add_up,
 };
 pub use lines::no_memory;
 pub use planned::Planned;
+pub use potts_words::{PottsCouplings, PottsOrder};
 pub use refusal::Refusal;
 pub use role::Role;
 pub use run_words::RunOrder;
+pub use saved_state::SavedState;
 pub use top::glass;

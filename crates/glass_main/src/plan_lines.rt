@@ -30,6 +30,11 @@ pub(crate) fn say_plan<E: Sink>(err: &mut E, refused: &PlanRefused)
         PlanRefused::Rows { count } => say_count(err, b"glass: too many rows: ", *count),
         PlanRefused::Spins { bits } => say_count(err, b"glass: too many spin bits: ", *bits),
         PlanRefused::NoMemory => say(err, b"glass: no memory\n"),
+        PlanRefused::Banks { samples } => say_count(
+            err,
+            b"glass: this command needs at most 64 samples, not ",
+            *samples as u64,
+        ),
     }
 }
 

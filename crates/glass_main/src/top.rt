@@ -8,13 +8,16 @@ ghost use Rattle.glass_main.specs.Request.{request};
 ghost use Rattle.glass_main.specs.Statuses.{Ends, Answers, Does, Completes, TellsFaults};
 ghost use Rattle.glass_main.specs.Words.{texts};
 
+use crate::age::age;
 use crate::average::average;
 use crate::check::check;
 use crate::command_line::{Command, read_words};
+use crate::correlation::correlation_lines;
 use crate::demo::demo;
 use crate::ending::{Ending, status};
 use crate::lines::tell;
 use crate::plain::plain;
+use crate::potts::potts;
 use crate::refusal::Refusal;
 use crate::run::run;
 use glass_edges::{Gate, Shelf, Sink};
@@ -34,7 +37,7 @@ use std::thread::Threads;
 /// 12: the report is refused. With a status other than 0 `err` got one line, or a prefix of it where
 /// it failed itself.
 ///
-/// `plain` and `demo` read no file, and end with 0, 9 or 11; words that are no command end with 2 alone.
+/// `plain`, `demo` and `potts` read no file, and end with 0, 9 or 11; words that are no command end with 2 alone.
 pub fn glass<R: Threads + Wait + Sync, H: Shelf, O: Sink, E: Sink, G: Gate + Sync>(
     rt: &R,
     alloc: Global,
@@ -98,5 +101,8 @@ fn answer<R: Threads + Wait + Sync, H: Shelf, O: Sink, G: Gate + Sync>(
         Some(Command::Run(order)) => run(rt, alloc, shelf, out, gate, &order),
         Some(Command::Average(order)) => average(alloc, shelf, out, &order),
         Some(Command::Demo(n)) => demo(rt, alloc, shelf, out, gate, n),
+        Some(Command::Lines(order)) => correlation_lines(alloc, shelf, out, &order),
+        Some(Command::Potts(order)) => potts(alloc, shelf, out, &order),
+        Some(Command::Age(order)) => age(rt, alloc, shelf, out, &order),
     }
 }

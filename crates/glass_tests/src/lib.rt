@@ -2,6 +2,8 @@
 #![tactic(auto)]
 
 #[cfg(test)]
+mod age;
+#[cfg(test)]
 mod average;
 #[cfg(test)]
 mod called;
@@ -9,6 +11,8 @@ mod called;
 mod check;
 #[cfg(test)]
 mod checkpoints;
+#[cfg(test)]
+mod correlation;
 #[cfg(test)]
 mod couplings;
 #[cfg(test)]
@@ -21,6 +25,8 @@ mod faults;
 mod files;
 #[cfg(test)]
 mod plain;
+#[cfg(test)]
+mod potts;
 #[cfg(test)]
 mod report;
 #[cfg(test)]

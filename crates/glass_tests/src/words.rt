@@ -19,7 +19,7 @@ fn bad_command_lines_print_one_line(rt: HostRuntime) -> Result<(), Fail> {
         ("two run files", "check run.toml run.toml"),
         ("an empty name", "check "),
         ("an option for a run file", "check --run"),
-        ("a command not built", "lines run.toml c"),
+        ("a word beside a command", "line run.toml c"),
         ("no help text", "--help"),
         ("a word too few", "plain 4 1 7 0 0 0 0 0 0"),
         ("a word too many", "plain 4 1 7 0 0 0 0 0 0 0 0"),

@@ -12,3 +12,7 @@ returns-in-Spins g c = rw (c.in-Spins.is) c.say_count-in-Spins.ensures
 pub returns-in-NoMemory : goal.returns-in-NoMemory
 unfolding plan_line memory_line
 returns-in-NoMemory g c = rw (c.in-NoMemory.is) c.say-in-NoMemory.ensures
+
+pub returns-in-Banks : goal.returns-in-Banks
+unfolding plan_line
+returns-in-Banks g c = rw (c.in-Banks.is) c.say_count-in-Banks.ensures

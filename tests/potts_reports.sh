@@ -1,0 +1,27 @@
+#!/usr/bin/env bash
+# Compares reports of `glass potts` byte by byte with those of tools/plain_potts.py, which goes one sample and
+# one site at a time over plain lists: four runs, with each word for the couplings and the start.
+#
+#     tests/potts_reports.sh [PROGRAM]
+#
+# Status: 0 where all reports are equal; 1 where one is not; 2 where there is no program.
+set -u
+cd "$(dirname "$0")/.." || exit 1
+program=${1:-$(tests/program.sh)}
+[ -x "$program" ] || { echo "potts_reports: there is no program $program: build it first; nothing was tested" >&2; exit 2; }
+
+status=0
+while read -r line; do
+    read -ra words <<<"$line"
+    if ! cmp <("$program" potts "${words[@]}") <(python3 tools/plain_potts.py "${words[@]}"); then
+        echo "potts_reports: FAILED: potts $line" >&2
+        status=1
+    fi
+done <<'END'
+4 5 1 64 random random 1746203392 709953319 288645479 117354494 47712777 19398567
+6 4 9223372036854775807 3 random zero 3000000000 2000000000 1200000000 700000000 400000000 200000000
+8 3 0 2 plus random 4294967296 2147483648 1 0 0 0
+10 2 12345 1 plus zero 4294967296 4294967296 4294967296 4294967296 4294967296 4294967296
+END
+[ "$status" -ne 0 ] || echo "potts_reports: all right"
+exit "$status"

@@ -1,0 +1,132 @@
+"""What `glass lines` prints: the link overlap and the correlation length of each temperature slot, with errors.
+
+For each slot, the coldest first, each with its error:
+  link  mean of q(i) q(j) over all bonds (i, j) and samples, with q the overlap of the two replicas at a site
+  xi    second-moment correlation length in lattice steps: the root of a sum of r^4 C(r) over six times that of
+        r^2 C(r), r from 1 to half the side, with C(r) the mean of q(i) q(k) over sites, directions and samples, k
+        being r steps from i along an axis. It takes C as the same in all directions, and the state as
+        far from equilibrium, where C is gone at half the side. A sum that is not above 0 gives none.
+
+The error is a jackknife over the samples, or of several files, which must differ in their seeds alone, over the
+files. The samples of one run share each random number, so compare it with that of several seeds.
+"""
+import math
+import re
+from collections import namedtuple
+from fractions import Fraction
+
+from analyse import LONGEST_LINE, spelled
+from jackknife import jackknife_error
+from make_tables import Refusal
+
+Header = namedtuple("Header", "size slots samples epoch")
+# Sums over samples: their number, A, and for each distance the sum of B over the three directions.
+Sums = namedtuple("Sums", "samples link lines")
+COUNT = rb"(0|[1-9][0-9]{0,9})"
+SIGNED = rb"(0|-?[1-9][0-9]{0,6})"
+HEADER = re.compile(rb"lines 1 size=%b slots=%b samples=%b epoch=%b" % ((COUNT,) * 4))
+
+
+# ---------------------------------------------------------------- reading
+
+
+class Lines:
+    """The sums of one file by slot and sample. It is read once, line by line, and each line is checked."""
+
+    def __init__(self, name, stream):
+        self.name, self.stream, self.line_number = name, stream, 0
+        self.header = self.read_header()
+        self.sums = [[] for _ in range(self.header.slots)]
+        for sample in range(self.header.samples):
+            for slot, sums in enumerate(self.sums):
+                sums.append(self.read_slot(sample, slot))
+        if self.next_line() != b"end":
+            raise self.damaged("the end is due")
+        if self.stream.readline(1):
+            self.line_number += 1
+            raise self.damaged("the lines have ended before this one")
+
+    def damaged(self, text):
+        return Refusal(f"{self.name}, line {self.line_number}: {text}")
+
+    def next_line(self):
+        line = self.stream.readline(LONGEST_LINE)
+        self.line_number += 1
+        if not line.endswith(b"\n"):
+            raise self.damaged("the file ends before it is whole")
+        return line[:-1]
+
+    def read_header(self):
+        found = HEADER.fullmatch(self.next_line())
+        if not found:
+            raise self.damaged("this is no first line of glass lines")
+        header = Header(*map(int, found.groups()))
+        if not (4 <= header.size <= 64 and header.size % 2 == 0 and 1 <= header.slots <= 32
+                and 1 <= header.samples <= 64 and header.epoch <= 10 ** 9):
+            raise self.damaged("a number of the first line isn't lawful")
+        return header
+
+    def number(self, front, terms):
+        """A sum of so many terms that are +1 or -1."""
+        found = re.fullmatch(re.escape(front) + SIGNED, self.next_line())
+        if not found:
+            raise self.damaged(f"a line {front.decode()}.. is due")
+        value = int(found[1])
+        if abs(value) > terms or (value - terms) % 2:
+            raise self.damaged(f"{value} is no sum of {terms} terms")
+        return value
+
+    def read_slot(self, sample, slot):
+        volume = self.header.size ** 3
+        link = self.number(b"link,%d,%d," % (sample, slot), 3 * volume)
+        lines = [[self.number(b"line,%d,%d,%d,%d," % (sample, slot, d, r), volume)
+                  for r in range(1, self.header.size // 2 + 1)] for d in range(3)]
+        if link != sum(line[0] for line in lines):
+            raise self.damaged(f"the three lines at one step don't make up the link sum of sample {sample}, slot {slot}")
+        return Sums(1, link, [sum(values) for values in zip(*lines)])
+
+
+def together(parts):
+    return Sums(sum(part.samples for part in parts), sum(part.link for part in parts),
+                [sum(values) for values in zip(*(part.lines for part in parts))])
+
+
+def blocks_of(files):
+    """Of each slot the sums of each block: a sample, or of several files a file."""
+    for n, other in enumerate(files):
+        if other.header != files[0].header:
+            raise Refusal(f"{other.name} is of another state than {files[0].name}: the first lines differ")
+        for earlier in files[:n]:
+            if other.sums == earlier.sums:
+                raise Refusal(f"{other.name} has the same lines as {earlier.name}: files must differ in their seeds")
+    if len(files) == 1:
+        return files[0].sums
+    return [[together(file.sums[slot]) for file in files] for slot in range(files[0].header.slots)]
+
+
+# ---------------------------------------------------------------- values and errors
+
+
+def values_of(sums, size):
+    """Link overlap and correlation length; None where it isn't defined."""
+    second, fourth = (sum(r ** power * line for r, line in enumerate(sums.lines, 1)) for power in (2, 4))
+    length = math.sqrt(Fraction(fourth, 6 * second)) if second > 0 and fourth > 0 else None
+    return float(Fraction(sums.link, 3 * size ** 3 * sums.samples)), length
+
+
+def estimates(blocks, size):
+    """Link overlap and correlation length, each with its error."""
+    values = values_of(together(blocks), size)
+    parts = [values_of(together(blocks[:k] + blocks[k + 1:]), size) for k in range(len(blocks))] if blocks[1:] else []
+    return [(value, jackknife_error([part[k] for part in parts])) for k, value in enumerate(values)]
+
+
+def print_estimates(files, names, head):
+    header, slots = files[0].header, blocks_of(files)
+    what = files[0].name if len(files) == 1 else f"{len(files)} files"
+    print(f"{what}: size {header.size}, slots {header.slots}, samples {header.samples}, epoch {header.epoch}")
+    print(f"slot {head:>10} {'link':>10} {'error':>9} {'xi':>9} {'error':>9}")
+    for slot, (name, blocks) in enumerate(zip(names, slots)):
+        (link, link_error), (length, length_error) = estimates(blocks, header.size)
+        print(f"{slot:>4} {name:>10} {spelled(link, 6, 10)} {spelled(link_error, 6, 9)} "
+              f"{spelled(length, 4, 9)} {spelled(length_error, 4, 9)}")
