@@ -15,9 +15,11 @@ BIN := $(DESTDIR)$(PREFIX)/bin
 SHARE := $(DESTDIR)$(PREFIX)/share/glass
 MAN := $(DESTDIR)$(PREFIX)/share/man/man1
 # A tool is the command glass-NAME; the modules that it needs lie beside it.
-TOOLS := long_run make_seeds describe make_tables analyse jackknife couplings
+TOOLS := long_run make_seeds describe make_tables analyse jackknife couplings estimate
 COMMANDS := $(addprefix $(BIN)/glass-,$(subst _,-,$(TOOLS)))
 MODULES := $(wildcard tools/*.py)
+REFERENCE := $(wildcard tools/reference/*.py)
+PACKAGE := $(wildcard tools/glass_analysis/*.py)
 
 .PHONY: all run install uninstall clean
 all: glass
@@ -29,17 +31,22 @@ run: glass
 	@examples/ising_4/study
 
 install: $(PROGRAM)
-	install -d $(BIN) $(SHARE)/tools $(MAN)
+	install -d $(BIN) $(SHARE)/tools/glass_analysis $(MAN)
 	install -m 755 $(PROGRAM) $(BIN)/glass
 	install -m 644 $(MODULES) $(SHARE)/tools
+	install -d $(SHARE)/tools/reference
+	install -m 644 $(REFERENCE) $(SHARE)/tools/reference
+	install -m 644 $(PACKAGE) $(SHARE)/tools/glass_analysis
 	chmod 755 $(TOOLS:%=$(SHARE)/tools/%.py)
 	for tool in $(TOOLS); do \
 	    ln -sf "../share/glass/tools/$$tool.py" "$(BIN)/glass-$$(echo $$tool | tr _ -)" || exit 1; done
 	install -m 644 docs/manual/glass.1 $(MAN)/glass.1
 
 uninstall:
-	rm -f $(BIN)/glass $(COMMANDS) $(MAN)/glass.1 $(MODULES:tools/%=$(SHARE)/tools/%)
-	! test -d $(SHARE)/tools || rmdir $(SHARE)/tools $(SHARE)
+	rm -f $(BIN)/glass $(COMMANDS) $(MAN)/glass.1 $(MODULES:tools/%=$(SHARE)/tools/%) $(PACKAGE:tools/%=$(SHARE)/tools/%)
+	rm -f $(REFERENCE:tools/%=$(SHARE)/tools/%)
+	! test -d $(SHARE)/tools/reference || rmdir $(SHARE)/tools/reference
+	! test -d $(SHARE)/tools || rmdir $(SHARE)/tools/glass_analysis $(SHARE)/tools $(SHARE)
 
 clean:
 	rm -f glass

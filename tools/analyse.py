@@ -15,6 +15,11 @@ Of several reports, which must differ in their seeds alone, all samples are take
 mean energy gets an error: the standard deviation of the reports' means over the root of their number.
 
 A report that no run prints is refused with the number of its first such line.
+
+    glass lines run.toml checkpoint > lines.txt; python3 tools/analyse.py lines.txt --temperatures 1.1 1.4
+
+Of what `glass lines` prints it gives the link overlap and the correlation length, each with its error over
+the samples, or of several files over the files: see tools/lines_report.py.
 """
 import argparse
 import math
@@ -196,17 +201,29 @@ class Report:
         return total / (2 * self.counted * self.volume * self.header.samples)
 
 
-def read_reports(names, skip):
-    reports = []
+def read_each(names, read):
+    """What `read` makes of each file, given its name and its stream."""
     for name in names or ["-"]:
         try:
             if name == "-":
-                reports.append(Report("standard input", sys.stdin.buffer, skip))
+                yield read("standard input", sys.stdin.buffer)
             else:
                 with open(name, "rb") as stream:
-                    reports.append(Report(name, stream, skip))
+                    yield read(name, stream)
         except OSError as fault:
             raise Refusal(f"{name} can't be read: {fault.strerror}") from None
+
+
+def read_any(name, stream, skip):
+    """A report, or what `glass lines` prints, by its first bytes."""
+    if stream.peek(6)[:6] == b"lines ":
+        from lines_report import Lines
+        return Lines(name, stream)
+    return Report(name, stream, skip)
+
+
+def same_runs(reports):
+    """The reports, which must be of runs that differ in their seeds alone."""
     for report in reports[1:]:
         if (report.header, report.every) != (reports[0].header, reports[0].every):
             raise Refusal(f"{report.name} is of another run than {reports[0].name}: the first lines or epochs differ")
@@ -297,13 +314,27 @@ def decimals(texts, slots):
 
 def analyse(options):
     betas = inverse_temperatures(options)
-    reports = read_reports(options.reports, options.skip)
+    reports = list(read_each(options.reports, lambda name, stream: read_any(name, stream, options.skip)))
     slots = reports[0].header.slots
     if betas and len(betas) != slots:
         raise Refusal(f"{len(betas)} temperatures, and the report has {slots} slots")
-    exact = decimals(options.exact, slots) if options.exact else None
     head = "beta" if options.betas else "T" if options.temperatures else ""
     names = options.betas or options.temperatures or [""] * slots
+    kinds = {type(report) for report in reports}
+    if kinds == {Report}:
+        analyse_reports(options, betas, same_runs(reports), names, head)
+    elif Report in kinds:
+        raise Refusal("reports and what glass lines prints can't be taken together")
+    elif options.skip or options.exact or options.plot:
+        raise Refusal("--skip, --exact and --plot are for reports")
+    else:
+        from lines_report import print_estimates
+        print_estimates(reports, names, head)
+
+
+def analyse_reports(options, betas, reports, names, head):
+    slots = reports[0].header.slots
+    exact = decimals(options.exact, slots) if options.exact else None
     if not reports[0].counted:
         raise Refusal(f"{reports[0].name} has no row" + (f" from epoch {options.skip} on" if options.skip else ""))
     print_means(reports, names, head)
@@ -325,7 +356,7 @@ def analyse(options):
 def main(words=None):
     parser = OneLineParser(prog="analyse", description=__doc__, allow_abbrev=False,
                            formatter_class=argparse.RawDescriptionHelpFormatter)
-    parser.add_argument("reports", nargs="*", metavar="REPORT", help="files, or - for standard input (the default)")
+    parser.add_argument("reports", nargs="*", metavar="REPORT", help="reports, or files of glass lines, or - for standard input (the default)")
     add_temperatures(parser)
     parser.add_argument("--skip", type=int, default=0, metavar="EPOCH",
                         help="leave the epochs before this one out of all means")

@@ -1,4 +1,4 @@
-"""The self-test of analyse.py, over reports of the independent program in reference_dynamics.py."""
+"""The self-test of analyse.py, over reports of the independent program in tools/reference, and of lines_report.py."""
 import io
 import math
 import statistics
@@ -7,8 +7,10 @@ import tempfile
 import xml.etree.ElementTree as ElementTree
 from pathlib import Path
 
+from lines_report_test import check_lines
 from make_tables import Checks, outcome
-from reference_dynamics import Tempering, demo_rows, hex_of
+from reference.demo import demo_rows
+from reference.grid import Tempering, hex_of
 
 SIZE, SLOTS, SAMPLES = 4, 3, 2
 HOTTER_FIRST = """glass 1 size=4 slots=2 samples=1 rule=heat from=0 to=2
@@ -174,7 +176,7 @@ def check_words(checks, caller, report):
     marks = [sum(item.tag.endswith(tag) for item in tree) for tag in ("circle", "polyline")]
     # Circles: two replicas and an exact value a slot. Lines: two curves, a spread each, a walk a label.
     checks.same("the picture", (status, err, tree.tag.endswith("svg"), marks), (0, "", True, [9, 2 + 6 + 3]))
-    stdin, sys.stdin = sys.stdin, io.TextIOWrapper(io.BytesIO(report.encode()))
+    stdin, sys.stdin = sys.stdin, io.TextIOWrapper(io.BufferedReader(io.BytesIO(report.encode())))
     piped = outcome([], caller.main)
     sys.stdin = stdin
     from_file = caller.call([report])
@@ -201,4 +203,5 @@ def self_test(main):
         runs = [true_report(seed, 8, 1, False) for seed in (1, 2, 3)]
         check_several(checks, caller, [text_of_lines(given) for given, _ in runs], [taken for _, taken in runs])
         check_words(checks, caller, text_of_lines(lines))
+        check_lines(checks, caller, text_of_lines(lines))
     return checks.end()

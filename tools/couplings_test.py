@@ -1,11 +1,13 @@
-"""The self-test of couplings.py: files made by hand, and the program's couplings by reference_dynamics.py."""
+"""The self-test of couplings.py: files made by hand, and the program's couplings by tools/reference."""
 import hashlib
 import tempfile
 from pathlib import Path
 
 import couplings
 from make_tables import Checks, outcome
-from reference_dynamics import coupling_words, draw, forward
+from reference.lattice import forward
+from reference.seeding import coupling_words
+from reference.stream import draw
 
 HEAD = bytes.fromhex("474c415353434a31" "00000004" "00000001")
 # bond 0 alone is negative; all are; bond 1 of sample 0 and the last bond of sample 1

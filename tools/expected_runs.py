@@ -1,12 +1,12 @@
 """What `glass check`, `run` and `average` must do with the files of a folder: status, line, text and saved checkpoint.
 
 The files are read by input_judge.py and report_judge.py; what a run does from there on is asked of the definitions of
-reference_dynamics.py, one sample and one spin at a time, so it is told only of small and short runs: of others the
+tools/reference, one sample and one spin at a time, so it is told only of small and short runs: of others the
 status and the first line."""
 from collections import namedtuple
 
 import input_judge as judge
-import reference_dynamics as rule
+import reference.definitions as rule
 import report_judge
 from input_judge import Open, Refused
 

@@ -10,7 +10,7 @@ import expected_runs
 import fuzz_inputs
 import input_growth
 import input_judge
-import reference_dynamics as rule
+import reference.definitions as rule
 from make_tables import Checks
 
 RUN = fuzz_inputs.RUN.replace("seed = 20240611", "seed = 7")

@@ -11,7 +11,7 @@ from collections import namedtuple
 from functools import lru_cache
 
 import couplings
-import reference_dynamics as rule
+import reference.definitions as rule
 
 try:
     import tomllib
@@ -60,7 +60,7 @@ def fetched(name, role):
 # ---------------------------------------------------------------- run file
 
 WORDS = {"rule": ("heat", "metropolis"), "start": ("up", "random")}
-RANGES = {"sweeps": (1, 10 ** 6), "seed": (0, 2 ** 63 - 1), "samples": (1, 64), "epochs": (0, GREATEST_EPOCH),
+RANGES = {"sweeps": (1, 10 ** 6), "seed": (0, 2 ** 63 - 1), "samples": (1, 256), "epochs": (0, GREATEST_EPOCH),
           "every": (1, GREATEST_EPOCH)}
 KEYS = ("size", "rule", "rules", "swaps", "couplings", "sweeps", "seed", "samples", "epochs", "every", "start", "spins")
 
@@ -137,6 +137,8 @@ def run_file(stored):
     if others:
         shown = bytes(b if 32 <= b <= 126 else 63 for b in others[0])
         raise Refused(3, f"unknown key {shown.decode()}")
+    if document["samples"] > 64:
+        raise Refused(3, f"this command needs at most 64 samples, not {document['samples']}")
     return document
 
 

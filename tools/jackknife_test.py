@@ -1,4 +1,4 @@
-"""The self-test of jackknife.py, over reports of the independent program in reference_dynamics.py."""
+"""The self-test of jackknife.py, over reports of the independent program in tools/reference."""
 import io
 import math
 import statistics
@@ -8,7 +8,8 @@ from pathlib import Path
 
 from analyse_test import HOTTER_FIRST, SIZE, SLOTS, Caller, text_of_lines
 from make_tables import Checks, outcome
-from reference_dynamics import Tempering, demo_rows
+from reference.demo import demo_rows
+from reference.grid import Tempering
 
 VOLUME = SIZE ** 3
 SAMPLES = 5

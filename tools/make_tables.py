@@ -3,9 +3,12 @@
 
     python3 tools/make_tables.py heat --betas 0.3 0.22165463 0.2 0.1
     python3 tools/make_tables.py metropolis --temperatures 0.8 1.0 1.2 1.4
+    python3 tools/make_tables.py metropolis --range 1.1 3 --slots 12 --size 8 --acceptance
 
 Slot 0 is the coldest: temperatures rise strictly from slot to slot, inverse temperatures fall.
 They are in units of the coupling, plain decimals such as 0.2217 or 2.5e-1, and are taken exactly.
+--range takes --slots temperatures in geometric steps, with --acceptance such that exchanges of neighbours on
+a lattice of --size are about equally probable, and prints them.
 
 An entry is 2^32 times a probability, to the nearest whole number:
   heat bath    2^32 / (1 + exp(-2 beta h)),  h = 2a - 6, for a = 0 to 6 aligned neighbours
@@ -167,6 +170,11 @@ def parser_of_words():
                            formatter_class=argparse.RawDescriptionHelpFormatter)
     parser.add_argument("rule", nargs="?", choices=("heat", "metropolis"), help="the update of a spin")
     add_temperatures(parser)
+    parser.add_argument("--range", nargs=2, metavar=("T0", "T1"), help="the lowest and the highest temperature")
+    parser.add_argument("--slots", type=int, metavar="N", help="of a range: the number of temperatures")
+    parser.add_argument("--acceptance", nargs="?", const="", metavar="FILE",
+                        help="of a range: even acceptance, from lines temperature,energy per site; without FILE those of "
+                             "the glass with random couplings")
     parser.add_argument("--size", type=int, metavar="L",
                         help="leave out swap entries for gaps that a lattice of this size can't have")
     parser.add_argument("--rules", default="rules.csv", metavar="FILE", help="the rule table (rules.csv)")
@@ -175,12 +183,27 @@ def parser_of_words():
     return parser
 
 
-def make(options):
-    betas = inverse_temperatures(options)
-    if options.rule is None or betas is None:
-        raise Refusal("a rule and --betas or --temperatures are needed; --help says more")
+def check_size(options):
     if options.size is not None and (options.size % 2 == 1 or not 4 <= options.size <= 64):
         raise Refusal(f"the size is no even number from 4 to 64: {options.size}")
+
+
+def make(options):
+    if options.range is not None:
+        from place_temperatures import Unlawful, placed
+        if options.betas or options.temperatures:
+            raise Refusal("temperatures are given, or a range of them")
+        check_size(options)
+        try:
+            options.temperatures = placed(options)
+        except Unlawful as fault:
+            raise Refusal(str(fault)) from None
+    elif options.slots is not None or options.acceptance is not None:
+        raise Refusal("--slots and --acceptance are of a --range")
+    betas = inverse_temperatures(options)
+    if options.rule is None or betas is None:
+        raise Refusal("a rule and --betas, --temperatures or --range are needed; --help says more")
+    check_size(options)
     rules = [rule_record(options.rule, beta) for beta in betas]
     swaps = [swap_record(betas[k] - betas[k + 1], options.size) for k in range(len(betas) - 1)]
     write_text(options.rules, text_of(rules))
@@ -315,6 +338,11 @@ def test_calls(checks, folder):
     refused += [[], ["heat"], ["glauber", "--betas", "1"], ["heat", "--betas", "1", "--temperatures", "1"],
                 ["heat", "--betas", "1", "--size", "5"], ["heat", "--betas", "1", "--size", "66"], ["heat", "--betas", ""],
                 ["heat", "--betas", "1\n"], ["heat", "--betas", "9" * 41]]
+    refused += [["heat", "--range", *words.split()] for words in
+                ("1 2", "2 1 --slots 4", "0 1 --slots 4", "1 x --slots 4", "1 2 --slots 1", "1 2 --slots 33", "1 nan --slots 2",
+                 "1 2 --slots 4 --acceptance", "0.1 2 --slots 4 --size 8 --acceptance", "1 2 --slots 3 --size 7 --acceptance",
+                 "1 2 --slots 4 --size 8 --acceptance none/such", "1 2 --slots 3 --betas 1")]
+    refused += [["heat", "--betas", "1", "--slots", "1"], ["heat", "--betas", "1", "--acceptance"]]
     for words in refused:
         status, out, err = outcome(words + files)
         checks.same(f"{words} is refused in a line", (status, out, err[:13], err.count("\n"), err[-1:]),
@@ -327,11 +355,25 @@ def test_calls(checks, folder):
                  for words in (["--betas", "2", "0.5"], ["--temperatures", ".5", "2e0"])],
                 [(text_of([rule_record("metropolis", Fraction(2)), rule_record("metropolis", Fraction(1, 2))]).encode(),
                   text_of([swap_record(Fraction(3, 2), None)[0]]).encode())] * 2)
+    test_ranges(checks, folder, files)
     status, out, err = outcome(["heat", "--betas", "0.101", "0.1", *files])
     checks.same("a warning", (status, err.count("\n"), "pair 0 is cut at 4096 entries" in err), (0, 1, True))
     checks.same("no warning at size 4", outcome(["heat", "--betas", "0.101", "0.1", "--size", "4", *files])[2], "")
     status, out, err = outcome(["heat", "--betas", "1", "--rules", str(folder / "none" / "rules.csv")])
     checks.same("a folder that isn't there", (status, out, err.count("\n")), (2, "", 1))
+
+
+def test_ranges(checks, folder, files):
+    out = outcome(["heat", "--range", "1", "16", "--slots", "5", *files])[1]
+    checks.same("geometric steps", out.splitlines()[0], "temperatures: 1 2 4 8 16")
+    # With e = -beta the exchange of neighbours is equally probable where they are even in beta.
+    (folder / "energies.csv").write_text("".join(f"{t / 10},{-10 / t}\n" for t in range(5, 60)))
+    words = ["heat", "--range", "1", "4", "--slots", "4", "--size", "4", "--acceptance", str(folder / "energies.csv")]
+    out = outcome(words + files)[1].splitlines()
+    # dbeta = 1/4 and V = 64: erfc(sqrt(4) / 2).
+    checks.same("even acceptance", out[:2], ["temperatures: 1 1.33333 2 4", "acceptance of exchanges, estimated: 0.16 to 0.16"])
+    out = outcome(["metropolis", "--range", "1.1", "3", "--slots", "12", "--size", "8", "--acceptance", *files])[1]
+    checks.same("of the glass", (out.count("\n"), out[:18]), (4, "temperatures: 1.1 "))
 
 
 if __name__ == "__main__":

@@ -1,0 +1,48 @@
+"""The command line of tools/estimate.py."""
+import estimate
+import pytest
+from analyse_test import text_of_lines, true_report
+from make_tables import outcome
+
+
+@pytest.fixture(scope="module")
+def reports(tmp_path_factory):
+    folder = tmp_path_factory.mktemp("reports")
+    for seed in (1, 2, 3):
+        (folder / f"{seed}.txt").write_text(text_of_lines(true_report(seed, 16, 1, False)[0]))
+    return folder
+
+
+def call(*words):
+    return outcome(list(map(str, words)), estimate.main)
+
+
+@pytest.mark.parametrize("command, words", [("means", []), ("overlaps", ["--slot", "0", "2"]), ("equilibration", []), ("walks", [])])
+def test_a_figure_and_a_table(reports, command, words):
+    picture = reports / f"{command}.png"
+    for several in ([1], [1, 2, 3]):
+        given = [reports / f"{seed}.txt" for seed in several]
+        status, out, err = call(command, *given, "--temperatures", 1, 1.5, 2, "--plot", picture, *words)
+        assert (status, err) == (0, "") and f"wrote {picture}" in out
+        assert picture.read_bytes()[:4] == b"\x89PNG"
+        assert ("share each random number" in out) == (len(several) == 1)
+
+
+def test_means_are_those_of_the_other_tools(reports):
+    import jackknife
+    given = [reports / f"{seed}.txt" for seed in (1, 2, 3)]
+    other = outcome([str(name) for name in given], jackknife.main)[1].splitlines()[2:]
+    for mine, theirs in zip(call("means", *given)[1].splitlines()[2:], other):
+        mine, theirs = mine.split(), theirs.split()
+        assert mine[:5] == theirs[:5] and mine[7:] == theirs[7:]
+
+
+@pytest.mark.parametrize("words", [["means", "none/such"], ["means", "--betas", "1", "1.txt"], ["what", "1.txt"], [],
+                                   ["overlaps", "1.txt", "--slot", "3"], ["overlaps", "1.txt", "--bins", "0"],
+                                   ["export", "1.txt"], ["means", "1.txt", "--skip", "99"], ["means", "1.txt", "--blocks", "3"],
+                                   ["means", "1.txt", "2.txt", "--blocks", "1"], ["means", "1.txt", "--plot", "x.what"],
+                                   ["means", "1.txt", "1.txt"]])
+def test_a_refusal_is_a_line(reports, words, monkeypatch):
+    monkeypatch.chdir(reports)
+    status, _, err = call(*words)
+    assert (status, err.count("\n"), err[:10]) == (2, 1, "estimate: ")

@@ -1,0 +1,24 @@
+"""Reports of `glass run` as numpy arrays, estimators with errors over them, and figures.
+
+    import sys; sys.path.insert(0, "tools")
+    from glass_analysis import read_report, blocks, jackknife, binder
+
+The modules: `reports` reads, `errors` is the jackknife, `observables` has means, Binder ratio and the
+distribution of overlaps, `times` autocorrelation and equilibration, `walks` the walks in temperature, `figures`
+draws, `export` writes arrays. `tools/estimate.py` is the command line over them.
+"""
+import sys
+from pathlib import Path
+
+# The reader of analyse.py, which knows each line that no run prints, lies beside this folder.
+sys.path.insert(0, str(Path(__file__).resolve().parent.parent))
+
+from .errors import Estimate, jackknife  # noqa: E402
+from .observables import binder, blocks, distribution, moments, susceptibility  # noqa: E402
+from .reports import Records, read_report, read_reports  # noqa: E402
+from .times import autocorrelation_time, doubling_bins, equilibration  # noqa: E402
+from .walks import acceptance, positions, round_trips  # noqa: E402
+
+__all__ = ["Estimate", "Records", "acceptance", "autocorrelation_time", "binder", "blocks", "distribution",
+           "doubling_bins", "equilibration", "jackknife", "moments", "positions", "read_report", "read_reports",
+           "round_trips", "susceptibility"]

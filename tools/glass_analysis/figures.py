@@ -1,0 +1,79 @@
+"""Figures of estimates, by matplotlib without a display."""
+from __future__ import annotations
+
+from typing import Optional, Sequence, Tuple
+
+import matplotlib
+
+matplotlib.use("Agg")
+import matplotlib.pyplot as plt  # noqa: E402
+import numpy as np  # noqa: E402
+from matplotlib.figure import Figure  # noqa: E402
+
+from make_tables import Refusal  # noqa: E402
+
+from .errors import Estimate, Numbers  # noqa: E402
+from .observables import ENERGY, SQUARE, Distribution  # noqa: E402
+from .reports import Records  # noqa: E402
+from .times import Bin  # noqa: E402
+from .walks import positions  # noqa: E402
+
+# Walks that are drawn of longer runs have so many points.
+DRAWN_EPOCHS = 400
+MARKS = {"marker": "o", "markersize": 3, "capsize": 2, "linewidth": 0.8}
+
+
+def save(name: str, figure: Figure) -> None:
+    """Writes a figure in the format that the name ends with."""
+    try:
+        figure.savefig(name, dpi=90)
+    except (OSError, ValueError) as fault:
+        raise Refusal(f"{name} can't be written: {fault}") from None
+    plt.close(figure)
+
+
+def means(across: Numbers, what: str, named: Sequence[Tuple[str, Estimate]]) -> Figure:
+    """Estimates of all slots, a panel each, against temperature."""
+    figure, panels = plt.subplots(1, len(named), figsize=(3.2 * len(named), 3), layout="constrained", squeeze=False)
+    for panel, (name, estimate) in zip(panels[0], named):
+        panel.errorbar(across, estimate.value, np.nan_to_num(estimate.error), **MARKS)
+        panel.set(xlabel=what, ylabel=name)
+    return figure
+
+
+def overlaps(named: Sequence[Tuple[str, Distribution]]) -> Figure:
+    """Distributions of the overlap, one above the other, with bands of an error on each side."""
+    figure, panel = plt.subplots(figsize=(4.5, 3.2), layout="constrained")
+    for name, (edges, density) in named:
+        middle = (edges[1:] + edges[:-1]) / 2
+        error = np.nan_to_num(density.error)
+        line, = panel.plot(middle, density.value, label=name, linewidth=1)
+        panel.fill_between(middle, density.value - error, density.value + error, alpha=0.3, color=line.get_color())
+    panel.set(xlabel="q", ylabel="P(q)", ylim=(0, None))
+    panel.legend()
+    return figure
+
+
+def equilibration(bins: Sequence[Bin], names: Sequence[str], drawn: Sequence[int]) -> Figure:
+    """Energy and q^2 of parts of the run that double, by slot."""
+    figure, panels = plt.subplots(1, 2, figsize=(7, 3), layout="constrained")
+    ends = [one.end for one in bins]
+    for panel, moment, what in zip(panels, (ENERGY, SQUARE), ("energy per site", "q²")):
+        for slot in drawn:
+            panel.errorbar(ends, [one.moments.value[slot, moment] for one in bins],
+                           [np.nan_to_num(one.moments.error[slot, moment]) for one in bins], label=names[slot], **MARKS)
+        panel.set(xscale="log", xlabel="end of the part, epochs", ylabel=what)
+    panels[1].legend()
+    return figure
+
+
+def walk(records: Records, sample: int = 0, replica: int = 0, labels: Optional[Sequence[int]] = None) -> Figure:
+    """The slot of configurations of one sample, by epoch."""
+    places = positions(records)[:, sample, :, replica]
+    shown = slice(None, None, max(1, len(places) // DRAWN_EPOCHS))
+    figure, panel = plt.subplots(figsize=(6, 2.6), layout="constrained")
+    for label in labels if labels is not None else (0, records.slots - 1):
+        panel.step(records.epochs[shown], places[shown, label], linewidth=0.8, label=f"began in slot {label}")
+    panel.set(xlabel="epoch", ylabel="temperature slot")
+    panel.legend()
+    return figure

@@ -1,0 +1,134 @@
+#!/usr/bin/env python3
+"""Runs the built program and holds every byte of it to the definitions: text, digest, report, checkpoints of both kinds.
+
+    python3 tools/reference/against_program.py ./glass
+
+Each case is a run file with its tables, in a folder of its own; all 64 samples are followed one spin at a time, so that a
+checkpoint is compared whole. Some seconds. Status 1 at the first difference, which is told."""
+import hashlib
+import random as rng
+import subprocess
+import sys
+import tempfile
+from pathlib import Path
+
+sys.path.insert(0, str(Path(__file__).resolve().parents[1]))
+sys.dont_write_bytecode = True
+import reference.definitions as rule  # noqa: E402
+
+DONE = []
+
+
+def same(name, found, wanted):
+    if found != wanted:
+        place = next((i for i, (a, b) in enumerate(zip(found, wanted)) if a != b), min(len(found), len(wanted)))
+        sys.exit(f"against_program: {name}: byte {place} of {len(found)} and {len(wanted)}: "
+                 f"{found[place:place + 40]!r} and not {wanted[place:place + 40]!r}")
+    DONE.append(name)
+
+
+class Case:
+    """A plan and orders, as the definitions have them and as files."""
+
+    def __init__(self, name, size, kind, slots, couplings, samples, epochs, every, start, sweeps=1):
+        source = rng.Random(name)
+        width = 7 if kind == "heat" else 3
+        rows = tuple(tuple(source.choice((0, 2 ** 32, source.randrange(2 ** 32 + 1))) for _ in range(width)) for _ in range(slots))
+        swaps = tuple(tuple(source.randrange(2 ** 32 + 1) for _ in range(40)) for _ in range(slots - 1))
+        seed = source.randrange(2 ** 63)
+        signs = {b: rule.random(seed, b) for b in range(64)} if couplings == "random" else {}
+        self.name, self.samples, self.every, self.epochs, self.start = name, samples, every, epochs, start
+        self.plan = rule.Plan(size, kind, rows, swaps, rule.couplings_view(size, signs), sweeps, seed)
+        self.couplings, self.states = couplings, {}
+
+    def write(self, folder):
+        lines = [f"size = {self.plan.size}", f'rule = "{self.plan.rule}"', 'rules = "rules.csv"', 'swaps = "swaps.csv"',
+                 f'couplings = "{self.couplings}"', f"sweeps = {self.plan.sweeps}", f"seed = {self.plan.seed}",
+                 f"samples = {self.samples}", f"epochs = {self.epochs}", f"every = {self.every}", f'start = "{self.start}"',
+                 "spins = true"]
+        (folder / "run.toml").write_text("\n".join(lines) + "\n")
+        for name, table in (("rules.csv", self.plan.rows), ("swaps.csv", self.plan.swaps)):
+            (folder / name).write_text("".join(",".join(map(str, row)) + "\n" for row in table))
+
+    def opening(self, b):
+        return self.at(b, 0)
+
+    def at(self, b, e):
+        """Sample b at epoch e of the serial dynamics, made once."""
+        if (b, e) not in self.states:
+            self.states[b, e] = (rule.opening(self.plan, self.start, 0, b) if e == 0
+                                 else rule.epoch(self.plan, self.at(b, e - 1)))
+        return self.states[b, e]
+
+
+def ran(program, folder, *words):
+    done = subprocess.run([program, *words], cwd=folder, stdout=subprocess.PIPE, stderr=subprocess.PIPE, check=False)
+    if done.returncode or done.stderr:
+        sys.exit(f"against_program: {' '.join(words)}: status {done.returncode}, {done.stderr.decode()}")
+    return done.stdout
+
+
+def whole_run(program, folder, case):
+    plan = case.plan
+    line = (f"plan 1 size={plan.size} slots={len(plan.rows)} samples={case.samples} rule={plan.rule} sweeps={plan.sweeps} "
+            f"digest={hashlib.sha256(rule.canonical(plan)).hexdigest()}\n")
+    same(f"{case.name}: check", ran(program, folder, "check", "run.toml"), line.encode())
+    same(f"{case.name}: length", len(rule.canonical(plan)).to_bytes(8, "big"), rule.canonical_length(plan).to_bytes(8, "big"))
+    text = rule.report(plan, case.opening, case.samples, case.every, True, case.epochs)
+    same(f"{case.name}: report", ran(program, folder, "run", "run.toml", "--save", "end", "--workers", "2"), text.encode())
+    same(f"{case.name}: checkpoint", (folder / "end").read_bytes(),
+         rule.encoding(plan, lambda b: case.at(b, case.epochs)))
+
+
+def stopped_run(program, folder, case, takes):
+    """A run that stops anywhere: its own positions, and all else by the rule from the opening."""
+    plan, n = case.plan, len(case.plan.rows)
+    found = ran(program, folder, "run", "run.toml", "--save", "stopped", "--stop-after", str(takes))
+    stored = (folder / "stopped").read_bytes()
+    places = tuple(rule.Position(int.from_bytes(stored[64 + 9 * t:72 + 9 * t], "big"), stored[72 + 9 * t] == 2) for t in range(n))
+    level = [rule.UnevenState(b, (rule.Position(0, False),) * n, case.opening(b).slots, case.opening(b).pairs) for b in range(64)]
+    states = [rule.UnevenState(b, places,
+                               tuple(rule.content(plan, level[b], t, places[t].epoch, places[t].waits) for t in range(n)),
+                               tuple(rule.generators(plan, level[b], k, places[k].epoch) for k in range(n - 1)))
+              for b in range(64)]
+    floor, deepest = rule.floor_of(places), rule.deepest_of(places)
+    pending = [rule.record_of(plan, b, rule.arrived(plan, level[b], f, t)) for f in range(floor, deepest)
+               if rule.is_recorded(case.every, f) for b in range(case.samples) for t in range(n) if f < rule.done(places[t])]
+    same(f"{case.name}: records kept ahead", len(pending).to_bytes(4, "big"),
+         rule.pending_count(case.samples, case.every, places).to_bytes(4, "big"))
+    same(f"{case.name}: stopped checkpoint", stored, rule.uneven_encoding(plan, case.samples, case.every, states.__getitem__, pending))
+    text = rule.uneven_report(plan, level.__getitem__, [], case.samples, case.every, True, case.epochs, places)
+    same(f"{case.name}: stopped report", found, text.encode())
+    text = rule.uneven_report(plan, states.__getitem__, pending, case.samples, case.every, True, case.epochs,
+                              (rule.Position(case.epochs, False),) * n)
+    same(f"{case.name}: resumed report", ran(program, folder, "run", "run.toml", "--from", "stopped", "--save", "end"), text.encode())
+    same(f"{case.name}: resumed checkpoint", (folder / "end").read_bytes(), rule.encoding(plan, lambda b: case.at(b, case.epochs)))
+
+
+def plain(program, folder):
+    for words in (["4", "3", "7", "0", "100000000", "900000000", "2147483648", "3300000000", "4200000000", "4294967296"],
+                  ["6", "2", "9223372036854775807", "1", "2", "3", "2147483648", "4294967293", "4294967294", "4294967295"]):
+        text = rule.plain_text(rule.command_of([b"plain"] + [it.encode() for it in words]))
+        same("plain " + " ".join(words[:3]), ran(program, folder, "plain", *words), text.encode())
+
+
+def main(words):
+    if len(words) != 1:
+        sys.exit("against_program: one word is wanted, the path of the program")
+    program = str(Path(words[0]).resolve())
+    cases = [Case("heat bath", 4, "heat", 2, "random", 64, 2, 1, "random"),
+             Case("Metropolis", 4, "metropolis", 3, "random", 3, 2, 2, "random"),
+             Case("ferromagnet", 4, "metropolis", 1, "plus", 2, 3, 1, "up")]
+    with tempfile.TemporaryDirectory() as name:
+        plain(program, Path(name))
+        for case in cases:
+            folder = Path(name) / case.name
+            folder.mkdir()
+            case.write(folder)
+            whole_run(program, folder, case)
+        stopped_run(program, Path(name) / "Metropolis", cases[1], 4)
+    print(f"against_program: {len(DONE)} comparisons, each of every byte, agree")
+
+
+if __name__ == "__main__":
+    main(sys.argv[1:])

@@ -1,0 +1,98 @@
+"""The bytes of checkpoints: run_checkpoint/specs/Encoding.antt and UnevenEncoding.antt.
+
+`states` is a function from a sample's number to its state, as in the definitions."""
+from hashlib import sha256
+
+from reference.words import slice_index_or, table
+from reference.seeding import big_bytes
+from reference.lattice import from_compact, half_plane, half_volume
+from reference.sums import spin
+from reference.opening import slots_of
+from reference.epoch import pair_at, slot_at
+from reference.plan_bytes import canonical
+
+
+def word_of(test, n):
+    return sum(1 << k for k in range(n) if test(k))
+
+
+def site_of(l, c, z, k):
+    return from_compact(l, c * half_volume(l) + z * half_plane(l) + k)
+
+
+def words_32(words):
+    return b"".join(big_bytes(4, word) for word in words)
+
+
+def words_64(words):
+    return b"".join(big_bytes(8, word) for word in words)
+
+
+def spin_word(spins, site):
+    return word_of(lambda b: spin(spins(b), site), 64)
+
+
+def plane_bytes(l, copies, k):
+    sites = table(lambda j: spin_word(lambda b: copies(b).spins, site_of(l, k // l, k % l, j)), half_plane(l))
+    return words_32(slice_index_or(copies(0).wheels, k, ())) + words_64(sites)
+
+
+def replica_bytes(l, copies):
+    return bytes(copies(b).replica for b in range(64)) + b"".join(plane_bytes(l, copies, k) for k in range(2 * l))
+
+
+def slot_bytes(l, slots):
+    return replica_bytes(l, lambda b: slots(b).first) + replica_bytes(l, lambda b: slots(b).second)
+
+
+def pair_bytes(pair):
+    return words_32(pair.first) + words_32(pair.second)
+
+
+def contents(l, n, slots, pairs):
+    return (b"".join(slot_bytes(l, lambda b: slot_at(slots(b), t)) for t in range(n))
+            + b"".join(pair_bytes(pair_at(pairs, k)) for k in range(n - 1)))
+
+
+level_kind = b"GLASSCK1"
+
+
+def header(plan, epoch):
+    return (level_kind + sha256(canonical(plan)).digest() + big_bytes(8, epoch) + big_bytes(4, plan.size)
+            + big_bytes(4, slots_of(plan)))
+
+
+def sealed(stored):
+    return stored + sha256(stored).digest()
+
+
+def encoding(plan, states):
+    return sealed(header(plan, states(0).epoch)
+                  + contents(plan.size, slots_of(plan), lambda b: states(b).slots, states(0).pairs))
+
+
+def position_bytes(p):
+    return big_bytes(8, p.epoch) + bytes([2 if p.waits else 0])
+
+
+def signed_bytes(z):
+    return big_bytes(4, z % 2 ** 32)
+
+
+def record_bytes(r):
+    return (signed_bytes(r.first_energy) + signed_bytes(r.second_energy) + signed_bytes(r.overlap)
+            + bytes([r.first_replica, r.second_replica]))
+
+
+uneven_kind = b"GLASSCK2"
+
+
+def uneven_header(plan, samples, every, count):
+    return (uneven_kind + sha256(canonical(plan)).digest() + big_bytes(4, plan.size) + big_bytes(4, slots_of(plan))
+            + big_bytes(4, samples) + big_bytes(8, every) + big_bytes(4, count))
+
+
+def uneven_encoding(plan, samples, every, states, pending):
+    return sealed(uneven_header(plan, samples, every, len(pending)) + b"".join(map(position_bytes, states(0).positions))
+                  + contents(plan.size, slots_of(plan), lambda b: states(b).slots, states(0).pairs)
+                  + b"".join(map(record_bytes, pending)))

@@ -1,0 +1,19 @@
+"""All definitions under one name, for the tools that ask them."""
+from reference.words import *  # noqa: F401,F403
+from reference.stream import *  # noqa: F401,F403
+from reference.seeding import *  # noqa: F401,F403
+from reference.lattice import *  # noqa: F401,F403
+from reference.bonds import *  # noqa: F401,F403
+from reference.site_rule import *  # noqa: F401,F403
+from reference.sums import *  # noqa: F401,F403
+from reference.sweep import *  # noqa: F401,F403
+from reference.opening import *  # noqa: F401,F403
+from reference.exchange import *  # noqa: F401,F403
+from reference.epoch import *  # noqa: F401,F403
+from reference.uneven import *  # noqa: F401,F403
+from reference.positions import *  # noqa: F401,F403
+from reference.plain import *  # noqa: F401,F403
+from reference.plan_bytes import *  # noqa: F401,F403
+from reference.checkpoint import *  # noqa: F401,F403
+from reference.report import *  # noqa: F401,F403
+from reference.demo import *  # noqa: F401,F403

@@ -1,0 +1,93 @@
+#!/usr/bin/env python3
+"""Makes digests and words that tests, examples and pages publish, by the definitions alone, and looks for each of them in
+the files that publish it.
+
+    python3 tools/reference/published.py            the short ones, some seconds
+    python3 tools/reference/published.py sixteen    one by its name; README.md says how long each takes
+
+Status 1 where a file has another value."""
+import re
+import sys
+from hashlib import sha256
+from pathlib import Path
+
+ROOT = Path(__file__).resolve().parents[2]
+sys.path.insert(0, str(ROOT / "tools"))
+sys.dont_write_bytecode = True
+import reference.definitions as rule  # noqa: E402
+
+FULL = 2 ** 32
+UP, DOWN, BOARD = (0,) * 6 + (FULL,), (0,) * 7, (FULL,) * 3 + (0,) * 4
+
+
+def ferromagnet(rows, swaps):
+    return rule.Plan(4, "heat", tuple(rows), tuple(map(tuple, swaps)), rule.couplings_view(4, {}), 1, 7)
+
+
+def glass(size, slots, sweeps, seed):
+    rows, swaps = rule.demo_rows(slots)
+    signs = {b: rule.random(seed, b) for b in range(64)}
+    return rule.Plan(size, "metropolis", tuple(rows), tuple(swaps), rule.couplings_view(size, signs), sweeps, seed)
+
+
+def plan_digest(plan):
+    return sha256(rule.canonical(plan)).hexdigest()
+
+
+def level_digest(epoch):
+    """The last bytes of the checkpoint of two slots whose only swap is at epoch 0."""
+    plan = ferromagnet([BOARD, UP], [[FULL]])
+    states = [rule.serial(plan, rule.opening(plan, "up", 0, b), epoch) for b in range(64)]
+    return rule.encoding(plan, states.__getitem__)[-32:].hex()
+
+
+def sixteen_report():
+    """The report of sixteen temperatures at size 8, all 64 samples one after the other."""
+    plan, every, until = glass(8, 16, 2, 20240611), 10, 20
+    found = {}
+    for b in range(64):
+        s = rule.opening(plan, "random", 0, b)
+        for e in range(until):
+            if rule.is_recorded(every, e):
+                found[e, b] = rule.epoch_records(plan, s)
+            s = rule.epoch(plan, s)
+    text = rule.header_line(plan, 64, 0, until) + rule.rows_in_order(lambda b, f: found[f, b], 64, every, 0, until)
+    return sha256((text + rule.end_line(until)).encode()).hexdigest()
+
+
+TESTS = "crates/glass_tests/src/"
+SHORT = {
+    "smallest_plan": (lambda: plan_digest(ferromagnet([DOWN], [])), [TESTS + "check.rt", "crates/run_plan/src/tests.rt"]),
+    "two_slots_plan": (lambda: plan_digest(ferromagnet([BOARD, UP], [[FULL]])), ["crates/run_checkpoint/src/tests/known.rt"]),
+    "level_at_1": (lambda: level_digest(1), [TESTS + "resuming.rt", "crates/run_checkpoint/src/tests/known.rt"]),
+    "level_at_2": (lambda: level_digest(2), [TESTS + "resuming.rt", "crates/glass_engine/src/tests/saving.rt"]),
+    "demo_plan": (lambda: plan_digest(glass(16, 8, 4, 1)), ["crates/run_plan/src/tests.rt"]),
+    "glass_8_plan": (lambda: plan_digest(glass(8, 16, 2, 20240611)),
+                     ["examples/glass_8/README.md", "crates/table_agreement/src/sixteen_temperatures.rt"]),
+}
+LONG = {"sixteen": (sixteen_report, [TESTS + "sixteen_temperatures.rt", "examples/glass_8/README.md"])}
+
+
+def stands_in(value, text):
+    """Whether a file has a digest, in one piece or byte by byte."""
+    return value in text or value in "".join(re.findall(r"0x([0-9a-f]{2})\b", text))
+
+
+def main(words):
+    known = {**SHORT, **LONG}
+    if set(words) - set(known):
+        sys.exit(f"published: the names are {', '.join(known)}")
+    wrong = 0
+    for name in words or SHORT:
+        make, files = known[name]
+        value = make()
+        print(f"{name} {value}", flush=True)
+        for file in files:
+            if not stands_in(value, (ROOT / file).read_text(encoding="utf-8")):
+                print(f"published: {file} has another value", file=sys.stderr)
+                wrong = 1
+    return wrong
+
+
+if __name__ == "__main__":
+    sys.exit(main(sys.argv[1:]))
