@@ -1,5 +1,5 @@
 -- The sweep of the sites of one colour in a plane, for 64 samples at once.
-use Rattle.std.specs.Prelude.{◌≡◌, ℕ, ◌+◌, ◌*◌, ◌/◌, ◌%◌, ◌^◌, ◌<◌, ◌≤◌, ◌==◌, if◌then◌else◌, bit_xor, List, [], ◌∷◌, take, drop, length, slice_index, count_by, All}
+use Rattle.std.specs.Prelude.{◌≡◌, ◌≢◌, ℕ, ◌+◌, ◌*◌, ◌/◌, ◌%◌, ◌^◌, ◌<◌, ◌≤◌, ◌==◌, if◌then◌else◌, bit_xor, List, [], ◌∷◌, take, drop, length, slice_index, slice_index_or, count_by, All}
 use Rattle.coupling_set.specs.CouplingWords.{CouplingsView}
 use Rattle.local_rule.specs.SiteBits.{site_bits, set_count}
 use Rattle.scalar_rule.specs.Neighbours.{agree}
@@ -105,6 +105,13 @@ pub record SweepsPlane (couplings : CouplingsView) (other : List Plane) (rule : 
   pub fits : FitsPlane couplings.size new
   pub words : SweepsWords couplings other rule (draws old.wheel (half_plane couplings.size)) c z (half_plane couplings.size) old.words new.words
   pub generator : new.wheel ≡ advanced old.wheel (half_plane couplings.size)
+
+-- the planes of a colour after plane z of them is swept
+pub record SweepsAt (couplings : CouplingsView) (other : List Plane) (rule : SlotRule) (c z : ℕ) (old new : List Plane) : Type 0 where
+  pub sized : length new ≡ length old
+  pub done : (d : Plane) → SweepsPlane couplings other rule c z (slice_index_or old z d) (slice_index_or new z d)
+  pub kept : (k : ℕ) (d : Plane) → k ≢ z → slice_index_or new k d ≡ slice_index_or old k d
+  pub fit : All (FitsPlane couplings.size) new
 
 -- all planes after a sweep: those of colour 0 by the old ones of colour 1, and those of colour 1 by the new ones of colour 0
 pub record SweepsColours (couplings : CouplingsView) (rule : SlotRule) (old new : List Plane) : Type 0 where

@@ -2,7 +2,7 @@
 
 ghost use Rattle.std.specs.Prelude.{◌≡◌, ℕ, ◌*◌, ◌<◌, ◌≤◌, length, All};
 ghost use Rattle.plane_sweep.specs.Packed.{part_copy, FitsPlane, FitsReplica};
-ghost use Rattle.plane_sweep.specs.PlaneSweep.{CanSweep, SweepsPlane, SweepsColours};
+ghost use Rattle.plane_sweep.specs.PlaneSweep.{CanSweep, SweepsPlane, SweepsAt, SweepsColours};
 ghost use Rattle.plane_sweep.specs.Storing.{Changed};
 ghost use Rattle.scalar_rule.specs.Plan.{dynamics_of, slots_of};
 ghost use Rattle.scalar_rule.specs.Replica.{configuration_of, with_configuration};
@@ -119,14 +119,65 @@ fn sweep_both(
     size: usize,
 )
     requires size { size ≡ couplings.now.size }
+    requires lawful { IsLawfulSize couplings.now.size }
     requires room { half_plane couplings.now.size ≤ length draws.old }
     requires count { length planes.old ≡ 2 * couplings.now.size }
     requires planes { All (FitsPlane couplings.now.size) planes.old }
     ensures { SweepsColours couplings.now rule.now planes.old planes.new }
 {
     let (first, second) = planes.split_at_mut(size);
-    sweep_colour(first, second, couplings, rule, draws, 0);
-    sweep_colour(second, first, couplings, rule, draws, 1);
+    sweep_following(first, second, couplings, rule, draws, size);
+}
+
+// The planes of both colours. Each plane of colour 1 is swept as soon as those beside it of colour 0
+// are, while its couplings are still near the processor. The first and the last lie beside each other,
+// and are swept at the end.
+fn sweep_following(
+    first: &mut [Plane],
+    second: &mut [Plane],
+    couplings: &Couplings,
+    rule: &SlotRule,
+    draws: &mut [u32],
+    size: usize,
+)
+    requires size { size ≡ couplings.now.size }
+    requires lawful { IsLawfulSize couplings.now.size }
+    requires room { half_plane couplings.now.size ≤ length draws.old }
+    requires counts { (length first.old ≡ couplings.now.size) × (length second.old ≡ couplings.now.size) }
+    requires firsts { All (FitsPlane couplings.now.size) first.old }
+    requires seconds { All (FitsPlane couplings.now.size) second.old }
+    ensures first { Changed (SweepsPlane couplings.now second.old rule.now 0) couplings.now.size first.old first.new }
+    ensures second { Changed (SweepsPlane couplings.now first.new rule.now 1) couplings.now.size second.old second.new }
+{
+    sweep_at(first, second, couplings, rule, draws, 0, 0);
+    sweep_at(first, second, couplings, rule, draws, 0, 1);
+    'planes: for z in 2..size {
+        sweep_at(first, second, couplings, rule, draws, 0, z);
+        sweep_at(second, first, couplings, rule, draws, 1, z - 1);
+    }
+    sweep_at(second, first, couplings, rule, draws, 1, size - 1);
+    sweep_at(second, first, couplings, rule, draws, 1, 0);
+}
+
+// Plane z among the planes of a colour, by the planes of the other colour.
+fn sweep_at(
+    own: &mut [Plane],
+    other: &[Plane],
+    couplings: &Couplings,
+    rule: &SlotRule,
+    draws: &mut [u32],
+    colour: u32,
+    z: usize,
+)
+    requires counts { (length own.old ≡ couplings.now.size) × (length other.now ≡ couplings.now.size) }
+    requires planes { All (FitsPlane couplings.now.size) own.old }
+    requires others { All (FitsPlane couplings.now.size) other.now }
+    requires room { half_plane couplings.now.size ≤ length draws.old }
+    requires colour { colour < 2 }
+    requires plane { z < couplings.now.size }
+    ensures { SweepsAt couplings.now other.now rule.now colour z own.old own.new }
+{
+    sweep_plane(&mut own[z], other, couplings, rule, draws, colour, z as u32);
 }
 
 // The same, each colour in at most so many runs of planes.
@@ -194,36 +245,6 @@ fn sweep_alone(
     ensures { SweepsPlane couplings.now other.now rule.now colour z plane.old plane.new }
 {
     sweep_plane(plane, other, couplings, rule, &mut [0u32; 2048], colour, z);
-}
-
-// The planes of a colour, each of them by the planes of the other colour.
-fn sweep_colour(
-    own: &mut [Plane],
-    other: &[Plane],
-    couplings: &Couplings,
-    rule: &SlotRule,
-    draws: &mut [u32],
-    colour: u32,
-)
-    requires own { length own.old ≡ couplings.now.size }
-    requires planes { All (FitsPlane couplings.now.size) own.old }
-    requires other { length other.now ≡ couplings.now.size }
-    requires others { All (FitsPlane couplings.now.size) other.now }
-    requires room { half_plane couplings.now.size ≤ length draws.old }
-    requires colour { colour < 2 }
-    ensures { Changed (SweepsPlane couplings.now other.now rule.now colour) couplings.now.size own.old own.new }
-{
-    'planes: for z in 0..couplings.size() {
-        sweep_plane(
-            &mut own[z as usize],
-            other,
-            couplings,
-            rule,
-            draws,
-            colour,
-            z,
-        );
-    }
 }
 
 // The sites of a colour in plane z. Each has a draw, used or not, so that all samples can share it.

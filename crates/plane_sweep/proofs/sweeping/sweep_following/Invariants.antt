@@ -1,0 +1,11 @@
+use Rattle.std.proofs.Common.{◌-◌, All}
+use Rattle.plane_sweep.specs.Packed.{FitsPlane}
+use Rattle.plane_sweep.proofs.Following.{IsFollowing}
+use Rattle.plane_sweep.proofs.sweeping.sweep_following.Given as goal
+
+abbrev pub invariant-planes : goal.invariant-planes
+invariant-planes l = record {
+  way : IsFollowing l.couplings l.rule l.z (l.z - 1) l.fn.first l.fn.second l.first l.second;
+  firsts : All (FitsPlane l.couplings.size) l.first;
+  seconds : All (FitsPlane l.couplings.size) l.second;
+}
