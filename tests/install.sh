@@ -31,6 +31,13 @@ unset GLASS
 "$at/bin/glass-make-seeds" "$place/template/run.toml" --into "$place/study" >/dev/null || fail "glass-make-seeds"
 "$at/bin/glass-long-run" run "$place/study/seed-0001" >/dev/null || fail "glass-long-run"
 "$at/bin/glass-describe" "$place/study/seed-0001" | grep -q whole || fail "glass-describe"
+for python in python3 /usr/bin/python3; do
+    "$python" -c 'import matplotlib, numpy, scipy' 2>/dev/null || continue
+    "$python" "$at/bin/glass-estimate" means "$place/study/seed-0001/report" --plot "$place/means.png" >/dev/null \
+        || fail "glass-estimate"
+    [ -s "$place/means.png" ] || fail "glass-estimate draws nothing"
+    break
+done
 make -s uninstall DESTDIR="$place/stage" PREFIX=/opt/glass || fail "make uninstall"
 [ -z "$(find "$place/stage" ! -type d)" ] || fail "something is left: $(find "$place/stage" ! -type d)"
 [ ! -e "$at/share/glass" ] || fail "a folder is left"

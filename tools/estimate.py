@@ -6,6 +6,7 @@
     python3 tools/estimate.py equilibration report.txt --slot 0
     python3 tools/estimate.py times report.txt --skip 2000
     python3 tools/estimate.py walks report.txt --skip 2000
+    python3 tools/estimate.py lengths lines_1.txt lines_2.txt --plot lengths.png
     python3 tools/estimate.py export report.txt --npz report.npz --csv report.csv
 
 means          energy per site, q^2, spin-glass susceptibility V [q^2] and Binder ratio of each slot
@@ -13,6 +14,7 @@ overlaps       P(q) of a slot, made symmetric
 equilibration  energy and q^2 over parts of the run that double, and the step from part to part with its error
 times          integrated autocorrelation times of the energy and of q^2, in epochs
 walks          exchanges made of those tried, by pair, and round trips through the slots, by label
+lengths        of what `glass lines` prints: link overlap and second-moment correlation length of each slot
 export         the rows as arrays for numpy.load, or as comma-separated text
 
 Errors are jackknife errors. Of several reports, which must differ in their seeds alone, each is a block. Of one
@@ -36,19 +38,17 @@ NOTE = """note: the error is over the disorder: the samples of one run share eac
       Several reports, of other seeds, have the whole error."""
 
 
-class Words:
-    """The reports that a command line names, and what its slots are called."""
+class Slots:
+    """The number of files that a command line names, and what their slots are called."""
 
-    def __init__(self, options: argparse.Namespace) -> None:
-        from glass_analysis import read_reports
+    def __init__(self, options: argparse.Namespace, slots: int) -> None:
         betas = inverse_temperatures(options)
-        if options.blocks is not None and len(options.reports) > 1:
-            raise Refusal("of several reports each is a block: --blocks is for one")
-        self.reports = read_reports(options.reports, options.skip)
+        self.files = len(options.reports)
         self.blocks: Optional[int] = options.blocks
-        slots = self.reports[0].slots
+        if self.blocks is not None and self.files > 1:
+            raise Refusal("of several files each is a block: --blocks is for one")
         if betas and len(betas) != slots:
-            raise Refusal(f"{len(betas)} temperatures, and the report has {slots} slots")
+            raise Refusal(f"{len(betas)} temperatures, and there are {slots} slots")
         self.head = "beta" if options.betas else "T"
         self.names: List[str] = options.betas or options.temperatures or [""] * slots
         self.across = [float(name) for name in self.names] if betas else list(range(slots))
@@ -62,19 +62,28 @@ class Words:
     def title(self, slot: int) -> str:
         return f"{self.head} = {self.names[slot]}" if self.names[slot] else f"slot {slot}"
 
-    def begin(self) -> None:
-        r = self.reports[0]
-        what = r.name if len(self.reports) == 1 else f"{len(self.reports)} reports"
-        print(f"{what}: size {r.size}, {r.rule}, slots {r.slots}, samples {r.samples}, "
-              f"{len(r.epochs)} recorded epochs from {r.epochs[0]} to {r.epochs[-1]}")
-
     def end(self, options: argparse.Namespace, figure: Callable[[], object]) -> None:
-        if len(self.reports) == 1:
+        if self.files == 1:
             print(NOTE)
         if options.plot:
             from glass_analysis import figures
             figures.save(options.plot, figure())  # type: ignore[arg-type]
             print(f"wrote {options.plot}")
+
+
+class Words(Slots):
+    """The reports that a command line names."""
+
+    def __init__(self, options: argparse.Namespace) -> None:
+        from glass_analysis import read_reports
+        self.reports = read_reports(options.reports, options.skip)
+        super().__init__(options, self.reports[0].slots)
+
+    def begin(self) -> None:
+        r = self.reports[0]
+        what = r.name if self.files == 1 else f"{self.files} reports"
+        print(f"{what}: size {r.size}, {r.rule}, slots {r.slots}, samples {r.samples}, "
+              f"{len(r.epochs)} recorded epochs from {r.epochs[0]} to {r.epochs[-1]}")
 
 
 def means(words: Words, options: argparse.Namespace) -> None:
@@ -163,9 +172,23 @@ def walks(words: Words, options: argparse.Namespace) -> None:
     words.end(options, lambda: figures.walk(words.reports[0]))
 
 
+def lengths(options: argparse.Namespace) -> None:
+    from glass_analysis import blocks, correlation_length, figures, jackknife, line_moments, link_overlap, read_lines
+    states = read_lines(options.reports)
+    slots, first = Slots(options, states[0].slots), states[0]
+    parts = blocks([line_moments(state) for state in states], slots.blocks)
+    named = [("link overlap", jackknife(parts, link_overlap)), ("correlation length", jackknife(parts, correlation_length))]
+    title = first.name if slots.files == 1 else f"{slots.files} files"
+    print(f"{title}: size {first.size}, slots {first.slots}, samples {first.samples}, epoch {first.epoch}")
+    print(f"slot {slots.head:>10}" + "".join(f" {what:>11} {'error':>9}" for what in ("link", "xi")))
+    for slot, name in enumerate(slots.names):
+        print(f"{slot:>4} {name:>10}" + "".join(f" {e.value[slot]:>11.6f} {e.error[slot]:>9.6f}" for _, e in named))
+    slots.end(options, lambda: figures.means(slots.across, slots.axis, named))
+
+
 def export(words: Words, options: argparse.Namespace) -> None:
     from glass_analysis.export import write_csv, write_npz
-    if len(words.reports) > 1 or not (options.npz or options.csv):
+    if words.files > 1 or not (options.npz or options.csv):
         raise Refusal("export wants one report, and --npz or --csv")
     for name, write in ((options.npz, write_npz), (options.csv, write_csv)):
         if name:
@@ -173,8 +196,9 @@ def export(words: Words, options: argparse.Namespace) -> None:
             print(f"wrote {name}")
 
 
-COMMANDS: Dict[str, Callable[[Words, argparse.Namespace], None]] = {
+OF_REPORTS: Dict[str, Callable[[Words, argparse.Namespace], None]] = {
     "means": means, "overlaps": overlaps, "equilibration": equilibration, "times": times, "walks": walks, "export": export}
+COMMANDS = [*OF_REPORTS, "lengths"]
 
 
 def parser_of_words() -> argparse.ArgumentParser:
@@ -183,10 +207,11 @@ def parser_of_words() -> argparse.ArgumentParser:
     commands = parser.add_subparsers(dest="command", metavar="COMMAND", required=True, parser_class=OneLineParser)
     for command in COMMANDS:
         words = commands.add_parser(command, allow_abbrev=False)
-        words.add_argument("reports", nargs="*", default=["-"], metavar="REPORT",
+        words.add_argument("reports", nargs="*", default=["-"], metavar="FILE",
                            help="files, or - for standard input (the default)")
-        words.add_argument("--skip", type=int, default=0, metavar="EPOCH", help="leave out the epochs before this one")
-        words.add_argument("--blocks", type=int, metavar="K", help="of one report: the number of blocks of its samples")
+        if command != "lengths":
+            words.add_argument("--skip", type=int, default=0, metavar="EPOCH", help="leave out the epochs before this one")
+        words.add_argument("--blocks", type=int, metavar="K", help="of one file: the number of blocks of its samples")
         add_temperatures(words)
         if command == "export":
             words.add_argument("--npz", metavar="FILE", help="arrays for numpy.load")
@@ -208,7 +233,10 @@ def main(words: Optional[Sequence[str]] = None) -> int:
             import matplotlib, numpy, scipy  # noqa: E401, F401
         except ImportError:
             raise Refusal(NEEDED) from None
-        COMMANDS[options.command](Words(options), options)
+        if options.command == "lengths":
+            lengths(options)
+        else:
+            OF_REPORTS[options.command](Words(options), options)
     except Refusal as refusal:
         print(f"estimate: {refusal}", file=sys.stderr)
         return 2

@@ -5,9 +5,16 @@ probability near erfc(sqrt(dbeta V de) / 2): energies are taken as Gaussian with
 beta tells. Small steps have dbeta V de = (ds)^2 with ds = sqrt(V de/dT) dT / T, so slots that are evenly spaced in s
 have even acceptance. It is an estimate: where temperatures stand changes how fast a run is, and not its results.
 """
+from __future__ import annotations
+
+import argparse
 import math
 from bisect import bisect_right
 from pathlib import Path
+from typing import List, Sequence, Tuple
+
+# Temperature and energy per site, both rising.
+Table = Sequence[Tuple[float, ...]]
 
 
 class Unlawful(Exception):
@@ -17,12 +24,13 @@ class Unlawful(Exception):
 STEPS = 4000
 # Temperature and energy per site of the glass with random couplings: from 1.2 to 3 as the tutorial measures them at
 # size 8, below by a power of T down to the ground states, near -1.7876, above by the series -3 t + 12 t^7 (1 - t^2) in t = tanh(1 / T).
-GLASS = ((0.4, -1.7847), (0.6, -1.7762), (0.8, -1.7572), (1.0, -1.7226), (1.2, -1.6668), (1.35, -1.6168), (1.5, -1.5610),
-         (1.7, -1.4745), (1.9, -1.3789), (2.2, -1.2477), (2.6, -1.0887), (3.0, -0.9594), (3.5, -0.8347), (4.0, -0.7346),
-         (5.0, -0.5921), (6.0, -0.4955), (8.0, -0.3731), (10.0, -0.2990))
+GLASS: Table = (
+    (0.4, -1.7847), (0.6, -1.7762), (0.8, -1.7572), (1.0, -1.7226), (1.2, -1.6668), (1.35, -1.6168), (1.5, -1.5610),
+    (1.7, -1.4745), (1.9, -1.3789), (2.2, -1.2477), (2.6, -1.0887), (3.0, -0.9594), (3.5, -0.8347), (4.0, -0.7346),
+    (5.0, -0.5921), (6.0, -0.4955), (8.0, -0.3731), (10.0, -0.2990))
 
 
-def read_energies(name):
+def read_energies(name: str) -> Table:
     """Lines `temperature,energy per site`, temperatures rising and energies with them."""
     try:
         lines = Path(name).read_text(encoding="ascii").splitlines()
@@ -38,18 +46,18 @@ def read_energies(name):
     return table
 
 
-def energy_at(table, temperature):
+def energy_at(table: Table, temperature: float) -> float:
     """Between the table's temperatures by straight lines in 1 / T."""
     k = min(max(bisect_right([row[0] for row in table], temperature), 1), len(table) - 1)
     (t0, e0), (t1, e1) = table[k - 1], table[k]
     return e0 + (e1 - e0) * (1 / t0 - 1 / temperature) / (1 / t0 - 1 / t1)
 
 
-def geometric(low, high, slots):
+def geometric(low: float, high: float, slots: int) -> List[float]:
     return [low * (high / low) ** (slot / (slots - 1)) for slot in range(slots)]
 
 
-def even(table, low, high, slots):
+def even(table: Table, low: float, high: float, slots: int) -> List[float]:
     """Temperatures between which the exchange is equally probable."""
     if low < table[0][0] or high > table[-1][0]:
         raise Unlawful(f"energies are known from temperature {table[0][0]:g} to {table[-1][0]:g} alone")
@@ -67,13 +75,13 @@ def even(table, low, high, slots):
     return found
 
 
-def acceptances(table, temperatures, sites):
+def acceptances(table: Table, temperatures: Sequence[float], sites: int) -> List[float]:
     """The estimated acceptance of each pair of neighbours."""
     return [math.erfc(math.sqrt((1 / a - 1 / b) * sites * (energy_at(table, b) - energy_at(table, a))) / 2)
             for a, b in zip(temperatures, temperatures[1:])]
 
 
-def placed(options):
+def placed(options: argparse.Namespace) -> List[str]:
     """The texts of the temperatures that --range, --slots and --acceptance ask for."""
     try:
         low, high = map(float, options.range)
@@ -94,7 +102,7 @@ def placed(options):
     return texts
 
 
-def texts_of(options, temperatures):
+def texts_of(options: argparse.Namespace, temperatures: Sequence[float]) -> List[str]:
     """The ends as they were given, between them five decimals."""
     inner = [f"{value:.5f}".rstrip("0").rstrip(".") for value in temperatures[1:-1]]
     texts = [options.range[0], *inner, options.range[1]]

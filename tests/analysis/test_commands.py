@@ -1,7 +1,9 @@
 """The command line of tools/estimate.py."""
+import analyse
 import estimate
 import pytest
 from analyse_test import text_of_lines, true_report
+from lines_report_test import text_of, true_lines
 from make_tables import outcome
 
 
@@ -35,6 +37,27 @@ def test_means_are_those_of_the_other_tools(reports):
     for mine, theirs in zip(call("means", *given)[1].splitlines()[2:], other):
         mine, theirs = mine.split(), theirs.split()
         assert mine[:5] == theirs[:5] and mine[7:] == theirs[7:]
+
+
+def test_a_figure_and_a_table_of_lengths(tmp_path):
+    given = [tmp_path / f"{seed}.txt" for seed in (1, 2, 3)]
+    for seed, name in enumerate(given, 1):
+        name.write_text(text_of(true_lines(seed)[0]))
+    picture = tmp_path / "lengths.png"
+    for files in (given[:1], given):
+        status, out, err = call("lengths", *files, "--temperatures", 1, 1.5, "--plot", picture)
+        assert (status, err) == (0, "") and picture.read_bytes()[:4] == b"\x89PNG"
+        assert ("share each random number" in out) == (len(files) == 1)
+        other = outcome([str(name) for name in files] + ["--temperatures", "1", "1.5"], analyse.main)[1].splitlines()[2:4]
+        for mine, theirs in zip(out.splitlines()[2:4], other):
+            assert [f"{float(x):.4f}" for x in mine.split()[2:]] == [f"{float(x):.4f}" for x in theirs.split()[2:]]
+    for words in ([given[0], given[0]], [given[0], "--blocks", 2], [tmp_path / "none"], [given[0], "--temperatures", 1]):
+        assert call("lengths", *words)[0] == 2
+
+
+def test_the_two_kinds_of_files_are_not_taken_for_each_other(reports, tmp_path):
+    (tmp_path / "lines.txt").write_text(text_of(true_lines(1)[0]))
+    assert call("lengths", reports / "1.txt")[0] == 2 and call("means", tmp_path / "lines.txt")[0] == 2
 
 
 @pytest.mark.parametrize("words", [["means", "none/such"], ["means", "--betas", "1", "1.txt"], ["what", "1.txt"], [],

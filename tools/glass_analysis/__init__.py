@@ -4,8 +4,8 @@
     from glass_analysis import read_report, blocks, jackknife, binder
 
 The modules: `reports` reads, `errors` is the jackknife, `observables` has means, Binder ratio and the
-distribution of overlaps, `times` autocorrelation and equilibration, `walks` the walks in temperature, `figures`
-draws, `export` writes arrays. `tools/estimate.py` is the command line over them.
+distribution of overlaps, `times` autocorrelation and equilibration, `walks` the walks in temperature, `lines` the
+correlation length, `figures` draws, `export` writes arrays. `tools/estimate.py` is the command line over them.
 """
 import sys
 from pathlib import Path
@@ -14,11 +14,12 @@ from pathlib import Path
 sys.path.insert(0, str(Path(__file__).resolve().parent.parent))
 
 from .errors import Estimate, jackknife  # noqa: E402
+from .lines import correlation_length, line_moments, link_overlap, read_lines  # noqa: E402
 from .observables import binder, blocks, distribution, moments, susceptibility  # noqa: E402
 from .reports import Records, read_report, read_reports  # noqa: E402
 from .times import autocorrelation_time, doubling_bins, equilibration  # noqa: E402
 from .walks import acceptance, positions, round_trips  # noqa: E402
 
-__all__ = ["Estimate", "Records", "acceptance", "autocorrelation_time", "binder", "blocks", "distribution",
-           "doubling_bins", "equilibration", "jackknife", "moments", "positions", "read_report", "read_reports",
-           "round_trips", "susceptibility"]
+__all__ = ["Estimate", "Records", "acceptance", "autocorrelation_time", "binder", "blocks", "correlation_length",
+           "distribution", "doubling_bins", "equilibration", "jackknife", "line_moments", "link_overlap", "moments",
+           "positions", "read_lines", "read_report", "read_reports", "round_trips", "susceptibility"]

@@ -12,7 +12,7 @@ from matplotlib.figure import Figure  # noqa: E402
 
 from make_tables import Refusal  # noqa: E402
 
-from .errors import Estimate, Numbers  # noqa: E402
+from .errors import Estimate  # noqa: E402
 from .observables import ENERGY, SQUARE, Distribution  # noqa: E402
 from .reports import Records  # noqa: E402
 from .times import Bin  # noqa: E402
@@ -32,7 +32,7 @@ def save(name: str, figure: Figure) -> None:
     plt.close(figure)
 
 
-def means(across: Numbers, what: str, named: Sequence[Tuple[str, Estimate]]) -> Figure:
+def means(across: Sequence[float], what: str, named: Sequence[Tuple[str, Estimate]]) -> Figure:
     """Estimates of all slots, a panel each, against temperature."""
     figure, panels = plt.subplots(1, len(named), figsize=(3.2 * len(named), 3), layout="constrained", squeeze=False)
     for panel, (name, estimate) in zip(panels[0], named):

@@ -85,7 +85,8 @@ def lawful_records(name: str, stored: bytes) -> Optional[Records]:
     if header is None:
         return None
     size, slots, samples, first, until = (int(header[k]) for k in (1, 2, 3, 5, 6))
-    stop = ROWS.match(stored, start).end()
+    rows = ROWS.match(stored, start)
+    stop = rows.end() if rows else start
     if not is_lawful_frame(name, header, stored[stop:]):
         return None
     text = io.BytesIO(stored[start:stop])

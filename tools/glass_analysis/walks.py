@@ -42,8 +42,8 @@ def round_trips(records: Records) -> Integers:
     trips = np.zeros(places.shape[1:], np.int64)
     if last == 0:
         return trips
-    for index in np.ndindex(trips.shape):
-        walk = places[(slice(None), *index)]
+    for sample, label, replica in np.ndindex(trips.shape):
+        walk = places[:, sample, label, replica]
         ends = walk[(walk == 0) | (walk == last)]
-        trips[index] = np.count_nonzero(np.diff(ends)) // 2
+        trips[sample, label, replica] = np.count_nonzero(np.diff(ends)) // 2
     return trips
