@@ -63,15 +63,19 @@ def main(names: List[str]) -> int:
 
 
 def draw(value: np.ndarray, error: np.ndarray, exact: Dict[Tuple[int, float], Tuple[float, float]]) -> None:
-    figure, panel = plt.subplots(figsize=(5, 3), layout="constrained")
-    panel.axhline(0, linewidth=0.8)
+    figure, panels = plt.subplots(1, 2, figsize=(7, 2.8), layout="constrained")
     for sample in range(len(value)):
-        known = [(slot, exact[sample, beta][0]) for slot, beta in enumerate(BETAS) if (sample, beta) in exact]
-        across = [1 / BETAS[slot] + 0.01 * (sample - 1) for slot, _ in known]
-        panel.errorbar(across, [value[sample, slot] - energy for slot, energy in known],
-                       [error[sample, slot] for slot, _ in known], fmt="o", markersize=3, capsize=2, label=f"sample {sample}")
-    panel.set(xlabel="temperature", ylabel="measured - exact, per site")
-    panel.legend()
+        slots = [slot for slot, beta in enumerate(BETAS) if (sample, beta) in exact]
+        known = np.array([exact[sample, BETAS[slot]][0] for slot in slots])
+        across = np.array([1 / BETAS[slot] for slot in slots])
+        points, = panels[0].plot(across, value[sample, slots], "o", markersize=3, label=f"sample {sample}")
+        panels[0].plot(across, known, "_", markersize=12, color=points.get_color())
+        panels[1].errorbar(across + 0.02 * (sample - 1), (value[sample, slots] - known) / error[sample, slots],
+                           1, fmt="o", markersize=3, capsize=2)
+    panels[0].set(xlabel="temperature", ylabel="energy per site, exact as bars")
+    panels[0].legend()
+    panels[1].axhline(0, linewidth=0.8)
+    panels[1].set(xlabel="temperature", ylabel="(measured - exact) / error")
     save(str(here / "figure.png"), figure)
     print("wrote figure.png")
 
