@@ -5,15 +5,19 @@ from __future__ import annotations
 import math
 import sys
 from pathlib import Path
+from typing import Dict, List, Tuple
 
 sys.dont_write_bytecode = True
 here = Path(__file__).resolve().parent
 sys.path.insert(0, str(here.parent.parent / "tools"))
 
 import numpy as np  # noqa: E402
+from numpy.typing import NDArray  # noqa: E402
 
-from glass_analysis import autocorrelation_time, blocks, equilibration, jackknife, moments, read_reports  # noqa: E402
+from glass_analysis import (Estimate, autocorrelation_time, blocks, equilibration, jackknife, moments,  # noqa: E402
+                            read_reports)
 from glass_analysis.figures import plt, save  # noqa: E402
+from glass_analysis.reports import Records  # noqa: E402
 
 SKIP = 500
 
@@ -23,36 +27,54 @@ def exact(beta: float) -> float:
     return -3 * math.tanh(beta)
 
 
+def squares(values: NDArray[np.float64], known: float) -> List[float]:
+    """Of energies, samples along axis 1: the mean square of how far their mean over the samples is from the exact
+    energy, and that of the error which the spread over the samples tells."""
+    means, variances = values.mean(axis=1), values.var(axis=1, ddof=1) / values.shape[1]
+    return [float(np.mean((means - known) ** 2)), float(np.mean(variances))]
+
+
+def of_a_record(records: Records) -> NDArray[np.float64]:
+    """The energies per site in slot 0 of each record and replica, by sample."""
+    return np.concatenate([records.energies[:, :, 0, replica] for replica in range(2)]) / records.sites
+
+
+def distances(betas: List[float], what: str, by_run: List[NDArray[np.float64]]) -> Estimate:
+    """The ratios of the roots of both of `squares`, by inverse temperature; prints a line for each."""
+    print(f"\n{what}\nbeta    distance   from its samples     ratio     error")
+    ratios = [jackknife(parts, lambda means: np.sqrt(means[0] / means[1])) for parts in by_run]
+    for beta, parts, (ratio, error) in zip(betas, by_run, ratios):
+        distance, of_samples = np.sqrt(parts.mean(axis=0))
+        print(f"{beta:<5g} {distance:>10.6f} {of_samples:>18.6f} {float(ratio):>9.2f} {float(error):>9.2f}")
+    return Estimate(np.array([ratio for ratio, _ in ratios]), np.array([error for _, error in ratios]))
+
+
 def main() -> int:
     betas = sorted(float(folder.name[5:]) for folder in here.glob("seed_*"))
-    found, errors = [], []
+    found, of_runs, of_records = [], [], []
     print("beta    measured     error       exact  in errors   last steps, in errors   time, epochs")
     for beta in betas:
         names = sorted(map(str, (here / f"seed_{beta:g}").glob("report_*.txt")))
-        reports = read_reports(names, SKIP)
+        whole = read_reports(names)
+        reports = [records.after(SKIP) for records in whole]
         energy = [moments(records)[:, 0, :1] for records in reports]
         value, error = (float(part[0]) for part in jackknife(blocks(energy)))
-        steps = [float(one.step.value[0, 0] / one.step.error[0, 0])
-                 for one in equilibration(read_reports(names)) if one.step is not None][-3:]
+        steps = [float(one.step.value[0, 0] / one.step.error[0, 0]) for one in equilibration(whole) if one.step is not None][-3:]
         series = np.concatenate([r.energies[:, :, 0].reshape(len(r.epochs), -1) for r in reports], axis=1)
         time = autocorrelation_time(series).value * (reports[0].every or 1)
         print(f"{beta:<5g} {value:>10.6f} {error:>9.6f} {exact(beta):>11.6f} {(value - exact(beta)) / error:>+10.2f}   "
               + " ".join(f"{step:>+6.2f}" for step in steps) + f"   {time:>12.1f}")
         found.append((value, error))
-        # Of each run its mean's true distance from the exact energy, and the error that its own samples tell.
-        means = np.array([by_sample.mean() for by_sample in energy])
-        of_samples = np.sqrt(np.mean([jackknife(blocks([by_sample])).error[0] ** 2 for by_sample in energy]))
-        errors.append((math.sqrt(np.mean((means - exact(beta)) ** 2)), of_samples, means.std(ddof=1)))
-    print("\nOf one run: distance of its mean from the exact energy (root of the mean square over the runs), and its error\n"
-          "beta    distance   from its samples   from the runs")
-    for beta, row in zip(betas, errors):
-        print(f"{beta:<5g} {row[0]:>10.6f} {row[1]:>18.6f} {row[2]:>15.6f}")
-    draw(betas, found)
+        of_runs.append(np.array([squares(by_sample.T, exact(beta)) for by_sample in energy]))
+        of_records.append(np.array([squares(of_a_record(records), exact(beta)) for records in reports]))
+    ratios = {"a run": distances(betas, "Of one run: distance of its mean energy from the exact one, root of the mean square", of_runs),
+              "a record": distances(betas, "Of one record of one replica: the same", of_records)}
+    draw(betas, found, ratios)
     return 0
 
 
-def draw(betas: list[float], found: list[tuple[float, float]]) -> None:
-    figure, panels = plt.subplots(1, 2, figsize=(7, 2.8), layout="constrained")
+def draw(betas: List[float], found: List[Tuple[float, float]], ratios: Dict[str, Estimate]) -> None:
+    figure, panels = plt.subplots(1, 3, figsize=(9, 2.8), layout="constrained")
     line = np.linspace(0, max(betas) * 1.05, 100)
     panels[0].plot(line, -3 * np.tanh(line), linewidth=1, label="-3 tanh β")
     panels[0].errorbar(betas, [value for value, _ in found], [error for _, error in found], fmt="o", markersize=3, label="measured")
@@ -62,6 +84,11 @@ def draw(betas: list[float], found: list[tuple[float, float]]) -> None:
     panels[1].errorbar(betas, [value - exact(beta) for beta, (value, _) in zip(betas, found)],
                        [error for _, error in found], fmt="o", markersize=3, capsize=2)
     panels[1].set(xlabel="β", ylabel="measured - exact")
+    panels[2].axhline(1, linewidth=0.8)
+    for name, (ratio, error) in ratios.items():
+        panels[2].errorbar(betas, ratio, error, marker="o", markersize=3, capsize=2, linewidth=0.8, label=name)
+    panels[2].set(xlabel="β", ylabel="distance / error of samples", ylim=(0, None))
+    panels[2].legend()
     save(str(here / "figure.png"), figure)
     print("wrote figure.png")
 
