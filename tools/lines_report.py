@@ -23,7 +23,7 @@ Header = namedtuple("Header", "size slots samples epoch")
 # Sums over samples: their number, A, and for each distance the sum of B over the three directions.
 Sums = namedtuple("Sums", "samples link lines")
 COUNT = rb"(0|[1-9][0-9]{0,9})"
-SIGNED = rb"(0|-?[1-9][0-9]{0,6})"
+SIGNED = re.compile(rb"0|-?[1-9][0-9]{0,6}")
 HEADER = re.compile(rb"lines 1 size=%b slots=%b samples=%b epoch=%b" % ((COUNT,) * 4))
 
 
@@ -68,10 +68,10 @@ class Lines:
 
     def number(self, front, terms):
         """A sum of so many terms that are +1 or -1."""
-        found = re.fullmatch(re.escape(front) + SIGNED, self.next_line())
-        if not found:
+        line = self.next_line()
+        if not line.startswith(front) or not SIGNED.fullmatch(line, len(front)):
             raise self.damaged(f"a line {front.decode()}.. is due")
-        value = int(found[1])
+        value = int(line[len(front):])
         if abs(value) > terms or (value - terms) % 2:
             raise self.damaged(f"{value} is no sum of {terms} terms")
         return value
