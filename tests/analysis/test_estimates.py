@@ -77,6 +77,10 @@ def test_autocorrelation_times_of_autoregressive_series(memory):
     assert abs(time.value - (1 + memory) / (1 - memory) / 2) < 4 * time.error
 
 
+def test_the_mean_that_is_taken_off_short_series_is_allowed_for():
+    assert autocorrelation_time(np.random.default_rng(7).normal(size=(80, 4096))).value == pytest.approx(0.5, abs=0.01)
+
+
 def test_a_drift_has_no_settled_time():
     assert not autocorrelation_time(np.linspace(0, 1, 30)).is_settled
     assert math.isnan(autocorrelation_time(np.ones(30)).value)

@@ -14,7 +14,7 @@ from .reports import Records
 # The window of an integrated time is the first that is at least so many times it (A. Sokal, in: Functional
 # Integration, NATO ASI B 361, 131 (1997)).
 WINDOW = 6
-# A series that is shorter than so many times it tells too low a time: each has its own mean taken off.
+# A series that is shorter than so many times it has not been seen long enough to tell a time.
 LENGTH = 50
 
 
@@ -50,7 +50,10 @@ def autocorrelation_time(series: Numbers) -> Time:
     times = np.cumsum(correlations) - 0.5
     enough = np.flatnonzero(np.arange(len(times)) >= WINDOW * times)
     window = int(enough[0]) if len(enough) else len(times) - 1
-    value = float(times[window])
+    # The mean that is taken off each series lowers each correlation by about twice the time over the length
+    # (U. Wolff, Comput. Phys. Commun. 156, 143 (2004)).
+    lowered = 2 * times[window] / len(times)
+    value = float((times[window] + (window + 0.5) * lowered) / (1 + lowered))
     error = abs(value) * np.sqrt(2 * (2 * window + 1) / np.size(series))
     return Time(value, error, window, bool(len(enough)) and len(times) >= LENGTH * value)
 
