@@ -1,5 +1,8 @@
 #!/usr/bin/env python3
-"""Binder ratios by temperature and size, where they cross, and P(q) at the lowest temperature: figure.png."""
+"""Binder ratios by temperature and size, where they cross, and P(q) at the lowest temperature: figure.png.
+
+    python3 compare.py 8        of the seeds 1 to 8 of each size
+"""
 from __future__ import annotations
 
 import sys
@@ -21,69 +24,92 @@ from glass_analysis.times import part  # noqa: E402
 
 # M. Baity-Jesi et al., Phys. Rev. B 88, 224416 (2013).
 TRANSITION, ITS_ERROR = 1.1019, 0.0029
+# The difference of two curves is taken as a parabola up to the one temperature, and followed down to the other.
+HOTTEST, COLDEST, DEGREE = 1.5, 0.9, 2
+# Of each seed's samples, for errors where seeds are few.
+BLOCKS = 8
 
 
 class Size(NamedTuple):
-    """Of each seed: moments of parts of the run that double, the last first; P(q) of slot 0; its round trips."""
+    """By seed and block of its samples: moments of parts of the run that double, the last first, and P(q) of slot 0;
+    and by seed its round trips."""
     parts: NDArray[np.float64]
     density: NDArray[np.float64]
     trips: List[int]
 
+    def blocks(self) -> NDArray[np.float64]:
+        """The moments of the last part, seeds and blocks along one axis."""
+        return self.parts[:, :, 0].reshape(-1, *self.parts.shape[3:])
 
-def read_size(size: int) -> Size:
+
+def in_blocks(by_sample: NDArray[np.float64]) -> NDArray[np.float64]:
+    return by_sample.reshape(BLOCKS, -1, *by_sample.shape[1:]).mean(axis=1)
+
+
+def read_size(size: int, seeds: int) -> Size:
     """One report at a time, so that none but its means is kept."""
     parts, densities, trips = [], [], []
     edges = overlap_edges(size ** 3)
-    for name in sorted(here.glob(f"seed_{size}_*.txt")):
-        records = read_report(str(name))
+    for seed in range(1, seeds + 1):
+        records = read_report(str(here / f"seed_{size}_{seed}.txt"))
         bins = doubling_bins(records.epochs)
-        parts.append([moments(part(records, *ends)).mean(axis=0) for ends in bins])
+        parts.append(np.stack([in_blocks(moments(part(records, *ends))) for ends in bins], axis=1))
         overlaps = part(records, *bins[0]).overlaps[:, :, 0] / records.sites
-        counted = np.histogram(overlaps, edges, density=True)[0]
-        densities.append((counted + counted[::-1]) / 2)
+        counted = np.stack([np.histogram(of_sample, edges, density=True)[0] for of_sample in overlaps.T])
+        densities.append(in_blocks((counted + counted[:, ::-1]) / 2))
         trips.append(int(round_trips(records).sum()))
     return Size(np.array(parts), np.array(densities), trips)
 
 
-def crossing(temperatures: NDArray[np.float64], one: NDArray[np.float64], other: NDArray[np.float64]) -> NDArray[np.float64]:
-    """The temperature where two curves meet, by straight lines; of several the lowest, nan of none."""
-    apart = one - other
-    for k in range(len(apart) - 1):
-        if apart[k] * apart[k + 1] < 0:
-            share = apart[k] / (apart[k] - apart[k + 1])
-            return np.array(temperatures[k] + share * (temperatures[k + 1] - temperatures[k]))
-    return np.array(np.nan)
+def crossing(temperatures: NDArray[np.float64], small: NDArray[np.float64], large: NDArray[np.float64]) -> NDArray[np.float64]:
+    """The temperature from which on the smaller size has the greater ratio: the root at which the polynomial through
+    the difference of the two rises, by least squares; nan where there is none between COLDEST and HOTTEST.
+    """
+    near = temperatures <= HOTTEST
+    apart = np.polynomial.Polynomial.fit(temperatures[near], (small - large)[near], DEGREE)
+    roots = [root.real for root in apart.roots() if abs(root.imag) < 1e-9 and COLDEST <= root.real <= HOTTEST
+             and apart.deriv()(root.real) > 0]
+    return np.array(max(roots, default=np.nan))
 
 
 def crossing_of(temperatures: NDArray[np.float64], small: Size, large: Size) -> Estimate:
     """With the error of both sizes, whose seeds are independent."""
-    a, b = small.parts[:, 0], large.parts[:, 0]
+    a, b = small.blocks(), large.blocks()
     one = jackknife(a, lambda means: crossing(temperatures, binder(means), binder(b.mean(axis=0))))
     other = jackknife(b, lambda means: crossing(temperatures, binder(a.mean(axis=0)), binder(means)))
     return Estimate(one.value, np.hypot(one.error, other.error))
 
 
-def main() -> int:
+def print_rest(size: int, found: Size, temperatures: NDArray[np.float64]) -> None:
+    seeds = found.parts.shape[0]
+    q2 = found.parts[:, :, :, 0, SQUARE].reshape(seeds * BLOCKS, -1)
+    steps = [jackknife(q2[:, n] - q2[:, n + 1]) for n in (2, 1, 0)]
+    whole, inner = jackknife(found.parts[:, :, 0].mean(axis=1), binder).error, jackknife(found.blocks(), binder).error
+    print(f"size {size:>2}: {seeds} seeds, {sum(found.trips)} round trips; last steps of q^2 at T = {temperatures[0]:g}, in "
+          "errors: " + " ".join(f"{float(step.value / step.error):+.2f}" for step in steps)
+          + f"; errors over seeds and over blocks: {np.sqrt(np.mean(whole ** 2)):.5f} {np.sqrt(np.mean(inner ** 2)):.5f}")
+
+
+def main(words: List[str]) -> int:
     temperatures = np.array((here / "seed_temperatures.txt").read_text().split(), float)
-    sizes = {size: read_size(size) for size in (4, 6, 8, 10)}
-    ratios = {size: jackknife(found.parts[:, 0], binder) for size, found in sizes.items()}
+    sizes = {size: read_size(size, int(words[0])) for size in (4, 6, 8, 10)}
+    ratios = {size: jackknife(found.blocks(), binder) for size, found in sizes.items()}
     for size, found in sizes.items():
-        steps = [jackknife(found.parts[:, n, 0, SQUARE] - found.parts[:, n + 1, 0, SQUARE]) for n in range(3)]
-        print(f"size {size}: {len(found.parts)} seeds, {sum(found.trips)} round trips; last steps of q^2 at T = "
-              f"{temperatures[0]:g}, in errors: " + " ".join(f"{float(s.value / s.error):+.2f}" for s in reversed(steps)))
+        print_rest(size, found, temperatures)
     print("T       " + "".join(f"  Binder {size:>2}    error" for size in sizes))
     for slot, temperature in enumerate(temperatures):
         print(f"{temperature:<8g}" + "".join(f"{r.value[slot]:>11.5f} {r.error[slot]:>8.5f}" for r in ratios.values()))
     for small, large in combinations(sizes, 2):
         value, error = crossing_of(temperatures, sizes[small], sizes[large])
-        print(f"sizes {small} and {large} cross at T = {float(value):.3f} +- {float(error):.3f}")
+        print(f"sizes {small:>2} and {large:>2} cross at T = {float(value):.3f} +- {float(error):.3f}")
     print(f"the transition: {TRANSITION} +- {ITS_ERROR}")
-    draw(temperatures, ratios, {size: jackknife(found.density) for size, found in sizes.items()})
+    draw(temperatures, ratios, {size: jackknife(found.density.reshape(-1, found.density.shape[-1]))
+                               for size, found in sizes.items()})
     return 0
 
 
 def draw(temperatures: NDArray[np.float64], ratios: Dict[int, Estimate], densities: Dict[int, Estimate]) -> None:
-    figure, panels = plt.subplots(1, 2, figsize=(8, 3.2), layout="constrained")
+    figure, panels = plt.subplots(1, 2, figsize=(6.4, 2.7), layout="constrained")
     for size, (value, error) in ratios.items():
         panels[0].errorbar(temperatures, value, error, marker="o", markersize=2, linewidth=0.8, label=f"L = {size}")
     panels[0].axvspan(TRANSITION - ITS_ERROR, TRANSITION + ITS_ERROR, alpha=0.3)
@@ -100,4 +126,4 @@ def draw(temperatures: NDArray[np.float64], ratios: Dict[int, Estimate], densiti
 
 
 if __name__ == "__main__":
-    sys.exit(main())
+    sys.exit(main(sys.argv[1:]))
