@@ -4,7 +4,6 @@ ghost use Rattle.std.specs.Prelude.{◌≡◌, IfOk};
 ghost use Rattle.plane_sweep.specs.Packed.{StandsFor, StandFits};
 ghost use Rattle.scalar_rule.specs.Opening as model;
 
-use crate::room::copied_replica;
 use glass_edges::NoMemory;
 use plane_sweep::{Replica, Stand};
 use scalar_rule::{Plan, Start};
@@ -43,6 +42,6 @@ pub fn open_aging(alloc: Global, plan: &Plan, start: Start) -> Result<Aging, NoM
 {
     let stand = Stand::opening(alloc, plan, start)?;
     let _ = plan.slots();
-    let kept = copied_replica(alloc, &stand.slots.at(0).first)?;
+    let kept = stand.slots.at(0).first.copy(alloc)?;
     Ok(Aging { stand, kept })
 }

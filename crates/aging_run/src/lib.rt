@@ -6,7 +6,6 @@ mod aging;
 mod keeping;
 mod laws;
 mod lines;
-mod room;
 #[cfg(test)]
 mod tests;
 mod writing;

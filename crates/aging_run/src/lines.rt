@@ -5,12 +5,11 @@ ghost use Rattle.glass_edges.specs.Causes.{HasCause};
 ghost use Rattle.glass_edges.specs.Contents.{appended, AppendsPrefix, PutsFront};
 ghost use Rattle.aging_run.specs.Aging as lines;
 ghost use Rattle.aging_run.specs.Measuring.{overlap_in};
-ghost use Rattle.report_text.specs.Lines.{kind_text};
 
 use glass_edges::{Fault, Line, Sink, put_all};
 use multispin_word::Planes;
+use report_text::kind_word;
 use scalar_rule::Plan;
-use threshold_table::RuleKind;
 
 /// Puts the first line, of a run whose spins are kept after `wait` sweeps.
 pub(crate) fn write_header<O: Sink>(
@@ -43,22 +42,10 @@ fn fill_header(line: &mut Line, plan: &Plan, samples: u32, wait: u64)
     line.add(b" samples=");
     line.number(samples as u64);
     line.add(b" rule=");
-    add_rule(line, plan);
+    line.add(kind_word(plan.rules().kind()));
     line.add(b" tw=");
     line.number(wait);
     line.add(b"\n");
-}
-
-// Adds the word of the plan's dynamics.
-fn add_rule(line: &mut Line, plan: &Plan)
-    requires { length line.old + 10 ≤ 256 }
-    ensures text { line.new ≡ line.old ++ kind_text plan.now.rules.kind }
-    ensures short { length line.new ≤ length line.old + 10 }
-{
-    match plan.rules().kind() {
-        RuleKind::Heat => line.add(b"heat"),
-        RuleKind::Metropolis => line.add(b"metropolis"),
-    }
 }
 
 /// Adds the line of one sample in a replica at a time, from its agreeing sites, behind a text that is

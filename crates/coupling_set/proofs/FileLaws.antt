@@ -20,7 +20,8 @@ use Rattle.spin_model.specs.Words.{is_set}
 use Rattle.spin_model.proofs.Tables.{length-table, get_or-table, table-same, table-of_items}
 use Rattle.multispin_word.proofs.Bits.{is_set-zero}
 use Rattle.coupling_set.specs.declared.refused.CouplingsRefused.{CouplingsRefused}
-use Rattle.coupling_set.specs.CouplingsFile.{magic, sample_bytes, coupling_byte, coupling_bytes, body_with, file_with, file_bytes, file_length, size_in, samples_in, body_in, digest_in, byte_at, of_file, short, other_kind, other_size, other_samples, other_length, damaged, file_refusal, IsFileOf}
+use Rattle.glass_edges.specs.Sealed.{body_of, digest_of}
+use Rattle.coupling_set.specs.CouplingsFile.{magic, sample_bytes, coupling_byte, coupling_bytes, body_with, file_with, file_bytes, file_length, size_in, samples_in, byte_at, of_file, short, other_kind, other_size, other_samples, other_length, damaged, file_refusal, IsFileOf}
 use Rattle.coupling_set.proofs.BondsAsWords.{word-of_bits, is_set-word_of, word_of-same}
 use Rattle.coupling_set.proofs.FileBytes.{bond_count-bytes, sample_bytes-positive}
 
@@ -33,7 +34,7 @@ pub record HasForm (l : ℕ) (bytes : List ℕ) : Type 0 where
   pub some : 1 ≤ samples_in bytes
   pub few : samples_in bytes ≤ 256
   pub len : length bytes ≡ file_length l (samples_in bytes)
-  pub digest : digest_in bytes ≡ sha256 (body_in bytes)
+  pub digest : digest_of bytes ≡ sha256 (body_of bytes)
 
 both-none : {E : Type 0} (a b : Option E) → None ≡ or_else a b → (None ≡ a) × (None ≡ b)
 both-none None b e = (refl, e)
@@ -89,7 +90,7 @@ refusal-form l bytes none =
       some = true-le 1 (samples_in bytes) samples.0;
       few = true-le (samples_in bytes) 256 samples.1;
       len = eqb-true _ _ (passed _ _ e.0);
-      digest = is-same (digest_in bytes) (sha256 (body_in bytes)) (passed _ _ e.1);
+      digest = is-same (digest_of bytes) (sha256 (body_of bytes)) (passed _ _ e.1);
     }
 
 pub form-refusal : (l : ℕ) (bytes : List ℕ) → HasForm l bytes → None ≡ file_refusal l bytes
@@ -103,7 +104,7 @@ form-refusal l bytes form =
       le-true 1 (samples_in bytes) form.some,
       le-true (samples_in bytes) 256 form.few,
       eq-true (length bytes) (file_length l (samples_in bytes)) form.len,
-      same-text (digest_in bytes) (sha256 (body_in bytes)) form.digest,
+      same-text (digest_of bytes) (sha256 (body_of bytes)) form.digest,
     ) refl
 
 -- ---- the parts
@@ -212,7 +213,7 @@ form-file l bytes lawful fits form =
     let n = samples_in bytes in
     let count = n * sample_bytes l in
     let stored = coupling_bytes l n (of_file l bytes) in
-    let d = digest_in bytes in
+    let d = digest_of bytes in
     let parts : InParts bytes magic (big_bytes 4 l) (big_bytes 4 n) (drop 16 bytes) = record {
       kind = form.kind;
       size = sym (ap (big_bytes 4) (sym form.size) ∙ word-back bytes 8 fits (omega (arith, form.len)));
@@ -225,9 +226,9 @@ form-file l bytes lawful fits form =
     ∙ same-joined _ _ _ _ (stored-all l bytes lawful fits form) behind in
     let whole : bytes ≡ body_with l n stored ++ d = parts-joined bytes _ _ _ _ parts
     ∙ ap (λ x. magic ++ (big_bytes 4 l ++ (big_bytes 4 n ++ x))) rest ∙ grouped magic (big_bytes 4 l) (big_bytes 4 n) stored d in
-    let digest : length d ≡ 32 = ap length form.digest ∙ length-sha256 (body_in bytes) in
+    let digest : length d ≡ 32 = ap length form.digest ∙ length-sha256 (body_of bytes) in
     let long : length (body_with l n stored) ≡ length bytes - 32 = omega (arith, ap length whole, length-append (body_with l n stored) d, digest) in
-    let body : body_in bytes ≡ body_with l n stored = ap (take (length bytes - 32)) whole ∙ take_at (body_with l n stored) d (length bytes - 32) long in
+    let body : body_of bytes ≡ body_with l n stored = ap (take (length bytes - 32)) whole ∙ take_at (body_with l n stored) d (length bytes - 32) long in
     whole ∙ ap (λ x. body_with l n stored ++ x) (form.digest ∙ ap sha256 body)
 
 -- ---- a file is read as what it was written from
@@ -243,8 +244,8 @@ length-body l n stored =
 pub record IsWhole (l n : ℕ) (stored bytes : List ℕ) : Type 0 where
   pub parts : InParts bytes magic (big_bytes 4 l) (big_bytes 4 n) (stored ++ sha256 (body_with l n stored))
   pub len : length bytes ≡ 48 + length stored
-  pub body : body_in bytes ≡ body_with l n stored
-  pub digest : digest_in bytes ≡ sha256 (body_with l n stored)
+  pub body : body_of bytes ≡ body_with l n stored
+  pub digest : digest_of bytes ≡ sha256 (body_with l n stored)
 
 whole-of : (l n : ℕ) (stored bytes : List ℕ) → bytes ≡ file_with l n stored → IsWhole l n stored bytes
 unfolding file_with

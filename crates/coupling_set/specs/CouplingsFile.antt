@@ -6,6 +6,7 @@ use Rattle.std.specs.Str.{bytes_eq}
 use Rattle.byteorder.specs.Endian.{big_bytes}
 use Rattle.sha2.specs.Sha256.{sha256}
 use Rattle.glass_edges.specs.Refusals.{or_else, unless}
+use Rattle.glass_edges.specs.Sealed.{body_of, digest_of}
 use Rattle.spin_model.specs.Couplings.{Bonds, plus}
 use Rattle.spin_model.specs.Lattice.{bond_count, IsLawfulSize}
 use Rattle.spin_model.specs.Steps.{table}
@@ -61,13 +62,6 @@ size_in bytes = from_be_bytes w32 (take 4 (drop 8 bytes))
 abbrev pub samples_in : List ℕ → ℕ
 samples_in bytes = from_be_bytes w32 (take 4 (drop 12 bytes))
 
--- all before the digest, and the digest
-abbrev pub body_in : List ℕ → List ℕ
-body_in bytes = take (length bytes - 32) bytes
-
-abbrev pub digest_in : List ℕ → List ℕ
-digest_in bytes = drop (length bytes - 32) bytes
-
 -- byte k of a sample, and 0 where the file hasn't the sample
 unfoldable pub byte_at : ℕ → List ℕ → ℕ → ℕ → ℕ
 byte_at l bytes b k = if nat_lt b (samples_in bytes) then slice_index bytes (16 + b * sample_bytes l + k) else 0
@@ -108,8 +102,8 @@ other_length l bytes =
 -- another digest than that of the bytes before
 unfoldable pub damaged : List ℕ → Option CouplingsRefused
 damaged bytes =
-    if bytes_eq (digest_in bytes) (sha256 (body_in bytes)) then None
-    else Some (refused.Digest (digest_in bytes) (sha256 (body_in bytes)))
+    if bytes_eq (digest_of bytes) (sha256 (body_of bytes)) then None
+    else Some (refused.Digest (digest_of bytes) (sha256 (body_of bytes)))
 
 -- the tests in their order
 unfoldable pub file_refusal : ℕ → List ℕ → Option CouplingsRefused

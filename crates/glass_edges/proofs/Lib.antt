@@ -3,4 +3,5 @@ pub mod FirstRefusals
 pub mod Firsts
 pub mod KnownBytes
 pub mod Maps
+pub mod Numerals
 pub mod Puts

@@ -1,5 +1,5 @@
 -- What an output has taken and what a store of named files holds, as far as they are observable.
-use Rattle.std.specs.Prelude.{◌≡◌, ℕ, ◌≤◌, List, ◌++◌, length, take, Option, Some, None, option_map}
+use Rattle.std.specs.Prelude.{◌≡◌, ℕ, ◌<◌, ◌≤◌, List, ◌++◌, length, take, slice_index, Option, Some, None, option_map}
 use Rattle.std.specs.Ordering.{nat_cmp}
 use Rattle.std.specs.Cmp.Lexicographic.{slice_cmp}
 use Rattle.std.specs.FinMap as map
@@ -21,6 +21,11 @@ pub record PutsFront (before now : Option (List ℕ)) (text rest : List ℕ) : T
   pub front : List ℕ
   pub whole : text ≡ front ++ rest
   pub same : now ≡ appended before front
+
+-- where an index can give only such bytes, they are those of a text
+pub record TellsBytes (gives : ℕ → ℕ → Type 0) (count : ℕ) (text : List ℕ) : Type 0 where
+  pub sized : length text ≡ count
+  pub each : (k byte : ℕ) → k < count → gives k byte → byte ≡ slice_index text k
 
 -- ---- stores of named files
 

@@ -1,8 +1,10 @@
 pub mod Causes
 pub mod Contents
+pub mod Decimal
 pub mod Entries
 pub mod FileBytes
 pub mod MemoryOutput
 pub mod MemoryStore
 pub mod Refusals
+pub mod Sealed
 pub mod StoreView

@@ -4,6 +4,7 @@
 //! and files, and the fixed buffer in which every line of text is made.
 #![tactic(auto)]
 
+mod decimal;
 mod entries;
 mod file_bytes;
 mod file_shelf;
@@ -23,6 +24,7 @@ mod stream_sink;
 #[cfg(test)]
 mod tests;
 
+pub use decimal::{is_numeral, value_of};
 pub use file_shelf::FileShelf;
 pub use first_refusal::first_found_is_first;
 pub use gate::{Gate, OpenGate};

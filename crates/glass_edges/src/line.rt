@@ -1,9 +1,9 @@
 //! The buffer in which a line of text is made.
 
-ghost use Rattle.std.specs.Prelude.{◌≡◌, ◌+◌, ◌≤◌, ◌↔◌, IsTrue, [], ◌++◌, length, decimal, Ok, OnOk, OnErr};
+ghost use Rattle.std.specs.Prelude.{◌≡◌, ℕ, ◌+◌, ◌<◌, ◌≤◌, ◌↔◌, IsTrue, List, [], ◌++◌, length, decimal, Ok, OnOk, OnErr};
 ghost use Rattle.std.specs.Fmt.{signed_decimal};
 ghost use Rattle.glass_edges.specs.Causes.{HasCause};
-ghost use Rattle.glass_edges.specs.Contents.{appended, AppendsPrefix, PutsFront};
+ghost use Rattle.glass_edges.specs.Contents.{appended, AppendsPrefix, PutsFront, TellsBytes};
 
 use crate::{Fault, Sink, put_all};
 use std::marker::Model;
@@ -142,6 +142,28 @@ impl Line {
             let count = (bytes.len() - at).min(256 - self.len());
             self.add(&bytes[at..at + count]);
             at += count;
+        }
+        Ok(())
+    }
+
+    /// Adds `count` bytes, each as its index tells it; what does not fit goes out in full buffers,
+    /// and the rest stays.
+    pub fn extend_by<O: Sink, F: Fn(usize) -> u8>(
+        &mut self,
+        out: &mut O,
+        count: usize,
+        byte_at: F,
+    ) -> Result<(), Fault>
+        requires { (k : ℕ) → k < count → F.pre byte_at k }
+        ensures front { (text : List ℕ) → TellsBytes (F.post byte_at) count text
+            → OnOk result (PutsFront (O.taken out.old) (O.taken out.new) (self.old ++ text) self.new) }
+        ensures prefix { (text : List ℕ) → TellsBytes (F.post byte_at) count text
+            → OnErr result (AppendsPrefix (O.taken out.old) (O.taken out.new) (self.old ++ text)) }
+        ensures cause { HasCause (O.faults out.old) (O.faults out.new) result }
+    {
+        'bytes: for k in 0..count {
+            self.make_room(out, 1)?;
+            self.add(&[byte_at(k)]);
         }
         Ok(())
     }

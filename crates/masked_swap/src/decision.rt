@@ -7,6 +7,7 @@ ghost use Rattle.spin_model.specs.Stream.{advanced, draw};
 
 use multispin_word::{Planes, with_bit};
 use pr_generator::Wheel;
+use scalar_rule::is_swapped;
 use threshold_table::SwapTable;
 
 /// The samples in which the configurations of pair `pair` swap, from the unsatisfied bonds of its
@@ -36,13 +37,4 @@ pub fn decide(
         mask = with_bit(mask, b as u32, swap);
     }
     mask
-}
-
-// Whether one sample swaps, from its unsatisfied bonds in the colder and the hotter slot.
-#[inline]
-fn is_swapped(table: &SwapTable, pair: u32, draw: u32, cold: u32, hot: u32) -> bool
-    requires { pair < length table.now }
-    ensures { result ≡ model.is_swapped table.now pair draw cold hot }
-{
-    cold >= hot || (draw as u64) < table.threshold(pair, (hot - cold - 1) / 2)
 }

@@ -1,15 +1,8 @@
 -- Bits of words and numbers in bit planes, one sample at a time
 -- (docs/specification/bit_planes.md).
-use Rattle.std.specs.Prelude.{ℕ, zero, suc, ◌+◌, ◌*◌, ◌^◌, ◌==◌, Bool, true, false, not, if◌then◌else◌, List, length, slice_index}
+use Rattle.std.specs.Prelude.{ℕ, zero, suc, ◌+◌, ◌*◌, ◌^◌, Bool, true, false, not, List, length, slice_index}
 use Rattle.std.specs.Int.{bit_at}
-
--- whether bit b of a word is set; bit 0 is the lowest
-abbrev pub is_set : ℕ → ℕ → Bool
-is_set word b = bit_at word b == 1
-
--- 1 where the test holds, else 0
-abbrev pub one_if : Bool → ℕ
-one_if t = if t then 1 else 0
+pub use Rattle.spin_model.specs.Words.{is_set, one_if}
 
 -- whether exactly one of the two holds
 abbrev pub differs : Bool → Bool → Bool

@@ -198,11 +198,9 @@ fn put_digits<O: Sink>(
         (line.old ++ colour_digits potts.now.couplings.size (state_of potts.now sample))) }
     ensures cause { HasCause (O.faults out.old) (O.faults out.new) result }
 {
-    'digits: for site in 0..potts.sites() {
-        line.make_room(out, 1)?;
-        line.add(&[digit(potts, sample, site)]);
-    }
-    Ok(())
+    line.extend_by(out, potts.sites() as usize, |site| {
+        digit(potts, sample, site as u32)
+    })
 }
 
 // The digit of a sample's colour at a site.

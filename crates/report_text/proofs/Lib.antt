@@ -1,1 +1,2 @@
+pub mod DigitsTold
 mod SpinsOf

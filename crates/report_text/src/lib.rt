@@ -9,6 +9,6 @@ mod summary_lines;
 mod tests;
 
 pub use digits::spin_digit;
-pub use lines::{add_row, end, header, row};
+pub use lines::{add_row, end, header, kind_word, row};
 pub use spin_line::spins;
 pub use summary_lines::{slot_line, summary_header};

@@ -45,7 +45,7 @@ fn add_header(line: &mut Line, plan: &Plan, samples: u32, from: u64, to: u64)
     line.add(b" samples=");
     line.number(samples as u64);
     line.add(b" rule=");
-    add_rule(line, plan);
+    line.add(kind_word(plan.rules().kind()));
     line.add(b" from=");
     line.number(from);
     line.add(b" to=");
@@ -53,15 +53,14 @@ fn add_header(line: &mut Line, plan: &Plan, samples: u32, from: u64, to: u64)
     line.add(b"\n");
 }
 
-// Adds the word of the plan's dynamics.
-fn add_rule(line: &mut Line, plan: &Plan)
-    requires { length line.old + 10 ≤ 256 }
-    ensures text { line.new ≡ line.old ++ kind_text plan.now.rules.kind }
-    ensures short { length line.new ≤ length line.old + 10 }
+/// The word of the dynamics, of at most ten bytes, as run files and reports have it.
+pub fn kind_word(kind: RuleKind) -> &'static [u8]
+    ensures word { result.now ≡ kind_text kind }
+    ensures short { length result.now ≤ 10 }
 {
-    match plan.rules().kind() {
-        RuleKind::Heat => line.add(b"heat"),
-        RuleKind::Metropolis => line.add(b"metropolis"),
+    match kind {
+        RuleKind::Heat => b"heat",
+        RuleKind::Metropolis => b"metropolis",
     }
 }
 

@@ -78,11 +78,9 @@ fn put_digits<O: Sink>(
         (line.old ++ spin_digits lattice.now (spins_of lattice.now b replica.now.planes))) }
     ensures cause { HasCause (O.faults out.old) (O.faults out.new) result }
 {
-    'digits: for k in 0..lattice.sites() / 4 {
-        line.make_room(out, 1)?;
-        line.add(&[four_spins(replica, lattice, 4 * k, b)]);
-    }
-    Ok(())
+    line.extend_by(out, lattice.sites() as usize / 4, |k| {
+        four_spins(replica, lattice, 4 * k as u32, b)
+    })
 }
 
 // The digit of the four sites from a site on.

@@ -1,6 +1,7 @@
 -- What the bytes of a checkpoint say, part by part at its place.
-use Rattle.std.specs.Prelude.{ℕ, ◌-◌, ◌*◌, List, map, length, take, drop}
+use Rattle.std.specs.Prelude.{ℕ, ◌-◌, ◌*◌, List, map, take, drop}
 use Rattle.byteorder.specs.Endian.{big_number}
+pub use Rattle.glass_edges.specs.Sealed.{body_of, digest_of}
 use Rattle.spin_model.specs.Lattice.{half_plane}
 use Rattle.spin_model.specs.Steps.{table}
 use Rattle.scalar_rule.specs.Plan.{Plan, slots_of}
@@ -57,13 +58,6 @@ pairs_in l n bytes = items_at pair_in 488 (n - 1) (drop (slot_len l * n) bytes)
 -- the slots of each sample
 abbrev pub parts_in : ℕ → ℕ → List ℕ → ℕ → List PlainSlot
 parts_in l n bytes b = map (part_slot l b) (slots_in l n bytes)
-
--- all but the digest, and the digest
-abbrev pub body_of : List ℕ → List ℕ
-body_of bytes = take (length bytes - 32) bytes
-
-abbrev pub digest_of : List ℕ → List ℕ
-digest_of bytes = drop (length bytes - 32) bytes
 
 -- the packed state of the bytes behind the header
 unfoldable pub stand_in : Plan → List ℕ → Stand

@@ -7,7 +7,7 @@ ghost use Rattle.glass_edges.specs.Refusals.{first_found};
 ghost use Rattle.run_plan.specs.RunFile as model;
 
 use crate::key::{Key, is_key, keys};
-use crate::limits::MOST_SAMPLES;
+use crate::limits::{LAST_EPOCH, MOST_SAMPLES, MOST_SWEEPS};
 use crate::refused::PlanRefused;
 use toml::{Table, Value};
 
@@ -117,11 +117,11 @@ fn refuse_value(key: Key, value: &Value) -> Option<PlanRefused>
         Key::Rules => name(key, value),
         Key::Swaps => name(key, value),
         Key::Couplings => source(key, value),
-        Key::Sweeps => integer(key, value, 1, 1_000_000),
+        Key::Sweeps => integer(key, value, 1, MOST_SWEEPS as i64),
         Key::Seed => integer(key, value, 0, i64::MAX),
         Key::Samples => integer(key, value, 1, MOST_SAMPLES as i64),
-        Key::Epochs => integer(key, value, 0, 1_000_000_000),
-        Key::Every => integer(key, value, 1, 1_000_000_000),
+        Key::Epochs => integer(key, value, 0, LAST_EPOCH as i64),
+        Key::Every => integer(key, value, 1, LAST_EPOCH as i64),
         Key::Start => word(key, value, "up", "random"),
         Key::Spins => boolean(key, value),
     }

@@ -12,7 +12,8 @@ use Rattle.sample_average.specs.declared.header.Rule.{Rule}
 use Rattle.sample_average.specs.declared.header.Rule.TheVariants as rules_of
 use Rattle.sample_average.specs.declared.row.Row.{Row}
 use Rattle.sample_average.specs.LawfulReport.{IsInRange, IsLawfulHeader, sites, rule_text, header_line, row_line}
-use Rattle.sample_average.specs.LineReading.{◌>>=◌, after, is_digit, number_at, negative, signed_at, rule_at, counts_at, span_at, header_at, row_at}
+use Rattle.std.specs.Char.{is_ascii_digit}
+use Rattle.sample_average.specs.LineReading.{◌>>=◌, after, number_at, negative, signed_at, rule_at, counts_at, span_at, header_at, row_at}
 use Rattle.sample_average.proofs.Numerals.{number-again, number-takes, decimal-digits}
 
 -- ---- one step after another
@@ -38,17 +39,17 @@ after-takes text bytes rest is =
 
 -- ---- numbers with a sign
 
-first-digit : (ds : List ℕ) → list_all is_digit ds ≡ true → 0 < length ds → (get_or ds 0 0 == 45) ≡ false
+first-digit : (ds : List ℕ) → list_all is_ascii_digit ds ≡ true → 0 < length ds → (get_or ds 0 0 == 45) ≡ false
 first-digit [] all some = absurd (omega (arith, some))
 first-digit (d ∷ ds) all some =
-    let p = and_parts (is_digit d) (list_all is_digit ds) all in
+    let p = and_parts (is_ascii_digit d) (list_all is_ascii_digit ds) all in
     let q : 48 ≤ d = leb-true 48 d (and_parts (nat_le 48 d) (nat_le d 57) p.0).0 in
     ne_eqb d 45 (λ e. omega (arith, e, q))
 
 some-test : (n : ℕ) → (suc n == 0) ≡ false
 some-test n = ne_eqb (suc n) 0 (λ e. omega (arith, e))
 
-pub signed-again : (most end : ℕ) (z : ℤ) (rest : List ℕ) → unsigned_abs z ≤ most → unsigned_abs z < 10 ^ 10 → is_digit end ≡ false → signed_at most end (signed_decimal z ++ end ∷ rest) ≡ Some (z, rest)
+pub signed-again : (most end : ℕ) (z : ℤ) (rest : List ℕ) → unsigned_abs z ≤ most → unsigned_abs z < 10 ^ 10 → is_ascii_digit end ≡ false → signed_at most end (signed_decimal z ++ end ∷ rest) ≡ Some (z, rest)
 unfolding signed_at
 signed-again most end (pos n) rest few small stop =
     let big : n < 2 ^ 64 = omega (arith, small) in

@@ -12,7 +12,7 @@ use Rattle.sample_average.specs.declared.header.Rule.{Rule}
 use Rattle.sample_average.specs.declared.header.Rule.TheVariants as rules_of
 use Rattle.sample_average.specs.declared.row.Row.{Row}
 use Rattle.sample_average.specs.LawfulReport.{lines, onto_first, row_line, end_line, header_line, spin_line, spin_head, rule_text, IsLawfulHeader, is_hex}
-use Rattle.sample_average.specs.LineReading.{is_digit}
+use Rattle.std.specs.Char.{is_ascii_digit}
 use Rattle.sample_average.proofs.Numerals.{decimal-digits}
 
 -- a byte that ends no line
@@ -57,10 +57,10 @@ concat-lines (b ∷ bytes) = concat-step b bytes (b == 10) refl (concat-lines by
 
 -- ---- printed numbers are within a line
 
-inner-digits : (ds : List ℕ) → list_all is_digit ds ≡ true → list_all is_inner ds ≡ true
+inner-digits : (ds : List ℕ) → list_all is_ascii_digit ds ≡ true → list_all is_inner ds ≡ true
 inner-digits [] all = refl
 inner-digits (d ∷ ds) all =
-    let p = and_parts (is_digit d) (list_all is_digit ds) all in
+    let p = and_parts (is_ascii_digit d) (list_all is_ascii_digit ds) all in
     let q : 48 ≤ d = leb-true 48 d (and_parts _ _ p.0).0 in
     and_from _ _ (not_from_false _ (ne_eqb d 10 (λ e. omega (arith, e, q)))) (inner-digits ds p.1)
 

@@ -1,13 +1,16 @@
 -- Numbers as they are printed, and read again.
-use Rattle.std.proofs.Common.{rules, arith, ◌≡◌, ℕ, zero, suc, ◌+◌, ◌-◌, ◌*◌, ◌<◌, ◌≤◌, ◌^◌, ◌⊎◌, inl, inr, Bool, true, false, cond, not, ◌&&◌, ◌||◌, List, [], ◌∷◌, ◌++◌, length, take, drop, get_or, refl, sym, ap, subst, ◌∙◌, append_assoc, length-append}
+use Rattle.std.proofs.Common.{arith, ◌≡◌, ℕ, zero, suc, ◌+◌, ◌-◌, ◌*◌, ◌<◌, ◌≤◌, ◌^◌, ◌⊎◌, inl, inr, Bool, true, false, cond, not, ◌&&◌, ◌||◌, List, [], ◌∷◌, ◌++◌, length, take, drop, get_or, refl, sym, ap, subst, ◌∙◌, append_assoc, length-append}
 use Rattle.std.specs.Prelude.{Some, None, nat_le, nat_lt, ◌==◌, slice_index, decimal}
-use Rattle.std.specs.List.{list_all, prefix_len, fold}
+use Rattle.std.specs.Char.{is_ascii_digit}
+use Rattle.std.specs.List.{list_all, prefix_len}
 use Rattle.std.proofs.lemmas.Bool.{le-leb, lt-ltb, eq-eqb, eqb-true, leb-true, ltb-true}
 use Rattle.std.proofs.lemmas.Bool.Decides.{nat_tests}
 use Rattle.std.proofs.lemmas.Fmt.{digits_decimal, digits_value-decimal, length-decimal-le, first_decimal, decimal_digit, decimal_nonempty, decimal-digits_value}
 use Rattle.std.proofs.lemmas.List.{get_or_append_left, take_at, drop_at, get_or_at, get_or-take, length_push, take-append-drop, drop_more, length-take-le}
-use Rattle.std.proofs.lemmas.Str.Parse.{IsNumeralModel, numerals_by_fold, digits_value_short}
-use Rattle.sample_average.specs.LineReading.{is_digit, is_plain, digits_in, value_of, number_at}
+use Rattle.std.proofs.lemmas.Str.Parse.{digits_value_short}
+use Rattle.glass_edges.specs.Decimal.{value_of}
+use Rattle.glass_edges.proofs.Numerals.{numerals}
+use Rattle.sample_average.specs.LineReading.{is_plain, digits_in, number_at}
 
 -- what stands in front is what passes
 passes-step : (p : ℕ → Bool) (x : ℕ) (xs : List ℕ) (b : Bool) → p x ≡ b → list_all p (take (prefix_len p xs) xs) ≡ true → list_all p (take (cond b (1 + prefix_len p xs) 0) (x ∷ xs)) ≡ true
@@ -27,11 +30,8 @@ pub prefix-stops : (p : ℕ → Bool) (xs : List ℕ) (y : ℕ) (ys : List ℕ) 
 prefix-stops p [] y ys all stop = rw stop refl
 prefix-stops p (x ∷ xs) y ys all stop = stops-step p (prefix_len p (xs ++ y ∷ ys)) (length xs) (p x) (list_all p xs) all (λ rest. prefix-stops p xs y ys rest stop)
 
-own : IsNumeralModel (λ ds. list_all is_digit ds ≡ true) value_of
-own = numerals_by_fold _ (search rules) (λ n ds. fold (λ n b. n * 10 + (b - 48)) n ds) (search rules)
-
-pub decimal-digits : (n : ℕ) → n < 2 ^ 64 → list_all is_digit (decimal n) ≡ true
-decimal-digits n small = digits_decimal own n small
+pub decimal-digits : (n : ℕ) → n < 2 ^ 64 → list_all is_ascii_digit (decimal n) ≡ true
+decimal-digits n small = digits_decimal numerals n small
 
 short-or-more : (n : ℕ) → n < 2 ^ 64 → (length (decimal n) ≡ 1) ⊎ (48 < get_or (decimal n) 0 0)
 short-or-more zero small = inl (ap length (decimal_digit 0 (omega arith)))
@@ -69,16 +69,16 @@ unfolding number_at
 number-of-count most end count bytes e = ap (λ (k : ℕ). cond (is_plain bytes k && nat_lt k (length bytes) && slice_index bytes k == end && nat_le (value_of (take k bytes)) most)
     (Some (value_of (take k bytes), drop (k + 1) bytes)) None) e
 
-pub number-again : (most end n : ℕ) (rest : List ℕ) → n ≤ most → n < 10 ^ 10 → is_digit end ≡ false → number_at most end (decimal n ++ end ∷ rest) ≡ Some (n, rest)
+pub number-again : (most end n : ℕ) (rest : List ℕ) → n ≤ most → n < 10 ^ 10 → is_ascii_digit end ≡ false → number_at most end (decimal n ++ end ∷ rest) ≡ Some (n, rest)
 number-again most end n rest few small stop =
     let big : n < 2 ^ 64 = omega arith in
     let count = length (decimal n) in
     let front : take count (decimal n ++ end ∷ rest) ≡ decimal n = take_at (decimal n) (end ∷ rest) count refl in
-    let value : value_of (take count (decimal n ++ end ∷ rest)) ≡ n = ap value_of front ∙ digits_value-decimal own n big in
+    let value : value_of (take count (decimal n ++ end ∷ rest)) ≡ n = ap value_of front ∙ digits_value-decimal numerals n big in
     let long : count < length (decimal n ++ end ∷ rest) = omega (arith, length-append (decimal n) (end ∷ rest)) in
     let next : get_or (decimal n ++ end ∷ rest) count 0 ≡ end = get_or_at (decimal n) end rest 0 count refl in
     let behind : drop (count + 1) (decimal n ++ end ∷ rest) ≡ rest = ap (λ (xs : List ℕ). drop (count + 1) xs) (sym (append_assoc (decimal n) (end ∷ []) rest)) ∙ drop_at (decimal n ++ end ∷ []) rest (count + 1) (length_push (decimal n) end) in
-    number-of-count most end count (decimal n ++ end ∷ rest) (prefix-stops is_digit (decimal n) end rest (decimal-digits n big) stop)
+    number-of-count most end count (decimal n ++ end ∷ rest) (prefix-stops is_ascii_digit (decimal n) end rest (decimal-digits n big) stop)
     ∙ all-four _ _ _ _ _ _ (plain-decimal n (end ∷ rest) small) (lt-ltb _ _ long) (eq-eqb _ _ next) (le-leb _ _ (rw value few))
     (ap (λ (k : ℕ). (k, drop (count + 1) (decimal n ++ end ∷ rest))) value ∙ ap (λ (xs : List ℕ). (n, xs)) behind)
 
@@ -90,10 +90,10 @@ number-takes most end bytes x is =
     let plain = plain-parts count (get_or bytes 0 0) p.0 in
     let long : count < length bytes = ltb-true _ _ p.1 in
     let sized : length digits ≡ count = length-take-le count bytes (omega arith) in
-    let all : list_all is_digit digits ≡ true = passes-front is_digit bytes in
-    let small : value_of digits < 10 ^ 10 = digits_value_short own digits 10 all (omega (arith, sized)) in
+    let all : list_all is_ascii_digit digits ≡ true = passes-front is_ascii_digit bytes in
+    let small : value_of digits < 10 ^ 10 = digits_value_short numerals digits 10 all (omega (arith, sized)) in
     let first : get_or digits 0 0 ≡ get_or bytes 0 0 = get_or-take count bytes 0 0 (omega arith) in
-    let printed : decimal (value_of digits) ≡ digits = decimal-digits_value own digits all (omega (arith, sized)) (λ e. sized ∙ plain.2 (sym first ∙ e)) (omega arith) in
+    let printed : decimal (value_of digits) ≡ digits = decimal-digits_value numerals digits all (omega (arith, sized)) (λ e. sized ∙ plain.2 (sym first ∙ e)) (omega arith) in
     let cut : bytes ≡ digits ++ (get_or bytes count 0 ∷ drop (count + 1) bytes) = sym (take-append-drop count bytes) ∙ ap (λ (xs : List ℕ). digits ++ xs) (drop_more bytes count 0 long) in
     let read : bytes ≡ decimal (value_of digits) ++ end ∷ drop (count + 1) bytes =
     cut ∙ ap (λ (k : ℕ). digits ++ (k ∷ drop (count + 1) bytes)) (eqb-true _ _ p.2) ∙ ap (λ (xs : List ℕ). xs ++ end ∷ drop (count + 1) bytes) (sym printed) in

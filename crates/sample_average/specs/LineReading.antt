@@ -1,6 +1,8 @@
 -- How the fields of a line are read from the bytes, and what follows them.
 use Rattle.std.specs.Prelude.{ℕ, ◌+◌, ◌*◌, ◌-◌, ℤ, pos, neg_ℤ, Bool, ◌&&◌, ◌||◌, not, nat_le, nat_lt, ◌==◌, if◌then◌else◌, List, length, take, drop, slice_index, bytes_eq, codes, Option, Some, None}
-use Rattle.std.specs.List.{fold, prefix_len}
+use Rattle.std.specs.Char.{is_ascii_digit}
+use Rattle.std.specs.List.{prefix_len}
+use Rattle.glass_edges.specs.Decimal.{value_of}
 use Rattle.sample_average.specs.LawfulReport.{sites}
 use Rattle.sample_average.specs.declared.header.Header.{Header}
 use Rattle.sample_average.specs.declared.header.Rule.{Rule}
@@ -16,20 +18,13 @@ None >>= f = None
 abbrev pub after : List ℕ → List ℕ → Option (List ℕ)
 after text bytes = if bytes_eq (take (length text) bytes) text then Some (drop (length text) bytes) else None
 
-abbrev pub is_digit : ℕ → Bool
-is_digit b = nat_le 48 b && nat_le b 57
-
 -- so many digits are a number below 10^10 as it is printed, with no zero in front
 abbrev pub is_plain : List ℕ → ℕ → Bool
 is_plain digits count = nat_le 1 count && nat_le count 10 && (count == 1 || not (slice_index digits 0 == 48))
 
 -- how many digits the bytes begin with
 abbrev pub digits_in : List ℕ → ℕ
-digits_in bytes = prefix_len is_digit bytes
-
--- the number that digits are
-abbrev pub value_of : List ℕ → ℕ
-value_of digits = fold (λ n b. n * 10 + (b - 48)) 0 digits
+digits_in bytes = prefix_len is_ascii_digit bytes
 
 -- a number that the bytes begin with, of at most so much and followed by this byte, and what comes after
 unfoldable pub number_at : ℕ → ℕ → List ℕ → Option (ℕ × List ℕ)

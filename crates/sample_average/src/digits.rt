@@ -1,8 +1,9 @@
 //! The fields of a line, each with the bytes that follow it.
 
-ghost use Rattle.std.specs.Prelude.{◌≡◌, ◌<◌, ◌≤◌, ◌^◌, option_map, length, true, IfSome};
-ghost use Rattle.std.specs.List.{list_all};
+ghost use Rattle.std.specs.Prelude.{◌≡◌, ◌<◌, ◌≤◌, ◌^◌, option_map, length, IfSome};
 ghost use Rattle.sample_average.specs.LineReading as reading;
+
+use glass_edges::value_of;
 
 /// What follows this text, where the bytes begin with it.
 pub(crate) fn after<'a>(text: &[u8], bytes: &'a [u8]) -> Option<&'a [u8]>
@@ -15,19 +16,13 @@ pub(crate) fn after<'a>(text: &[u8], bytes: &'a [u8]) -> Option<&'a [u8]>
     }
 }
 
-fn is_digit(b: u8) -> bool
-    ensures { result ≡ reading.is_digit b }
-{
-    b >= b'0' && b <= b'9'
-}
-
 // How many digits the bytes begin with.
 fn digits_in(bytes: &[u8]) -> usize
     ensures value { result ≡ reading.digits_in bytes.now }
     ensures within { result ≤ length bytes.now }
 {
     'bytes: for (i, b) in bytes.iter().enumerate() {
-        if !is_digit(*b) {
+        if !b.is_ascii_digit() {
             return i;
         }
     }
@@ -40,19 +35,6 @@ fn is_plain(bytes: &[u8], count: usize) -> bool
     ensures { result ≡ reading.is_plain bytes.now count }
 {
     1 <= count && count <= 10 && (count == 1 || bytes[0] != b'0')
-}
-
-// The value of at most ten digits.
-fn value_of(digits: &[u8]) -> u64
-    requires short { length digits.now ≤ 10 }
-    requires digits { list_all reading.is_digit digits.now ≡ true }
-    ensures { result ≡ reading.value_of digits.now }
-{
-    let mut value = 0u64;
-    'digits: for b in digits {
-        value = value * 10 + (*b - b'0') as u64;
-    }
-    value
 }
 
 /// The number that the bytes begin with, of at most `most`, followed by the byte `end`.

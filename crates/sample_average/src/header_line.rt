@@ -4,7 +4,7 @@ ghost use Rattle.std.specs.Prelude.{◌≡◌, option_map};
 ghost use Rattle.sample_average.specs.LineReading as reading;
 
 use crate::digits::{after, number_at};
-use crate::header::{Header, Rule};
+use crate::header::{Header, LAST_EPOCH, Rule};
 
 // The word of the dynamics.
 fn rule_at(bytes: &[u8]) -> Option<(Rule, &[u8])>
@@ -34,8 +34,8 @@ fn span_at(bytes: &[u8]) -> Option<((Rule, u64, u64), &[u8])>
     ensures { option_map (λ x. (x.0, x.1.now)) result ≡ reading.span_at bytes.now }
 {
     let (rule, rest) = rule_at(after(b"rule=", bytes)?)?;
-    let (from, rest) = number_at(1000000000, b' ', after(b"from=", rest)?)?;
-    let (to, rest) = number_at(1000000000, b'\n', after(b"to=", rest)?)?;
+    let (from, rest) = number_at(LAST_EPOCH, b' ', after(b"from=", rest)?)?;
+    let (to, rest) = number_at(LAST_EPOCH, b'\n', after(b"to=", rest)?)?;
     Some(((rule, from, to), rest))
 }
 

@@ -6,7 +6,7 @@ ghost use Rattle.sample_average.specs.Following as following;
 ghost use Rattle.sample_average.specs.LineReading.{header_at};
 ghost use Rattle.sample_average.specs.declared.row.Row.{Row as RowValue};
 
-use crate::header::Header;
+use crate::header::{Header, LAST_EPOCH};
 use crate::header_line::header_at;
 use crate::next_line::next_line;
 use crate::place::Place;
@@ -31,7 +31,7 @@ fn is_lawful(header: &Header) -> bool
         && header.samples >= 1
         && header.samples <= 256
         && header.from <= header.to
-        && header.to <= 1000000000
+        && header.to <= LAST_EPOCH
 }
 
 // Whether a report may end at this place.

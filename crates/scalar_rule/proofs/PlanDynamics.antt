@@ -7,7 +7,7 @@ use Rattle.scalar_rule.specs.Replica.{configuration_of, with_configuration}
 use Rattle.scalar_rule.specs.SlotRules.{dynamics_with, HasThresholds}
 use Rattle.scalar_rule.specs.Sweep.{Configuration, half_sweep, sweep, sweeps}
 use Rattle.scalar_rule.specs.declared.plain_copy.PlainCopy.{PlainCopy}
-use Rattle.scalar_rule.specs.declared.spin_rule.SlotRule.{SlotRule}
+use Rattle.threshold_table.specs.declared.rule_table.SlotRule.{SlotRule}
 use Rattle.scalar_rule.proofs.SameThresholds.{dynamics, half_sweep-same, sweep-same, sweeps-same}
 
 -- a slot's rule and a sample's couplings, read from the plan

@@ -3,7 +3,7 @@ use Rattle.std.specs.Prelude.{◌≡◌, ℕ, slice_index}
 use Rattle.spin_model.specs.Couplings.{Bonds}
 use Rattle.threshold_table.specs.Tables.{RuleView, rule_of, threshold_of}
 use Rattle.scalar_rule.specs.Sweep.{Dynamics}
-use Rattle.scalar_rule.specs.declared.spin_rule.SlotRule.{SlotRule}
+use Rattle.threshold_table.specs.declared.rule_table.SlotRule.{SlotRule}
 
 -- what the sweeps depend on, with the seven values of a row as thresholds
 abbrev pub dynamics_with : ℕ → SlotRule → Bonds → Dynamics

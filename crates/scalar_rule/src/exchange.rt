@@ -15,6 +15,7 @@ use crate::sample::{PlainPair, PlainSlot};
 use crate::sums::unsatisfied;
 use plain_list::Items;
 use pr_generator::Wheel;
+use threshold_table::SwapTable;
 
 /// The exchange of pair `pair`: slot `pair` is its colder one.
 pub(crate) fn exchange_pair(
@@ -95,7 +96,13 @@ fn exchange_copies(
     let draw = draw_of(wheel, bit);
     let colder = unsatisfied(cold, plan, bit);
     let hotter = unsatisfied(hot, plan, bit);
-    trade(cold, hot, is_swapped(plan, pair, draw, colder, hotter));
+    // A plan has one pair fewer than slots.
+    let _ = plan.slots();
+    trade(
+        cold,
+        hot,
+        is_swapped(plan.swaps(), pair, draw, colder, hotter),
+    );
 }
 
 // The sample's draw. The generator gives 64, one for each sample of the bank, whatever happens.
@@ -109,14 +116,14 @@ fn draw_of(wheel: &mut Wheel, bit: u32) -> u32
     draws[bit as usize]
 }
 
-// Whether the configurations swap, from the unsatisfied bonds of the colder and the hotter slot.
-fn is_swapped(plan: &Plan, pair: u32, draw: u32, cold: u32, hot: u32) -> bool
-    requires { pair < pairs_of plan.now }
-    ensures { result ≡ model.is_swapped plan.now.swaps pair draw cold hot }
+/// Whether the configurations of pair `pair` swap, by a draw and from the unsatisfied bonds of the
+/// colder and the hotter slot.
+#[inline]
+pub fn is_swapped(table: &SwapTable, pair: u32, draw: u32, cold: u32, hot: u32) -> bool
+    requires { pair < length table.now }
+    ensures { result ≡ model.is_swapped table.now pair draw cold hot }
 {
-    // A plan has one pair fewer than slots.
-    let _ = plan.slots();
-    cold >= hot || (draw as u64) < plan.swaps().threshold(pair, (hot - cold - 1) / 2)
+    cold >= hot || (draw as u64) < table.threshold(pair, (hot - cold - 1) / 2)
 }
 
 // The swap of two replicas: spins and labels move, generators stay.

@@ -19,6 +19,7 @@ mod sweeps;
 mod tests;
 
 pub use bonds::{Bonds, Ferromagnet};
+pub use exchange::is_swapped;
 pub use laws::{
     completed_slots_rest, energies_have_one_parity, level_end_is_serial,
     level_generators_are_serial, level_records_are_serial, level_start_is_serial,
@@ -30,5 +31,5 @@ pub use plain::{PlainOut, plain_run};
 pub use plain_copy::PlainCopy;
 pub use plan::Plan;
 pub use sample::{PlainPair, PlainSlot, Record, Sample, Start};
-pub use sums::{agreeing, unsatisfied};
+pub use sums::{agreeing, excess, unsatisfied};
 pub use sweeps::{half_sweep, sweep};

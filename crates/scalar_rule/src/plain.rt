@@ -12,14 +12,13 @@ ghost use Rattle.scalar_rule.specs.Sweep as model;
 use crate::bonds::{Bonds, Ferromagnet};
 use crate::opening::{all_up, seeded_wheels};
 use crate::plain_copy::PlainCopy;
-use crate::spin_rule::SlotRule;
 use crate::sums::energy;
 use crate::sweeps::sweep_often;
 use glass_edges::NoMemory;
 use lattice_geometry::Lattice;
 use plain_list::Items;
 use std::alloc::Global;
-use threshold_table::{RuleKind, RuleRow};
+use threshold_table::{RuleKind, RuleRow, SlotRule};
 
 /// What a plain run ends with.
 #[derive(Drop)]

@@ -9,8 +9,9 @@ ghost use Rattle.scalar_rule.specs.Replica.{configuration_of};
 
 use crate::bonds::Bonds;
 use crate::plain_copy::PlainCopy;
-use crate::spin_rule::{SlotRule, new_spin};
+use crate::spin_rule::new_spin;
 use lattice_geometry::Lattice;
+use threshold_table::SlotRule;
 
 /// The greatest number of sites of one colour in a plane.
 const PLANE: usize = 2048;

@@ -9,14 +9,7 @@ ghost use Rattle.scalar_rule.specs.Neighbours as model;
 use crate::bonds::Bonds;
 use crate::neighbours::{aligned, satisfied};
 use lattice_geometry::Lattice;
-use threshold_table::{RuleKind, RuleRow};
-
-/// The spin rule of a temperature slot, with its thresholds.
-#[derive(Clone, Copy)]
-pub(crate) struct SlotRule {
-    pub kind: RuleKind,
-    pub row: RuleRow,
-}
+use threshold_table::{RuleKind, RuleRow, SlotRule};
 
 /// The new spin of a site, by its draw.
 pub(crate) fn new_spin<B: Bonds>(

@@ -62,8 +62,8 @@ pub(crate) fn energy<B: Bonds>(lattice: &Lattice, bonds: &B, spins: &[bool]) -> 
     excess(count, 3 * lattice.sites())
 }
 
-/// Twice a part, less the whole.
-pub(crate) fn excess(part: u32, whole: u32) -> i32
+/// Twice a part, less the whole: the energy of 3V bonds from U, the overlap of V sites from Q.
+pub fn excess(part: u32, whole: u32) -> i32
     requires part { part ≤ whole }
     requires whole { whole ≤ 786432 }
     ensures { result ≡ pos (2 * part) -ℤ pos whole }

@@ -13,8 +13,8 @@ use crate::bonds::{Bonds, SampleBonds};
 use crate::plain_copy::PlainCopy;
 use crate::plan::Plan;
 use crate::planes::half_sweep_by;
-use crate::spin_rule::SlotRule;
 use lattice_geometry::Lattice;
+use threshold_table::SlotRule;
 
 /// The half sweep of a checkerboard colour in one replica of a temperature slot, in the disorder
 /// sample that is bit `bit` of its bank: the colour's sites in rising order, one draw a site. Takes

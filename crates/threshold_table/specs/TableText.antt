@@ -1,7 +1,8 @@
 -- The text of a table of thresholds: comma-separated whole numbers, a record a line, with no header line and no quoted
 -- field. This profile is the project's own. What the text says and its first refusal are told apart.
-use Rattle.std.specs.Prelude.{ℕ, ◌+◌, ◌-◌, ◌*◌, Bool, not, ◌&&◌, ◌||◌, ◌==◌, nat_le, nat_lt, if◌then◌else◌, List, length, take, drop, map, slice_index, Option, Some, None, Result}
-use Rattle.std.specs.List.{slice_split, filter, fold, prefix_len, suffix_len, list_all}
+use Rattle.std.specs.Prelude.{ℕ, ◌-◌, Bool, not, ◌&&◌, ◌||◌, ◌==◌, nat_le, nat_lt, if◌then◌else◌, List, length, take, drop, map, slice_index, Option, Some, None, Result}
+use Rattle.std.specs.List.{slice_split, filter, prefix_len, suffix_len, list_all}
+use Rattle.glass_edges.specs.Decimal.{is_numeral, value_of}
 use Rattle.glass_edges.specs.Refusals.{or_else, first_found, unless}
 use Rattle.threshold_table.specs.declared.bounds.Bounds.{Bounds}
 use Rattle.threshold_table.specs.declared.refused.TableRefused.{TableRefused}
@@ -58,21 +59,9 @@ without_back field = take (length field - suffix_len is_space field) field
 unfoldable pub trimmed : List ℕ → List ℕ
 trimmed field = without_back (without_front field)
 
--- the decimal digits are the bytes 48 to 57
-abbrev pub is_digit : ℕ → Bool
-is_digit b = nat_le 48 b && nat_le b 57
-
 -- a number is written with one to ten decimal digits
 abbrev pub is_number : List ℕ → Bool
-is_number text = nat_le 1 (length text) && nat_le (length text) 10 && list_all is_digit text
-
--- one digit more
-abbrev pub with_digit : ℕ → ℕ → ℕ
-with_digit value digit = value * 10 + (digit - 48)
-
--- the value of decimal digits
-abbrev pub value_of : List ℕ → ℕ
-value_of digits = fold with_digit 0 digits
+is_number text = is_numeral 10 text
 
 -- the number that a field says
 abbrev pub field_value : List ℕ → ℕ

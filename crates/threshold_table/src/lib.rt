@@ -15,7 +15,7 @@ mod swap_table;
 
 pub use readers::{read_rule, read_swap};
 pub use refused::TableRefused;
-pub use rule_table::{RuleKind, RuleRow, RuleTable};
+pub use rule_table::{RuleKind, RuleRow, RuleTable, SlotRule};
 pub use swap_table::SwapTable;
 
 #[cfg(test)]

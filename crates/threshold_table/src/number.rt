@@ -1,11 +1,12 @@
 //! The number in one field.
 
-ghost use Rattle.std.specs.Prelude.{◌≡◌, ◌-◌, ◌≤◌, length, IsTrue, IfOk};
-ghost use Rattle.std.specs.List.{list_all, prefix_len, suffix_len};
+ghost use Rattle.std.specs.Prelude.{◌≡◌, ◌-◌, ◌≤◌, length, IfOk};
+ghost use Rattle.std.specs.List.{prefix_len, suffix_len};
 ghost use Rattle.glass_edges.specs.Refusals.{refusal_of};
-ghost use Rattle.threshold_table.specs.TableText.{is_space, trimmed, is_digit, is_number, value_of, field_refusal, field_value};
+ghost use Rattle.threshold_table.specs.TableText.{is_space, trimmed, field_refusal, field_value};
 
 use crate::refused::TableRefused;
+use glass_edges::{is_numeral, value_of};
 
 /// The greatest threshold, which stands for the probability 1.
 const ALWAYS: u64 = 4294967296;
@@ -42,36 +43,6 @@ fn trimmed(field: &[u8]) -> &[u8]
     &front[..end_of(front)]
 }
 
-fn is_digit(b: u8) -> bool
-    ensures { result ≡ is_digit b }
-{
-    b >= b'0' && b <= b'9'
-}
-
-fn has_digits_alone(text: &[u8]) -> bool
-    ensures { result ≡ list_all is_digit text.now }
-{
-    text.iter().all(|b| is_digit(*b))
-}
-
-// Whether the text is one to ten digits.
-fn is_number(text: &[u8]) -> bool
-    ensures { result ≡ is_number text.now }
-{
-    1 <= text.len() && text.len() <= 10 && has_digits_alone(text)
-}
-
-fn value_of(digits: &[u8]) -> u64
-    requires { IsTrue (is_number digits.now) }
-    ensures { result ≡ value_of digits.now }
-{
-    let mut value = 0u64;
-    'digits: for b in digits {
-        value = value * 10 + (*b - b'0') as u64;
-    }
-    value
-}
-
 /// The number in a field of record `at`, or the field's refusal.
 #[tactic(auto, unfolding(crate::specs::TableText::field_refusal))]
 pub(crate) fn number_at(at: u64, field: u64, text: &[u8]) -> Result<u64, TableRefused>
@@ -79,7 +50,7 @@ pub(crate) fn number_at(at: u64, field: u64, text: &[u8]) -> Result<u64, TableRe
     ensures value { IfOk result (λ n. n ≡ field_value text.now) }
 {
     let digits = trimmed(text);
-    if !is_number(digits) {
+    if !is_numeral(10, digits) {
         return Err(TableRefused::Number { at, field });
     }
     let value = value_of(digits);

@@ -28,6 +28,13 @@ pub struct RuleRow {
     pub values: [u64; 7],
 }
 
+/// The spin rule of one temperature slot: the dynamics, with its thresholds.
+#[derive(Clone, Copy, Debug)]
+pub struct SlotRule {
+    pub kind: RuleKind,
+    pub row: RuleRow,
+}
+
 /// The thresholds of the spin update for 1 to 32 temperature slots, slot 0 the coldest. Contracts
 /// see the kind and for each slot the list of its seven or three thresholds.
 #[derive(Drop)]
