@@ -182,7 +182,7 @@ pub accept : (x y p q r : Bool)
 accept true y p q r = rw (differs-true y, pick-six p q) refl
 accept false y p q r = rw (differs-true y, differs-false p) refl
 
-turn-if : (s c : Bool) → differs s c ≡ (if c then not s else s)
+pub turn-if : (s c : Bool) → differs s c ≡ (if c then not s else s)
 turn-if true true = refl
 turn-if true false = refl
 turn-if false true = refl

@@ -1,5 +1,8 @@
 -- Operations on n words, lane by lane.
-use Rattle.std.proofs.Common.{◌≡◌, ℕ, ◌-◌, ◌^◌, ◌<◌, ◌&&◌, ◌||◌, nat_lt, Bool, true, false, cond, if◌then◌else◌, ltb, List, length, map, get_or, replicate, refl, sym, ap, ◌∙◌, arith, bit_xor, bit_and, bit_or, w64}
+use Rattle.std.proofs.Common.{◌≡◌, ℕ, ◌-◌, ◌^◌, ◌<◌, ◌&&◌, ◌||◌, int_lt, pos, ℤ, to_z, of_z, Bool, true, false, cond, if◌then◌else◌, List, length, map, get_or, replicate, refl, sym, ap, ◌∙◌, arith, bit_xor, bit_and, bit_or, w64}
+use mir.Val.{SFits}
+use Rattle.std.proofs.lemmas.Int.{to_z_pos, to_z-of_z}
+use Rattle.std.proofs.lemmas.List.{length-map, get_or-map}
 use lib.Lanes.{zip2, sel_l, top}
 use Rattle.std.proofs.lemmas.Simd.{tops_compared, length-zip2, length-sel_l, get_or-sel_l, get_or-zip2, length-replicate, get_or-replicate}
 use Rattle.multispin_word.specs.Planes.{differs, is_set}
@@ -81,32 +84,52 @@ chosen-at m x y i k p q r h =
     rw (at bit_xor y (zip2 bit_and m (zip2 bit_xor x y)) i r masked h, at bit_and m (zip2 bit_xor x y) i p differ h, at bit_xor x y i q r h)
     (is_set-choose (get_or m i 0) (get_or x i 0) (get_or y i 0) k)
 
--- ones where a draw is below t
+-- comparison of two words as numbers with a sign
+abbrev below : ℕ → ℕ → Bool
+below a b = int_lt (to_z w64 a) (to_z w64 b)
+
+-- ones where a draw compares as below y
 abbrev pub lower : ℕ → List ℕ → ℕ → List ℕ
-lower n d t = sel_l (map (top 63) (zip2 (λ a b. cond (ltb a b) (2 ^ 64 - 1) 0) d (replicate n t))) (all n) (none n)
+lower n d y =
+    sel_l (map (top 63) (zip2 (λ a b. cond (below a b) (2 ^ 64 - 1) 0) (map (λ a. a) d) (replicate n y))) (all n) (none n)
 
-tests-long : (n : ℕ) (d : List ℕ) (t : ℕ) → length d ≡ n → length (zip2 ltb d (replicate n t)) ≡ n
-tests-long n d t p = length-zip2 ltb d (replicate n t) (p ∙ sym (length-replicate {A = ℕ} n t)) ∙ p
+wide-long : (n : ℕ) (d : List ℕ) → length d ≡ n → length (map (λ (a : ℕ). a) d) ≡ n
+wide-long n d p = length-map d (λ (a : ℕ). a) ∙ p
 
-pub lower-long : (n : ℕ) (d : List ℕ) (t : ℕ) → length d ≡ n → length (lower n d t) ≡ n
-lower-long n d t p =
-    let ts : List ℕ = replicate n t in
-    let e = tests-long n d t p in
-    ap (λ ms. length (sel_l ms (all n) (none n))) (tops_compared w64 ltb d ts)
-    ∙ length-sel_l (zip2 ltb d ts) (all n) (none n) (e ∙ sym (all-long n)) (e ∙ sym (length-replicate {A = ℕ} n 0)) ∙ e
+tests-long : (n : ℕ) (d : List ℕ) (y : ℕ) → length d ≡ n → length (zip2 below (map (λ (a : ℕ). a) d) (replicate n y)) ≡ n
+tests-long n d y p =
+    let e = wide-long n d p in
+    length-zip2 below (map (λ (a : ℕ). a) d) (replicate n y) (e ∙ sym (length-replicate {A = ℕ} n y)) ∙ e
+
+pub lower-long : (n : ℕ) (d : List ℕ) (y : ℕ) → length d ≡ n → length (lower n d y) ≡ n
+lower-long n d y p =
+    let ys : List ℕ = replicate n y in
+    let ds : List ℕ = map (λ (a : ℕ). a) d in
+    let e = tests-long n d y p in
+    ap (λ ms. length (sel_l ms (all n) (none n))) (tops_compared w64 below ds ys)
+    ∙ length-sel_l (zip2 below ds ys) (all n) (none n) (e ∙ sym (all-long n)) (e ∙ sym (length-replicate {A = ℕ} n 0)) ∙ e
 
 ones-if : (t : Bool) (k : ℕ) → k < 64 → is_set (cond t (2 ^ 64 - 1) 0) k ≡ t
 ones-if true k h = is_set-ones k h
 ones-if false k h = is_set-zero k
 
-pub lower-at : (n : ℕ) (d : List ℕ) (t i k : ℕ) → length d ≡ n → i < n → k < 64
-    → is_set (get_or (lower n d t) i 0) k ≡ nat_lt (get_or d i 0) t
-lower-at n d t i k p h l =
-    let ts : List ℕ = replicate n t in
-    let e = tests-long n d t p in
-    let test : get_or (zip2 ltb d ts) i false ≡ ltb (get_or d i 0) t = get_or-zip2 ltb d ts i 0 0 false (omega arith) (omega (arith, length-replicate {A = ℕ} n t)) ∙ ap (ltb (get_or d i 0)) (get_or-replicate {A = ℕ} n i t 0 h) in
+-- a number below 2 ^ 32 is that number with a sign
+below-signed : (a : ℕ) (z : ℤ) → a < 2 ^ 32 → SFits w64 z → below a (of_z w64 z) ≡ int_lt (pos a) z
+below-signed a z h f = rw (to_z_pos w64 a (omega arith), to_z-of_z w64 z f) refl
+
+pub lower-at : (n : ℕ) (d : List ℕ) (z : ℤ) (i k : ℕ) → length d ≡ n → SFits w64 z → i < n → k < 64 → get_or d i 0 < 2 ^ 32
+    → is_set (get_or (lower n d (of_z w64 z)) i 0) k ≡ int_lt (pos (get_or d i 0)) z
+lower-at n d z i k p f h l few =
+    let y = of_z w64 z in
+    let ys : List ℕ = replicate n y in
+    let ds : List ℕ = map (λ (a : ℕ). a) d in
+    let e = tests-long n d y p in
+    let same : get_or ds i 0 ≡ get_or d i 0 = get_or-map (λ (a : ℕ). a) d i 0 0 (omega arith) in
+    let test : get_or (zip2 below ds ys) i false ≡ below (get_or ds i 0) y = get_or-zip2 below ds ys i 0 0 false (omega (arith, wide-long n d p)) (omega (arith, length-replicate {A = ℕ} n y)) ∙ ap (below (get_or ds i 0)) (get_or-replicate {A = ℕ} n i y 0 h) in
     let on : get_or (all n) i 0 ≡ 2 ^ 64 - 1 = get_or-replicate {A = ℕ} n i (2 ^ 64 - 1) 0 h in
     let off : get_or (none n) i 0 ≡ 0 = get_or-replicate {A = ℕ} n i 0 0 h in
-    ap (λ ms. is_set (get_or (sel_l ms (all n) (none n)) i 0) k) (tops_compared w64 ltb d ts)
-    ∙ ap (λ x. is_set x k) (get_or-sel_l (zip2 ltb d ts) (all n) (none n) i 0 (omega arith) (omega (arith, all-long n)) (omega (arith, length-replicate {A = ℕ} n 0)))
-    ∙ rw (test, on, off) (ones-if (ltb (get_or d i 0) t) k l)
+    ap (λ ms. is_set (get_or (sel_l ms (all n) (none n)) i 0) k) (tops_compared w64 below ds ys)
+    ∙ ap (λ x. is_set x k) (get_or-sel_l (zip2 below ds ys) (all n) (none n) i 0 (omega arith) (omega (arith, all-long n)) (omega (arith, length-replicate {A = ℕ} n 0)))
+    ∙ rw (test, on, off) (ones-if (below (get_or ds i 0) y) k l)
+    ∙ ap (λ a. below a y) same
+    ∙ below-signed (get_or d i 0) z few f

@@ -1,4 +1,5 @@
 pub mod Cases
 pub mod Counts
 pub mod Lanes
+pub mod RowOrder
 mod WorkedRules

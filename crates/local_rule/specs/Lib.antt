@@ -1,2 +1,3 @@
+pub mod RowOrder
 pub mod SiteBits
 pub mod TurnedCounts

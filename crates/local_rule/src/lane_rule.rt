@@ -1,13 +1,15 @@
 //! The spin rules on several sites at a time, as on one. Lane i is word i of each row, with draw i.
 
-ghost use Rattle.std.specs.Prelude.{◌≡◌, ℕ, ◌<◌, slice_index};
+ghost use Rattle.std.specs.Prelude.{◌≡◌, ℕ, ◌<◌, true, slice_index};
 ghost use Rattle.multispin_word.specs.Planes.{is_set};
 ghost use Rattle.spin_model.specs.SiteRule as rule;
+ghost use Rattle.local_rule.specs.RowOrder.{is_falling, is_rising};
 ghost use Rattle.local_rule.specs.SiteBits.{equal_count, lane_words, set_count};
 
+use crate::row_order::{is_falling, is_rising};
 use crate::vectors::{
     accepted_lanes, below_lanes, choose_lanes, count_lanes, differing_lanes, equal_lanes,
-    joined_lanes, load, widened,
+    fallen_lanes, joined_lanes, load, raised_lanes,
 };
 use threshold_table::RuleRow;
 
@@ -53,27 +55,84 @@ pub fn heat_bath_sites<const N: usize>(
         ≡ rule.heat_bath row.now.values (set_count (lane_words aligned.now i) b)
         (slice_index draws.now i) }
 {
+    let in_order = is_rising(row);
+    if in_order {
+        heat_bath_rising(draws, row, aligned)
+    } else {
+        let (draws, row, aligned) = (*draws, *row, *aligned);
+        heat_bath_any(&draws, &row, &aligned)
+    }
+}
+
+// The same by a row in order, with choices of two operations.
+#[inline(always)]
+fn heat_bath_rising<const N: usize>(
+    draws: &[u32; N],
+    row: &RuleRow,
+    aligned: &[[u64; N]; 6],
+) -> [u64; N]
+    requires { is_rising row.now.values ≡ true }
+    ensures { (i b : ℕ) → i < N → b < 64
+        → is_set (slice_index result i) b
+        ≡ rule.heat_bath row.now.values (set_count (lane_words aligned.now i) b)
+        (slice_index draws.now i) }
+{
     let cases = &row.values;
-    let draw = widened(draws);
+    let [one, two, four] = count_lanes(aligned);
+    let (ones, twos, fours) = (load(&one), load(&two), load(&four));
+    let zero_one = raised_lanes(
+        ones,
+        below_lanes(draws, cases[1]),
+        below_lanes(draws, cases[0]),
+    );
+    let two_three = raised_lanes(
+        ones,
+        below_lanes(draws, cases[3]),
+        below_lanes(draws, cases[2]),
+    );
+    let four_five = raised_lanes(
+        ones,
+        below_lanes(draws, cases[5]),
+        below_lanes(draws, cases[4]),
+    );
+    let up_to_three = raised_lanes(twos, two_three, zero_one);
+    let from_four = raised_lanes(twos, below_lanes(draws, cases[6]), four_five);
+    raised_lanes(fours, from_four, up_to_three).to_array()
+}
+
+// The same by any row. Out of line and lent copies alone, so that a loop over sites holds one body and
+// keeps in registers what it lends to that.
+#[inline(never)]
+fn heat_bath_any<const N: usize>(
+    draws: &[u32; N],
+    row: &RuleRow,
+    aligned: &[[u64; N]; 6],
+) -> [u64; N]
+    ensures { (i b : ℕ) → i < N → b < 64
+        → is_set (slice_index result i) b
+        ≡ rule.heat_bath row.now.values (set_count (lane_words aligned.now i) b)
+        (slice_index draws.now i) }
+{
+    let cases = &row.values;
     let [ones, twos, fours] = count_lanes(aligned);
     let (ones, twos) = (load(&ones), load(&twos));
     let zero_one = choose_lanes(
         ones,
-        below_lanes(draw, cases[1]),
-        below_lanes(draw, cases[0]),
+        below_lanes(draws, cases[1]),
+        below_lanes(draws, cases[0]),
     );
     let two_three = choose_lanes(
         ones,
-        below_lanes(draw, cases[3]),
-        below_lanes(draw, cases[2]),
+        below_lanes(draws, cases[3]),
+        below_lanes(draws, cases[2]),
     );
     let four_five = choose_lanes(
         ones,
-        below_lanes(draw, cases[5]),
-        below_lanes(draw, cases[4]),
+        below_lanes(draws, cases[5]),
+        below_lanes(draws, cases[4]),
     );
     let up_to_three = choose_lanes(twos, two_three, zero_one);
-    let from_four = choose_lanes(twos, below_lanes(draw, cases[6]), four_five);
+    let from_four = choose_lanes(twos, below_lanes(draws, cases[6]), four_five);
     choose_lanes(load(&fours), from_four, up_to_three).to_array()
 }
 
@@ -111,15 +170,66 @@ fn flipped_sites<const N: usize>(
         (equal_count (lane_words six.now i) (slice_index same.now i) b)
         (slice_index draws.now i) (is_set (slice_index spins.now i) b) }
 {
+    let in_order = is_falling(row);
+    if in_order {
+        flipped_falling(draws, row, six, same, spins)
+    } else {
+        let (draws, row, six, same, spins) = (*draws, *row, *six, *same, *spins);
+        flipped_any(&draws, &row, &six, &same, &spins)
+    }
+}
+
+// The same by a row in order, with choices of two operations.
+#[inline(always)]
+fn flipped_falling<const N: usize>(
+    draws: &[u32; N],
+    row: &RuleRow,
+    six: &[[u64; N]; 6],
+    same: &[u64; N],
+    spins: &[u64; N],
+) -> [u64; N]
+    requires { is_falling row.now.values ≡ true }
+    ensures { (i b : ℕ) → i < N → b < 64
+        → is_set (slice_index result i) b
+        ≡ rule.metropolis row.now.values
+        (equal_count (lane_words six.now i) (slice_index same.now i) b)
+        (slice_index draws.now i) (is_set (slice_index spins.now i) b) }
+{
     let cases = &row.values;
-    let draw = widened(draws);
+    let [one, no_two, no_four] = equal_lanes(six, same);
+    let flipped = fallen_lanes(
+        load(&one),
+        load(&no_two),
+        below_lanes(draws, cases[0]),
+        below_lanes(draws, cases[1]),
+        below_lanes(draws, cases[2]),
+    );
+    differing_lanes(load(spins), joined_lanes(load(&no_four), flipped)).to_array()
+}
+
+// The same by any row, out of line as above.
+#[inline(never)]
+fn flipped_any<const N: usize>(
+    draws: &[u32; N],
+    row: &RuleRow,
+    six: &[[u64; N]; 6],
+    same: &[u64; N],
+    spins: &[u64; N],
+) -> [u64; N]
+    ensures { (i b : ℕ) → i < N → b < 64
+        → is_set (slice_index result i) b
+        ≡ rule.metropolis row.now.values
+        (equal_count (lane_words six.now i) (slice_index same.now i) b)
+        (slice_index draws.now i) (is_set (slice_index spins.now i) b) }
+{
+    let cases = &row.values;
     let [ones, no_twos, no_fours] = equal_lanes(six, same);
     let accepted = accepted_lanes(
         load(&ones),
         load(&no_twos),
-        below_lanes(draw, cases[0]),
-        below_lanes(draw, cases[1]),
-        below_lanes(draw, cases[2]),
+        below_lanes(draws, cases[0]),
+        below_lanes(draws, cases[1]),
+        below_lanes(draws, cases[2]),
     );
     differing_lanes(load(spins), joined_lanes(load(&no_fours), accepted)).to_array()
 }

@@ -18,6 +18,20 @@ fn metropolis_row() -> RuleRow {
     }
 }
 
+/// Thresholds by heat bath that rise with the aligned neighbours.
+fn rising_row() -> RuleRow {
+    RuleRow {
+        values: [0, 100, 101, 101, 200, 4294967295, 4294967296],
+    }
+}
+
+/// Thresholds by Metropolis that fall with the satisfied bonds.
+fn falling_row() -> RuleRow {
+    RuleRow {
+        values: [200, 101, 100, 0, 0, 0, 0],
+    }
+}
+
 #[test]
 fn rules_on_six_words(rt: HostRuntime) {
     assert_eq!(rt; heat_bath(100, &heat_row(), &SIX_WORDS), 12);
@@ -77,6 +91,23 @@ fn bonds_are_satisfied_where_the_aligned_bit_is_the_spins(rt: HostRuntime) {
     for word in metropolis_sites(&[100; 4], &metropolis_row(), &rows, &[u64::MAX; 4]) {
         assert_eq!(rt; word, 24);
     }
+}
+
+#[test]
+fn rows_in_order_are_told_and_used(rt: HostRuntime) {
+    assert!(rt; is_rising(&rising_row()) && !is_rising(&heat_row()));
+    assert!(rt; is_falling(&falling_row()) && !is_falling(&metropolis_row()));
+    let rows = [[62; 4], [60; 4], [56; 4], [56; 4], [40; 4], [8; 4]];
+    // The samples 1 to 5 count 1, 2, 6, 4 and 5 aligned neighbours, the others none.
+    let heat = heat_bath_sites(&[0, 100, 150, 4294967295], &rising_row(), &rows);
+    assert_eq!(rt; heat, [62, 60, 56, 8]);
+    // With all spins down the samples 3, 4 and 5 flip, and 2, 1 and all others by their draws; with
+    // all up 4, 5 and 3 flip by their draws, and all others by themselves.
+    let draws = [99, 100, 150, 200];
+    let from_down = metropolis_sites(&draws, &falling_row(), &rows, &[0; 4]);
+    assert_eq!(rt; from_down, [u64::MAX, 62, 60, 56]);
+    let from_up = metropolis_sites(&draws, &falling_row(), &rows, &[u64::MAX; 4]);
+    assert_eq!(rt; from_up, [0, 8, 40, 56]);
 }
 
 #[test]

@@ -1,8 +1,9 @@
 //! Operations on N words at a time. In a clause a vector is the list of its words.
 
-ghost use Rattle.std.specs.Prelude.{◌≡◌, ℕ, ◌+◌, ◌*◌, ◌<◌, ◌&&◌, ◌||◌, nat_lt, if◌then◌else◌, length, slice_index};
+ghost use Rattle.std.specs.Prelude.{◌≡◌, ℕ, ◌+◌, ◌*◌, ◌^◌, ◌<◌, ◌&&◌, ◌||◌, nat_lt, int_lt, pos, if◌then◌else◌, length, slice_index};
 ghost use Rattle.std.specs.Int.{bit_at};
 ghost use Rattle.multispin_word.specs.Planes.{differs, is_set, number};
+ghost use Rattle.local_rule.specs.RowOrder.{fallen, raised};
 ghost use Rattle.local_rule.specs.SiteBits.{equal_count, lane_words, set_count};
 ghost use Rattle.local_rule.specs.TurnedCounts.{accepted, turned_number};
 
@@ -15,15 +16,6 @@ pub fn load<const N: usize>(words: &[u64; N]) -> Simd<u64, N>
     ensures length { length result ≡ N }
 {
     Simd::<u64, N>::from_array(*words)
-}
-
-/// N draws as words.
-#[inline(always)]
-pub fn widened<const N: usize>(draws: &[u32; N]) -> Simd<u64, N>
-    ensures length { length result ≡ N }
-    ensures same { (i : ℕ) → i < N → slice_index result i ≡ slice_index draws.now i }
-{
-    Simd::<u32, N>::from_array(*draws).cast()
 }
 
 /// How many of the six bits of each lane and sample are set: the planes of 1, 2 and 4.
@@ -88,15 +80,29 @@ pub fn choose_lanes<const N: usize>(
 
 /// All samples of the lanes whose draw is below the threshold, and none of the others.
 #[inline(always)]
-pub fn below_lanes<const N: usize>(draws: Simd<u64, N>, threshold: u64) -> Simd<u64, N>
-    requires { length draws ≡ N }
+pub fn below_lanes<const N: usize>(draws: &[u32; N], threshold: u64) -> Simd<u64, N>
     ensures length { length result ≡ N }
     ensures below { (i b : ℕ) → i < N → b < 64
-        → is_set (slice_index result i) b ≡ nat_lt (slice_index draws.entry i) threshold }
+        → is_set (slice_index result i) b ≡ nat_lt (slice_index draws.now i) threshold }
 {
-    draws
-        .simd_lt(Simd::<u64, N>::splat(threshold))
+    let limit = with_sign(threshold);
+    let wide: Simd<i64, N> = Simd::<u32, N>::from_array(*draws).cast();
+    wide.simd_lt(Simd::<i64, N>::splat(limit))
         .select(Simd::<u64, N>::splat(u64::MAX), Simd::<u64, N>::splat(0))
+}
+
+// A number with a sign that is above the same draws as a threshold. The processors compare with a sign
+// alone. For 0 it is -1, since a compiler that knows of numbers without a sign compares them as such, by
+// an instruction more for each draw and each threshold.
+#[inline(always)]
+fn with_sign(threshold: u64) -> i64
+    ensures { (d : ℕ) → d < 2 ^ 32 → int_lt (pos d) result ≡ nat_lt d threshold }
+{
+    if threshold == 0 {
+        -1
+    } else {
+        threshold.min(1 << 32) as i64
+    }
 }
 
 /// Of a count above three, by its plane of 1 and that of 2 turned over: the bits for five, for six, or
@@ -120,6 +126,44 @@ pub fn accepted_lanes<const N: usize>(
     let twos = differing_lanes(no_twos, Simd::<u64, N>::splat(u64::MAX));
     let by_ones = differing_lanes(four, shared_lanes(ones, differing_lanes(four, five)));
     differing_lanes(by_ones, shared_lanes(twos, differing_lanes(four, six)))
+}
+
+/// The same, where the bits for six are among those for five, and these among those for four.
+#[inline(always)]
+pub fn fallen_lanes<const N: usize>(
+    ones: Simd<u64, N>,
+    no_twos: Simd<u64, N>,
+    four: Simd<u64, N>,
+    five: Simd<u64, N>,
+    six: Simd<u64, N>,
+) -> Simd<u64, N>
+    requires { (length ones ≡ N) × (length no_twos ≡ N) × (length four ≡ N) × (length five ≡ N)
+        × (length six ≡ N) }
+    ensures length { length result ≡ N }
+    ensures fallen { (i b : ℕ) → i < N → b < 64 → is_set (slice_index result i) b
+        ≡ fallen (is_set (slice_index ones.entry i) b) (is_set (slice_index no_twos.entry i) b)
+        (is_set (slice_index four.entry i) b) (is_set (slice_index five.entry i) b) (is_set (slice_index six.entry i) b) }
+{
+    let no_ones = differing_lanes(ones, Simd::<u64, N>::splat(u64::MAX));
+    let up_to_five = joined_lanes(five, shared_lanes(no_ones, four));
+    joined_lanes(six, shared_lanes(no_twos, up_to_five))
+}
+
+/// The bits of `outside`, and those of `inside` for the samples in the mask: where the first are among
+/// the second, the same as `choose_lanes`.
+#[inline(always)]
+pub fn raised_lanes<const N: usize>(
+    mask: Simd<u64, N>,
+    inside: Simd<u64, N>,
+    outside: Simd<u64, N>,
+) -> Simd<u64, N>
+    requires { (length mask ≡ N) × (length inside ≡ N) × (length outside ≡ N) }
+    ensures length { length result ≡ N }
+    ensures raised { (i b : ℕ) → i < N → is_set (slice_index result i) b
+        ≡ raised (is_set (slice_index mask.entry i) b) (is_set (slice_index inside.entry i) b)
+        (is_set (slice_index outside.entry i) b) }
+{
+    joined_lanes(outside, shared_lanes(mask, inside))
 }
 
 /// Where two bits differ, in each lane and sample.

@@ -6,14 +6,16 @@ use Rattle.coupling_set.specs.CouplingWords.{CouplingsView}
 use Rattle.spin_model.specs.Lattice.{IsLawfulSize}
 use Rattle.scalar_rule.specs.Plan.{Plan, dynamics_of}
 use Rattle.scalar_rule.specs.Replica.{configuration_of, with_configuration}
-use Rattle.scalar_rule.specs.Sweep.{half_sweep, sweep}
+use Rattle.scalar_rule.specs.Sweep.{Dynamics, half_sweep, sweep, sweeps}
+use Rattle.scalar_rule.specs.declared.plain_copy.PlainCopy.{PlainCopy}
+use Rattle.spin_model.proofs.Stepping.{steps-zero, steps-more}
 use Rattle.scalar_rule.proofs.PlanDynamics.{sweep-read, with_configuration-is}
 use Rattle.plane_sweep.specs.Packed.{plane_at, part_copy, FitsPlane, FitsReplica}
 use Rattle.plane_sweep.specs.PlaneSweep.{SweepsPlane, SweepsColours}
 use Rattle.plane_sweep.specs.Storing.{Changed}
 use Rattle.plane_sweep.specs.declared.replica.Plane.{Plane}
 use Rattle.plane_sweep.specs.declared.replica.Replica.{Replica}
-use Rattle.plane_sweep.specs.declared.rows.SlotRule.{SlotRule}
+use Rattle.threshold_table.specs.declared.rule_table.SlotRule.{SlotRule}
 use Rattle.plane_sweep.proofs.Empties.{no_plane}
 use Rattle.plane_sweep.proofs.Gathering.{all-changed}
 use Rattle.plane_sweep.proofs.SampleSweeps.{HalfSwept, dynamics_by, configuration_in, half-swept}
@@ -137,3 +139,13 @@ swept-fits couplings rule old new fits labels swept =
       planes = subst P (take-append-drop l new.planes) (All-append (FitsPlane l) (take l new.planes) (drop l new.planes) front back);
       labels = ap length labels ∙ fits.labels;
     }
+
+-- no sweep, and one more
+pub sweeps-none : (d : Dynamics) (x : PlainCopy) → x ≡ with_configuration x (sweeps d 0 (configuration_of x))
+sweeps-none d x = ap (with_configuration x) (sym (steps-zero (λ _ t. sweep d t) 0 (configuration_of x)))
+
+pub sweeps-more : (d : Dynamics) (k : ℕ) (x y z : PlainCopy) → z ≡ with_configuration y (sweep d (configuration_of y)) → y ≡ with_configuration x (sweeps d k (configuration_of x))
+    → z ≡ with_configuration x (sweeps d (k + 1) (configuration_of x))
+sweeps-more d k x y z last before =
+    last ∙ (ap (λ (w : PlainCopy). with_configuration w (sweep d (configuration_of w))) before
+    ∙ ap (with_configuration x) (sym (steps-more (λ _ t. sweep d t) 0 k (configuration_of x))))

@@ -12,7 +12,7 @@ use Rattle.plane_sweep.specs.Packed.{plane_at, FitsPlane}
 use Rattle.plane_sweep.specs.PlaneSweep.{SweepsWord, SweepsPlane, SweepsAt}
 use Rattle.plane_sweep.specs.Storing.{Changed}
 use Rattle.plane_sweep.specs.declared.replica.Plane.{Plane}
-use Rattle.plane_sweep.specs.declared.rows.SlotRule.{SlotRule}
+use Rattle.threshold_table.specs.declared.rule_table.SlotRule.{SlotRule}
 use Rattle.plane_sweep.proofs.Empties.{no_plane}
 use Rattle.plane_sweep.proofs.FourLanes.{next-inside, next-around, previous-inside, previous-around}
 

@@ -15,7 +15,7 @@ use Rattle.plane_sweep.specs.Neighbourhood.{pulls, Surrounds}
 use Rattle.plane_sweep.specs.PlaneSweep.{agreeing_count, SweepsWord, SweepsWords, SweepsFour, SweepsRow, IsRow, pulls_lent}
 use Rattle.plane_sweep.specs.declared.replica.Plane.{Plane}
 use Rattle.plane_sweep.specs.declared.rows.Row.{Row}
-use Rattle.plane_sweep.specs.declared.rows.SlotRule.{SlotRule}
+use Rattle.threshold_table.specs.declared.rule_table.SlotRule.{SlotRule}
 use Rattle.plane_sweep.specs.declared.surroundings.Surroundings.{Surroundings}
 use Rattle.plane_sweep.proofs.FourLanes.{mid-below, mid-at, mid-above, mid-sized}
 use Rattle.plane_sweep.proofs.SixWords.{row-within, pulls-lent}

@@ -20,7 +20,7 @@ use Rattle.plane_sweep.specs.Beginnings.{site_of}
 use Rattle.plane_sweep.specs.Neighbourhood.{pulls}
 use Rattle.plane_sweep.specs.PlaneSweep.{agreeing_count, SweepsPlane}
 use Rattle.plane_sweep.specs.declared.replica.Plane.{Plane}
-use Rattle.plane_sweep.specs.declared.rows.SlotRule.{SlotRule}
+use Rattle.threshold_table.specs.declared.rule_table.SlotRule.{SlotRule}
 use Rattle.plane_sweep.proofs.Empties.{no_plane}
 use Rattle.plane_sweep.proofs.PartSpins.{spins_of-planes}
 use Rattle.plane_sweep.proofs.PlaneNeighbours.{site_of-at}

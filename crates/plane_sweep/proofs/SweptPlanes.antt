@@ -9,7 +9,7 @@ use Rattle.spin_model.proofs.Streams.{length-advanced}
 use Rattle.plane_sweep.specs.Packed.{FitsPlane}
 use Rattle.plane_sweep.specs.PlaneSweep.{SweepsWords, SweepsPlane}
 use Rattle.plane_sweep.specs.declared.replica.Plane.{Plane}
-use Rattle.plane_sweep.specs.declared.rows.SlotRule.{SlotRule}
+use Rattle.threshold_table.specs.declared.rule_table.SlotRule.{SlotRule}
 use Rattle.plane_sweep.proofs.Gathering.{all-pushed, all-changed}
 
 shifted-in_range : (v : List ℕ) → All (λ word. word < 2 ^ 32) v → All (λ word. word < 2 ^ 32) (shifted v)

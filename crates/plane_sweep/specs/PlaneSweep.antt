@@ -13,7 +13,7 @@ use Rattle.plane_sweep.specs.Packed.{FitsPlane}
 use Rattle.plane_sweep.specs.Storing.{Changed}
 use Rattle.plane_sweep.specs.declared.replica.Plane.{Plane}
 use Rattle.plane_sweep.specs.declared.rows.Row.{Row}
-use Rattle.plane_sweep.specs.declared.rows.SlotRule.{SlotRule}
+use Rattle.threshold_table.specs.declared.rule_table.SlotRule.{SlotRule}
 use Rattle.plane_sweep.specs.declared.surroundings.Surroundings.{Surroundings}
 
 -- how many of the six neighbours of sample b agree with its spin: J s s' = +1

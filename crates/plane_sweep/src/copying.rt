@@ -2,7 +2,7 @@
 
 ghost use Rattle.std.specs.Prelude.{◌≡◌, IfOk};
 
-use crate::replica::{Duo, Plane, Replica};
+use crate::replica::{Duo, Plane};
 use crate::stand::PairWheels;
 use glass_edges::NoMemory;
 use plain_list::Items;
@@ -46,21 +46,13 @@ fn copied_slot(alloc: Global, slot: &Duo) -> Result<Duo, NoMemory>
     ensures { IfOk result (λ copy. copy ≡ slot.now) }
 {
     Ok(Duo {
-        first: copied_replica(alloc, &slot.first)?,
-        second: copied_replica(alloc, &slot.second)?,
+        first: slot.first.copy(alloc)?,
+        second: slot.second.copy(alloc)?,
     })
 }
 
-fn copied_replica(alloc: Global, replica: &Replica) -> Result<Replica, NoMemory>
-    ensures { IfOk result (λ copy. copy ≡ replica.now) }
-{
-    Ok(Replica {
-        planes: copied_planes(alloc, &replica.planes)?,
-        labels: replica.labels,
-    })
-}
-
-fn copied_planes(alloc: Global, planes: &Items<Plane>) -> Result<Items<Plane>, NoMemory>
+/// All planes of a replica.
+pub(crate) fn copied_planes(alloc: Global, planes: &Items<Plane>) -> Result<Items<Plane>, NoMemory>
     ensures { IfOk result (λ copies. copies ≡ planes.now) }
 {
     let mut copies = Vec::with_capacity(alloc, planes.len())?;

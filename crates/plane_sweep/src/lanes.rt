@@ -7,11 +7,11 @@ ghost use Rattle.plane_sweep.specs.PlaneSweep.{agreeing_count, left_column, pull
 ghost use Rattle.spin_model.specs.SiteRule.{new_spin};
 ghost use Rattle.threshold_table.specs.Tables.{rule_of};
 
-use crate::rows::{Row, SlotRule};
+use crate::rows::Row;
 use crate::surroundings::Surroundings;
 use local_rule::{heat_bath_sites, load, metropolis_sites};
 use std::simd::prelude::*;
-use threshold_table::RuleKind;
+use threshold_table::{RuleKind, SlotRule};
 
 /// The new words of the four sites of a row from column k on, each by its draw.
 #[inline(always)]

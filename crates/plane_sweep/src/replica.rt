@@ -1,7 +1,12 @@
 //! The replicas of 64 disorder samples.
 
+ghost use Rattle.std.specs.Prelude.{◌≡◌, IfOk};
+
+use crate::copying::copied_planes;
+use glass_edges::NoMemory;
 use plain_list::Items;
 use pr_generator::Wheel;
+use std::alloc::Global;
 
 /// The sites of one checkerboard colour in one plane z.
 #[derive(Drop)]
@@ -21,6 +26,22 @@ pub struct Replica {
     pub planes: Items<Plane>,
     /// The replica label of each sample, the number of the slot where its spins began.
     pub labels: [u8; 64],
+}
+
+impl Replica {
+    /// An equal replica.
+    ///
+    /// # Errors
+    ///
+    /// Refuses only for want of memory.
+    pub fn copy(&self, alloc: Global) -> Result<Replica, NoMemory>
+        ensures { IfOk result (λ copy. copy ≡ self.now) }
+    {
+        Ok(Replica {
+            planes: copied_planes(alloc, &self.planes)?,
+            labels: self.labels,
+        })
+    }
 }
 
 /// The two real replicas of a temperature slot.

@@ -13,15 +13,8 @@ use crate::lanes::sweep_four;
 use crate::replica::Plane;
 use crate::surroundings::{Surroundings, lend, next, previous};
 use coupling_set::Couplings;
-use local_rule::{heat_bath, metropolis};
-use threshold_table::{RuleKind, RuleRow};
-
-/// A spin rule with the thresholds of a temperature slot.
-#[derive(Clone, Copy)]
-pub(crate) struct SlotRule {
-    pub(crate) kind: RuleKind,
-    pub(crate) row: RuleRow,
-}
+use local_rule::{heat_bath, is_falling, is_rising, metropolis};
+use threshold_table::{RuleKind, SlotRule};
 
 /// A row of a plane, and the two rows beside it.
 #[derive(Clone, Copy)]
@@ -60,11 +53,12 @@ pub(crate) fn sweep_words(
         16 => sweep_sized::<16>(own, other, couplings, rule, draws, colour, z),
         32 => sweep_sized::<32>(own, other, couplings, rule, draws, colour, z),
         64 => sweep_sized::<64>(own, other, couplings, rule, draws, colour, z),
-        size => sweep_rows(own, other, couplings, rule, draws, colour, z, size as usize),
+        _ => sweep_any(own, other, couplings, rule, draws, colour, z),
     }
 }
 
-// The same, with code of its own for a size and for each kind: both are then known in its loops.
+// The same, with code of its own for a size and for each kind of table in order: all are then known
+// in its loops. A table out of order, which no temperature has, takes the code for all sizes.
 fn sweep_sized<const SIZE: usize>(
     own: &mut [u64],
     other: &[Plane],
@@ -86,21 +80,44 @@ fn sweep_sized<const SIZE: usize>(
 {
     let row = rule.row;
     match rule.kind {
-        RuleKind::Heat => {
+        RuleKind::Heat if is_rising(&row) => {
             let rule = SlotRule {
                 kind: RuleKind::Heat,
                 row,
             };
             sweep_rows(own, other, couplings, &rule, draws, colour, z, SIZE)
         }
-        RuleKind::Metropolis => {
+        RuleKind::Metropolis if is_falling(&row) => {
             let rule = SlotRule {
                 kind: RuleKind::Metropolis,
                 row,
             };
             sweep_rows(own, other, couplings, &rule, draws, colour, z, SIZE)
         }
+        _ => sweep_any(own, other, couplings, rule, draws, colour, z),
     }
+}
+
+// The same, by one code for all sizes and tables.
+fn sweep_any(
+    own: &mut [u64],
+    other: &[Plane],
+    couplings: &Couplings,
+    rule: &SlotRule,
+    draws: &[u32],
+    colour: u32,
+    z: u32,
+)
+    requires own { length own.old ≡ half_plane couplings.now.size }
+    requires draws { length draws.now ≡ half_plane couplings.now.size }
+    requires count { length other.now ≡ couplings.now.size }
+    requires planes { All (FitsPlane couplings.now.size) other.now }
+    requires colour { colour < 2 }
+    requires plane { z < couplings.now.size }
+    ensures { SweepsWords couplings.now other.now rule.now draws.now colour z (half_plane couplings.now.size) own.old own.new }
+{
+    let size = couplings.size() as usize;
+    sweep_rows(own, other, couplings, rule, draws, colour, z, size)
 }
 
 // The same, row by row, on a lattice of this size.

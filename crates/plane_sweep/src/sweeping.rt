@@ -10,11 +10,12 @@ ghost use Rattle.scalar_rule.specs.Sweep as model;
 ghost use Rattle.spin_model.specs.Lattice.{half_plane, IsLawfulSize};
 
 use crate::replica::{Plane, Replica};
-use crate::rows::{SlotRule, sweep_words};
+use crate::rows::sweep_words;
 use coupling_set::Couplings;
 use scalar_rule::Plan;
 use std::thread;
 use std::thread::Threads;
+use threshold_table::SlotRule;
 
 // The least size whose planes are swept by threads: a smaller lattice is done sooner than they start.
 const LEAST_FORKED: usize = 48;

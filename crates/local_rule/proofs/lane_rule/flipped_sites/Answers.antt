@@ -1,30 +1,7 @@
--- In each lane the count's three bits tell whether it is above three, and which of three cases it is.
-use Rattle.std.proofs.Common.{ℕ, [], nat_lt, slice_index, slice_index_or, ◌∙◌, arith}
-use Rattle.multispin_word.specs.Planes.{is_set}
-use Rattle.local_rule.specs.SiteBits.{equal_count, lane_words}
-use Rattle.local_rule.proofs.Cases.{turn}
-use Rattle.local_rule.proofs.Counts.{lane-turned, equal-most}
 use Rattle.local_rule.proofs.lane_rule.flipped_sites.Goals as goal
 
-pub returns : goal.returns
-returns g c = λ i b h l.
-    let planes = c.equal_lanes.result in
-    let same = slice_index c.args.same.now i in
-    let count = equal_count (lane_words c.args.six.now i) same b in
-    let digits = c.equal_lanes.ensures i b h ∙ lane-turned planes i b (omega arith) in
-    let most = equal-most c.args.six.now i same b (omega arith) in
-    let bit : ℕ → _ = λ n. is_set (slice_index (slice_index_or planes n []) i) b in
-    rw (
-      c.differing_lanes.ensures.differing i b h,
-      c.joined_lanes.ensures.joined i b h,
-      c.accepted_lanes-accepted.ensures.accepted i b h l,
-      c.below_lanes.ensures.below i b h l,
-      c.below_lanes-2.ensures.below i b h l,
-      c.below_lanes-3.ensures.below i b h l,
-      c.widened-draw.ensures.same i h,
-      c.load.ensures.same,
-      c.load-2.ensures.same,
-      c.load-3.ensures.same,
-      c.load-4.ensures.same,
-    )
-    (turn (λ n. nat_lt (slice_index c.args.draws.now i) (slice_index c.args.row.now.values n)) (bit 0) (bit 1) (bit 2) (is_set (slice_index c.args.spins.now i) b) count digits most)
+pub returns-then-in_order : goal.returns-then-in_order
+returns-then-in_order g c = c.flipped_falling.ensures
+
+pub returns-else-in_order : goal.returns-else-in_order
+returns-else-in_order g c = c.flipped_any.ensures

@@ -5,7 +5,7 @@ use Rattle.scalar_rule.proofs.PlaneSweeps.{written_over}
 use Rattle.plane_sweep.specs.Packed.{FitsPlane, FitsReplica}
 use Rattle.plane_sweep.specs.PlaneSweep.{SweepsColours}
 use Rattle.plane_sweep.specs.declared.replica.Plane.{Plane}
-use Rattle.plane_sweep.specs.declared.rows.SlotRule.{SlotRule}
+use Rattle.threshold_table.specs.declared.rule_table.SlotRule.{SlotRule}
 use Rattle.plane_sweep.proofs.ColourSweeps.{IsSlotRule, swept-part, swept-fits}
 use Rattle.plane_sweep.proofs.sweeping.sweep_replica.Goals as goal
 
