@@ -5,6 +5,7 @@ usage() {
     cat <<'END'
 usage: bench/run.sh [--cpu CPU] [--sizes "SIZE .."] [--sweeps N] [--passes N] [--turns N] [--limit RATIO]
        bench/run.sh --workers ..    (see bench/run.sh --workers --help)
+       bench/run.sh --banks ..      (see bench/run.sh --banks --help)
 
 Times whole runs of ./glass, from its words to the last byte of its report, in one thread, against
 bench/run.cpp (g++ -O3), which reads the same run file and prints the same report: 64 samples with random
@@ -27,10 +28,13 @@ where a side can't be built. Needs rt, python3 and g++ 12.
 END
 }
 
-if [ "${1-}" = --workers ]; then
-    shift
-    exec "$(dirname "$0")/run_workers.sh" "$@"
-fi
+case "${1-}" in
+    --workers | --banks)
+        script=run_${1#--}.sh
+        shift
+        exec "$(dirname "$0")/$script" "$@"
+        ;;
+esac
 passes=500
 limit=1.5
 sweeps=10

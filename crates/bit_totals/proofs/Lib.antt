@@ -1,4 +1,5 @@
 pub mod LaneNumbers
+pub mod Turning
 pub mod Tallying
 pub mod Places
 pub mod PlaceCounts

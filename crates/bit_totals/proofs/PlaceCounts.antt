@@ -63,7 +63,8 @@ against false true false = refl
 against false false true = refl
 against false false false = refl
 
-forward-below : (l i d : ℕ) → IsLawfulSize l → i < volume l → d < 3 → forward l i d < volume l
+-- a step ahead stays on the lattice
+pub forward-below : (l i d : ℕ) → IsLawfulSize l → i < volume l → d < 3 → forward l i d < volume l
 forward-below l i zero lawful below h = (shift-x l (omega (arith, lawful.0))).on i below
 forward-below l i (suc zero) lawful below h = (shift-y l (omega (arith, lawful.0))).on i below
 forward-below l i (suc (suc zero)) lawful below h = (shift-z l (omega (arith, lawful.0))).on i below

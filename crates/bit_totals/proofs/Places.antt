@@ -103,15 +103,16 @@ other-colour l q j d w h =
     let own = site-colour l q j w in
     omega arith
 
-forward-x : (l x y z : ℕ) → x < l → y < l → forward l (site_at l x y z) 0 ≡ site_at l (next l x) y z
+-- one step along each axis
+pub forward-x : (l x y z : ℕ) → x < l → y < l → forward l (site_at l x y z) 0 ≡ site_at l (next l x) y z
 unfolding forward
 forward-x l x y z h k = rw (x_of-site_at l x y z h, y_of-site_at l x y z h k, z_of-site_at l x y z h k) refl
 
-forward-y : (l x y z : ℕ) → x < l → y < l → forward l (site_at l x y z) 1 ≡ site_at l x (next l y) z
+pub forward-y : (l x y z : ℕ) → x < l → y < l → forward l (site_at l x y z) 1 ≡ site_at l x (next l y) z
 unfolding forward
 forward-y l x y z h k = rw (x_of-site_at l x y z h, y_of-site_at l x y z h k, z_of-site_at l x y z h k) refl
 
-forward-z : (l x y z : ℕ) → x < l → y < l → forward l (site_at l x y z) 2 ≡ site_at l x y (next l z)
+pub forward-z : (l x y z : ℕ) → x < l → y < l → forward l (site_at l x y z) 2 ≡ site_at l x y (next l z)
 unfolding forward
 forward-z l x y z h k = rw (x_of-site_at l x y z h, y_of-site_at l x y z h k, z_of-site_at l x y z h k) refl
 

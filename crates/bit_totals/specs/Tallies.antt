@@ -24,3 +24,7 @@ mixed first second third j = bit_xor (bit_xor (slice_index first j) (slice_index
 -- in how many of the first n words, given by their places, sample b is set
 abbrev pub set_below : (ℕ → ℕ) → ℕ → ℕ → ℕ
 set_below word b n = count_below (λ j. is_set (word j) b) n
+
+-- in how many of eight words sample b is set
+unfoldable pub set_lanes : List ℕ → ℕ → ℕ
+set_lanes words b = set_below (slice_index words) b 8

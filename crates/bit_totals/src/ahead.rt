@@ -4,19 +4,15 @@ ghost use Rattle.std.specs.Prelude.{◌≡◌, ℕ, ◌+◌, ◌*◌, ◌%◌, �
 ghost use Rattle.bit_totals.specs.Ahead.{Turned, TurnedRows};
 
 /// The words so many places on, the last ones followed by the first. `out` is as long as the words.
-#[inline]
+#[inline(always)]
 pub fn turn(out: &mut [u64], words: &[u64], step: usize)
     requires sized { length out.old ≡ length words.now }
     requires step { step ≤ length words.now }
     ensures { Turned step words.now out.new }
 {
-    let kept = words.len() - step;
-    'front: for k in 0..kept {
-        out[k] = words[k + step];
-    }
-    'back: for k in 0..step {
-        out[kept + k] = words[k];
-    }
+    let (front, back) = out.split_at_mut(words.len() - step);
+    front.copy_from_slice(&words[step..]);
+    back.copy_from_slice(&words[..step]);
 }
 
 /// Row by row the words of the same row, one place on where the row's number and the parity have an
@@ -28,14 +24,48 @@ pub fn turn_rows(out: &mut [u64], words: &[u64], rows: usize, row: usize, parity
     requires parity { parity < 2 }
     ensures { TurnedRows rows row parity words.now out.new }
 {
+    match row {
+        4 => turn_each(out, words, rows, 4, parity),
+        8 => turn_each(out, words, rows, 8, parity),
+        16 => turn_each(out, words, rows, 16, parity),
+        32 => turn_each(out, words, rows, 32, parity),
+        row => turn_each(out, words, rows, row, parity),
+    }
+}
+
+// The same, with code of its own for a length of a row, which is then known in its loops.
+#[inline(always)]
+fn turn_each(out: &mut [u64], words: &[u64], rows: usize, row: usize, parity: usize)
+    requires sized { length out.old ≡ length words.now }
+    requires rows { length words.now ≡ rows * row }
+    requires row { 0 < row }
+    requires parity { parity < 2 }
+    ensures { TurnedRows rows row parity words.now out.new }
+{
     'rows: for y in 0..rows {
         turn_row(out, words, y * row, row, (parity + y) % 2);
     }
 }
 
-// One row, from a place on.
-#[inline]
+// One row, from a place on, by a place or by none.
+#[inline(always)]
 fn turn_row(out: &mut [u64], words: &[u64], start: usize, row: usize, step: usize)
+    requires sized { length out.old ≡ length words.now }
+    requires within { start + row ≤ length words.now }
+    requires row { 0 < row }
+    requires step { step < 2 }
+    ensures turned { (k : ℕ) → k < row
+        → slice_index out.new (start + k) ≡ slice_index words.now (start + (k + step) % row) }
+    ensures before { (j : ℕ) → j < start → slice_index out.new j ≡ slice_index out.old j }
+{
+    match step {
+        0 => turn_from(out, words, start, row, 0),
+        _ => turn_from(out, words, start, row, 1),
+    }
+}
+
+#[inline(always)]
+fn turn_from(out: &mut [u64], words: &[u64], start: usize, row: usize, step: usize)
     requires sized { length out.old ≡ length words.now }
     requires within { start + row ≤ length words.now }
     requires step { step ≤ row }

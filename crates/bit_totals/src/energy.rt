@@ -1,15 +1,16 @@
 //! The unsatisfied bonds of a replica.
 
-ghost use Rattle.std.specs.Prelude.{◌≡◌, ℕ, ◌+◌, ◌*◌, ◌^◌, ◌<◌, ◌≤◌, length};
-ghost use Rattle.bit_totals.specs.Counted.{unsatisfied_along, unsatisfied_from, AreAhead};
+ghost use Rattle.std.specs.Prelude.{◌≡◌, ℕ, ◌+◌, ◌*◌, ◌/◌, ◌%◌, ◌<◌, ◌≤◌, length, slice_index};
+ghost use Rattle.bit_totals.specs.Counted.{unsatisfied_from, AreAhead};
 ghost use Rattle.bit_totals.specs.Tallies.{tallied};
-ghost use Rattle.coupling_set.specs.CouplingWords.{bonds_of};
+ghost use Rattle.coupling_set.specs.CouplingWords.{bond_word, bonds_of};
 ghost use Rattle.multispin_word.specs.Planes.{number};
 ghost use Rattle.plane_sweep.specs.Packed.{plane_at, spins_of, FitsReplica};
 ghost use Rattle.scalar_rule.specs.Sums as model;
-ghost use Rattle.spin_model.specs.Lattice.{bond_count, half_plane, IsLawfulSize};
+ghost use Rattle.spin_model.specs.Lattice.{bond_count, from_compact, half_plane, half_volume, IsLawfulSize};
 
 use crate::ahead::{turn, turn_rows};
+use crate::bonds::{Bonds, add_bonds};
 use crate::tally::Tally;
 use multispin_word::Planes;
 use plane_sweep::Replica;
@@ -26,33 +27,59 @@ pub fn unsatisfied(replica: &Replica, plan: &Plan) -> Planes<20>
         (spins_of plan.now.size b replica.now.planes) }
     ensures within { (b : ℕ) → b < 64 → number result.words b ≤ bond_count plan.now.size }
 {
-    let mut ahead = [0u64; PLANE];
-    count_planes(replica, plan, &mut ahead).total()
+    count_planes(replica, plan).total()
 }
 
-// The same, with a buffer for the words of neighbours: plane by plane.
-fn count_planes(replica: &Replica, plan: &Plan, ahead: &mut [u64]) -> Tally
+// The same, not yet in planes. The buffer for the words of neighbours is cleared at each call, so a
+// small lattice takes less of it.
+fn count_planes(replica: &Replica, plan: &Plan) -> Tally
     requires fits { FitsReplica plan.now.size replica.now }
-    requires room { length ahead.old ≡ PLANE }
+    ensures counted { (b : ℕ) → b < 64 → tallied result.rows b
+        ≡ unsatisfied_from plan.now.size (bonds_of plan.now.couplings b)
+        (spins_of plan.now.size b replica.now.planes) (2 * plan.now.size * half_plane plan.now.size) }
+    ensures lawful { IsLawfulSize plan.now.size }
+{
+    if plan.lattice().size() <= 16 {
+        count_by(replica, plan, &mut [0u64; 128], &mut [0u64; 128])
+    } else {
+        count_by(replica, plan, &mut [0u64; PLANE], &mut [0u64; PLANE])
+    }
+}
+
+// Plane by plane, with a buffer for the neighbours in x and one for those in y.
+fn count_by(replica: &Replica, plan: &Plan, in_x: &mut [u64], in_y: &mut [u64]) -> Tally
+    requires fits { FitsReplica plan.now.size replica.now }
+    requires room_x { half_plane plan.now.size ≤ length in_x.old }
+    requires room_y { half_plane plan.now.size ≤ length in_y.old }
     ensures counted { (b : ℕ) → b < 64 → tallied result.rows b
         ≡ unsatisfied_from plan.now.size (bonds_of plan.now.couplings b)
         (spins_of plan.now.size b replica.now.planes) (2 * plan.now.size * half_plane plan.now.size) }
     ensures lawful { IsLawfulSize plan.now.size }
 {
     let size = plan.lattice().size();
-    let ahead = &mut ahead[..(size * (size / 2)) as usize];
+    let half_plane = (size * (size / 2)) as usize;
+    let in_x = &mut in_x[..half_plane];
+    let in_y = &mut in_y[..half_plane];
     let mut tally = Tally::none();
     'planes: for q in 0..2 * size {
-        count_plane(&mut tally, replica, plan, q, ahead);
+        count_plane(&mut tally, replica, plan, q, in_x, in_y);
     }
     tally
 }
 
 // The bonds from the sites of plane q, in the three directions.
-fn count_plane(tally: &mut Tally, replica: &Replica, plan: &Plan, q: u32, ahead: &mut [u64])
+fn count_plane(
+    tally: &mut Tally,
+    replica: &Replica,
+    plan: &Plan,
+    q: u32,
+    in_x: &mut [u64],
+    in_y: &mut [u64],
+)
     requires fits { FitsReplica plan.now.size replica.now }
     requires plane { q < 2 * plan.now.size }
-    requires room { length ahead.old ≡ half_plane plan.now.size }
+    requires room_x { length in_x.old ≡ half_plane plan.now.size }
+    requires room_y { length in_y.old ≡ half_plane plan.now.size }
     requires before { (b : ℕ) → b < 64 → tallied tally.old.rows b
         ≡ unsatisfied_from plan.now.size (bonds_of plan.now.couplings b)
         (spins_of plan.now.size b replica.now.planes) (q * half_plane plan.now.size) }
@@ -62,18 +89,28 @@ fn count_plane(tally: &mut Tally, replica: &Replica, plan: &Plan, q: u32, ahead:
 {
     let size = plan.lattice().size();
     let other = (1 - q / size) * size;
-    ahead_in_x(ahead, replica, plan, q);
-    count_bonds(tally, replica, plan, q, 0, ahead);
-    ahead_in_y(ahead, replica, plan, q);
-    count_bonds(tally, replica, plan, q, 1, ahead);
-    count_bonds(
-        tally,
-        replica,
-        plan,
-        q,
-        2,
-        words_of(replica, other + (q % size + 1) % size),
-    );
+    ahead_in_x(in_x, replica, plan, q);
+    ahead_in_y(in_y, replica, plan, q);
+    let x = bonds_in(plan, q, 0, in_x);
+    let y = bonds_in(plan, q, 1, in_y);
+    let above = words_of(replica, other + (q % size + 1) % size);
+    let z = bonds_in(plan, q, 2, above);
+    add_bonds(&mut tally.rows, words_of(replica, q), &x, &y, &z);
+}
+
+// The bonds in direction d from the sites of plane q, with the words of the neighbours there.
+fn bonds_in<'a>(plan: &'a Plan, q: u32, d: u32, ahead: &'a [u64]) -> Bonds<'a>
+    requires plane { q < 2 * plan.now.size }
+    requires direction { d < 3 }
+    ensures ahead { result.ahead.now ≡ ahead.now }
+    ensures sized { length result.negative.now ≡ half_plane plan.now.size }
+    ensures words { (j : ℕ) → j < half_plane plan.now.couplings.size → slice_index result.negative.now j
+        ≡ bond_word plan.now.couplings (from_compact plan.now.couplings.size
+        (q / plan.now.size * half_volume plan.now.couplings.size + q % plan.now.size * half_plane plan.now.couplings.size + j)) d }
+{
+    let size = plan.lattice().size();
+    let negative = plan.couplings().plane(q / size, q % size, d);
+    Bonds { negative, ahead }
 }
 
 // The words of the neighbours in x: in the plane beside, row by row.
@@ -105,27 +142,6 @@ fn ahead_in_y(ahead: &mut [u64], replica: &Replica, plan: &Plan, q: u32)
     let size = plan.lattice().size();
     let beside = words_of(replica, (1 - q / size) * size + q % size);
     turn(ahead, beside, (size / 2) as usize);
-}
-
-// The bonds in direction d from the sites of plane q, by the words of the neighbours there.
-fn count_bonds(tally: &mut Tally, replica: &Replica, plan: &Plan, q: u32, d: u32, ahead: &[u64])
-    requires fits { FitsReplica plan.now.size replica.now }
-    requires plane { q < 2 * plan.now.size }
-    requires direction { d < 3 }
-    requires sized { length ahead.now ≡ half_plane plan.now.size }
-    requires ahead { AreAhead plan.now.size replica.now.planes q d ahead.now }
-    requires room { (b : ℕ) → b < 64
-        → tallied tally.old.rows b + half_plane plan.now.size + 64 < 2 ^ 20 }
-    ensures { (b : ℕ) → b < 64 → tallied tally.new.rows b
-        + unsatisfied_along plan.now.size (bonds_of plan.now.couplings b)
-        (spins_of plan.now.size b replica.now.planes) d (q * half_plane plan.now.size)
-        ≡ tallied tally.old.rows b
-        + unsatisfied_along plan.now.size (bonds_of plan.now.couplings b)
-        (spins_of plan.now.size b replica.now.planes) d ((q + 1) * half_plane plan.now.size) }
-{
-    let size = plan.lattice().size();
-    let negative = plan.couplings().plane(q / size, q % size, d);
-    tally.add(negative, words_of(replica, q), ahead);
 }
 
 // The words of one plane.

@@ -7,6 +7,7 @@ pub use overlap::agreeing;
 pub use tally::Tally;
 
 mod ahead;
+mod bonds;
 mod energy;
 mod lanes;
 mod overlap;

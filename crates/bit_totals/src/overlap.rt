@@ -21,15 +21,28 @@ pub fn agreeing(a: &Replica, b: &Replica) -> Planes<20>
         ≡ model.agreeing l (spins_of l s a.now.planes) (spins_of l s b.now.planes) }
     ensures within { (l s : ℕ) → FitsReplica l a.now → s < 64 → number result.words s ≤ volume l }
 {
-    let ones = [u64::MAX; PLANE];
-    count_planes(a, b, &ones).total()
+    count_planes(a, b).total()
 }
 
-// The same, with words of ones: plane by plane.
-fn count_planes(a: &Replica, b: &Replica, ones: &[u64]) -> Tally
+// The same, not yet in planes. The words of ones are written at each call, so a small lattice takes
+// fewer of them.
+fn count_planes(a: &Replica, b: &Replica) -> Tally
+    requires { HaveOneSize a.now b.now }
+    ensures { (l s : ℕ) → FitsReplica l a.now → s < 64 → tallied result.rows s
+        ≡ agreeing_from l (spins_of l s a.now.planes) (spins_of l s b.now.planes) (2 * l * half_plane l) }
+{
+    if a.planes.len() <= 32 {
+        count_by(a, b, &[u64::MAX; 128])
+    } else {
+        count_by(a, b, &[u64::MAX; PLANE])
+    }
+}
+
+// Plane by plane, with words of ones.
+fn count_by(a: &Replica, b: &Replica, ones: &[u64]) -> Tally
     requires size { HaveOneSize a.now b.now }
-    requires room { length ones.now ≡ PLANE }
-    requires ones { (j : ℕ) → j < PLANE → slice_index ones.now j ≡ 2 ^ 64 - 1 }
+    requires room { (l : ℕ) → FitsReplica l a.now → half_plane l ≤ length ones.now }
+    requires ones { (j : ℕ) → j < length ones.now → slice_index ones.now j ≡ 2 ^ 64 - 1 }
     ensures { (l s : ℕ) → FitsReplica l a.now → s < 64 → tallied result.rows s
         ≡ agreeing_from l (spins_of l s a.now.planes) (spins_of l s b.now.planes) (2 * l * half_plane l) }
 {

@@ -1,12 +1,14 @@
 //! How many of many words have each sample's bit.
 
-ghost use Rattle.std.specs.Prelude.{◌≡◌, ℕ, ◌+◌, ◌^◌, ◌<◌, ◌≤◌, length, slice_index};
+ghost use Rattle.std.specs.Prelude.{◌≡◌, ℕ, ◌+◌, ◌*◌, ◌^◌, ◌<◌, ◌≤◌, length, slice_index};
 ghost use Rattle.multispin_word.specs.Planes.{number};
-ghost use Rattle.bit_totals.specs.Tallies.{lane_number, in_lanes, tallied, mixed, set_below};
+ghost use Rattle.bit_totals.specs.Tallies.{lane_number, tallied, mixed, set_below, set_lanes};
 
-use crate::lanes::{add_rows, count_rows};
+use crate::lanes::{add_one, add_two, mixed_at};
 use bit_compare::add;
+use local_rule::load;
 use multispin_word::Planes;
+use std::simd::prelude::*;
 
 /// A number of each sample below 2^20, as the sum of eight that lie side by side: word i of row w is
 /// plane w of the number in lane i. The counter of set bits over many words.
@@ -38,6 +40,7 @@ impl Tally {
     }
 
     /// Adds to each sample's number in how many places an odd number of the three words has its bit.
+    #[inline(never)]
     pub fn add(&mut self, first: &[u64], second: &[u64], third: &[u64])
         requires second { length second.now ≡ length first.now }
         requires third { length third.now ≡ length first.now }
@@ -46,9 +49,13 @@ impl Tally {
             ≡ tallied self.old.rows b + set_below (mixed first.now second.now third.now) b (length first.now) }
     {
         let mut at = 0;
-        'whole_blocks: while first.len() - at >= 64 {
+        'sixteens: while first.len() - at >= 128 {
             add_block(&mut self.rows, first, second, third, at);
-            at += 64;
+            at += 128;
+        }
+        'fours: while first.len() - at >= 32 {
+            add_four(&mut self.rows, first, second, third, at);
+            at += 32;
         }
         'rows: while at < first.len() {
             add_row(&mut self.rows, first, second, third, at);
@@ -70,73 +77,103 @@ fn column(rows: &[[u64; 8]; 20], lane: usize) -> Planes<20>
     Planes { words }
 }
 
-// The 64 places from one on.
-#[inline]
+// The 128 places from one on, with one ripple for the carries of sixteen.
+#[inline(always)]
 fn add_block(rows: &mut [[u64; 8]; 20], first: &[u64], second: &[u64], third: &[u64], at: usize)
     requires second { length second.now ≡ length first.now }
     requires third { length third.now ≡ length first.now }
-    requires within { at + 64 ≤ length first.now }
-    requires room { (b : ℕ) → b < 64 → tallied rows.old b + 64 < 2 ^ 20 }
+    requires within { at + 128 ≤ length first.now }
+    requires room { (b : ℕ) → b < 64 → tallied rows.old b + 128 < 2 ^ 20 }
     ensures { (b : ℕ) → b < 64
         → tallied rows.new b + set_below (mixed first.now second.now third.now) b at
-        ≡ tallied rows.old b + set_below (mixed first.now second.now third.now) b (at + 64) }
+        ≡ tallied rows.old b + set_below (mixed first.now second.now third.now) b (at + 128) }
 {
-    let eight = [
-        row_at(first, second, third, at),
-        row_at(first, second, third, at + 8),
-        row_at(first, second, third, at + 16),
-        row_at(first, second, third, at + 24),
-        row_at(first, second, third, at + 32),
-        row_at(first, second, third, at + 40),
-        row_at(first, second, third, at + 48),
-        row_at(first, second, third, at + 56),
-    ];
-    add_rows(rows, &count_rows(&eight));
+    let a = sum_four(rows, first, second, third, at);
+    let b = sum_four(rows, first, second, third, at + 32);
+    let front = add_two(rows, 2, a, b);
+    let c = sum_four(rows, first, second, third, at + 64);
+    let d = sum_four(rows, first, second, third, at + 96);
+    let back = add_two(rows, 2, c, d);
+    let sixteens = add_two(rows, 3, front, back);
+    add_one(rows, 4, sixteens);
 }
 
-// The eight places from one on, of which some may be past the end.
+// The 32 places from one on.
+#[inline(always)]
+fn add_four(rows: &mut [[u64; 8]; 20], first: &[u64], second: &[u64], third: &[u64], at: usize)
+    requires second { length second.now ≡ length first.now }
+    requires third { length third.now ≡ length first.now }
+    requires within { at + 32 ≤ length first.now }
+    requires room { (b : ℕ) → b < 64 → tallied rows.old b + 32 < 2 ^ 20 }
+    ensures { (b : ℕ) → b < 64
+        → tallied rows.new b + set_below (mixed first.now second.now third.now) b at
+        ≡ tallied rows.old b + set_below (mixed first.now second.now third.now) b (at + 32) }
+{
+    let fours = sum_four(rows, first, second, third, at);
+    add_one(rows, 2, fours);
+}
+
+// The 32 places from one on, but for the carries of four, which it gives.
+#[inline(always)]
+fn sum_four(
+    rows: &mut [[u64; 8]; 20],
+    first: &[u64],
+    second: &[u64],
+    third: &[u64],
+    at: usize,
+) -> u64x8
+    requires second { length second.now ≡ length first.now }
+    requires third { length third.now ≡ length first.now }
+    requires within { at + 32 ≤ length first.now }
+    ensures length { length result ≡ 8 }
+    ensures sum { (b : ℕ)
+        → tallied rows.new b + 4 * set_lanes result b + set_below (mixed first.now second.now third.now) b at
+        ≡ tallied rows.old b + set_below (mixed first.now second.now third.now) b (at + 32) }
+{
+    let a = mixed_at(first, second, third, at);
+    let b = mixed_at(first, second, third, at + 8);
+    let front = add_two(rows, 0, a, b);
+    let c = mixed_at(first, second, third, at + 16);
+    let d = mixed_at(first, second, third, at + 24);
+    let back = add_two(rows, 0, c, d);
+    add_two(rows, 1, front, back)
+}
+
+/// The eight places from one on, of which some may be past the end.
 #[inline]
-fn add_row(rows: &mut [[u64; 8]; 20], first: &[u64], second: &[u64], third: &[u64], at: usize)
+pub(crate) fn add_row(
+    rows: &mut [[u64; 8]; 20],
+    first: &[u64],
+    second: &[u64],
+    third: &[u64],
+    at: usize,
+)
     requires second { length second.now ≡ length first.now }
     requires third { length third.now ≡ length first.now }
     requires within { at < length first.now }
-    requires room { (b : ℕ) → b < 64 → tallied rows.old b + 64 < 2 ^ 20 }
+    requires room { (b : ℕ) → b < 64 → tallied rows.old b + 8 < 2 ^ 20 }
     ensures { (b : ℕ) → b < 64
         → tallied rows.new b + set_below (mixed first.now second.now third.now) b at
         ≡ tallied rows.old b + set_below (mixed first.now second.now third.now) b (at + 8) }
 {
     let row = row_from(first, second, third, at);
-    add_rows(rows, &[row, [0; 8], [0; 8], [0; 8]]);
+    add_one(rows, 0, row);
 }
 
 // The mixed words of the eight places from one on, zeros past the end.
 #[inline]
-fn row_from(first: &[u64], second: &[u64], third: &[u64], at: usize) -> [u64; 8]
+fn row_from(first: &[u64], second: &[u64], third: &[u64], at: usize) -> u64x8
     requires second { length second.now ≡ length first.now }
     requires third { length third.now ≡ length first.now }
     requires within { at < length first.now }
-    ensures { (i : ℕ) → i < 8 → slice_index result i ≡ mixed first.now second.now third.now (at + i) }
+    ensures length { length result ≡ 8 }
+    ensures words { (i : ℕ) → i < 8 → slice_index result i ≡ mixed first.now second.now third.now (at + i) }
 {
     if at + 8 <= first.len() {
-        row_at(first, second, third, at)
+        mixed_at(first, second, third, at)
     } else {
-        last_row(first, second, third, at)
+        load(&last_row(first, second, third, at))
     }
-}
-
-// The mixed words of eight places.
-#[inline]
-fn row_at(first: &[u64], second: &[u64], third: &[u64], at: usize) -> [u64; 8]
-    requires second { length second.now ≡ length first.now }
-    requires third { length third.now ≡ length first.now }
-    requires within { at + 8 ≤ length first.now }
-    ensures { (i : ℕ) → i < 8 → slice_index result i ≡ mixed first.now second.now third.now (at + i) }
-{
-    let mut row = [0u64; 8];
-    'words: for i in 0..8usize {
-        row[i] = first[at + i] ^ second[at + i] ^ third[at + i];
-    }
-    row
 }
 
 // The mixed words of the last places, and zeros.

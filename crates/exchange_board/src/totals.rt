@@ -1,6 +1,6 @@
 //! The sweeps of an epoch in all 64 samples, and the sums after them.
 
-ghost use Rattle.std.specs.Prelude.{◌≡◌, ℕ, ◌+◌, ◌*◌, ◌<◌, ◌≤◌, ◌-ℤ◌, pos};
+ghost use Rattle.std.specs.Prelude.{◌≡◌, ℕ, ◌<◌, ◌≤◌};
 ghost use Rattle.exchange_board.specs.Totals.{AreTotals};
 ghost use Rattle.plane_sweep.specs.Packed.{part_copy, part_slot, FitsDuo, FitsReplica};
 ghost use Rattle.scalar_rule.specs.Epoch as model;
@@ -9,7 +9,7 @@ ghost use Rattle.scalar_rule.specs.Plan.{slots_of};
 use bit_totals::{agreeing, unsatisfied};
 use multispin_word::Planes;
 use plane_sweep::{Duo, sweep_often};
-use scalar_rule::{Plan, Record};
+use scalar_rule::{Plan, Record, excess};
 use std::thread::Threads;
 
 /// The sums of a slot after its sweeps, as twenty bit planes of 64 samples: the unsatisfied bonds of
@@ -54,15 +54,6 @@ pub(crate) fn sweep_slot<R: Threads + Sync>(
     let count = plan.sweeps();
     sweep_often(rt, &mut duo.first, plan, slot, pieces, count);
     sweep_often(rt, &mut duo.second, plan, slot, pieces, count);
-}
-
-// Twice a part, less the whole.
-fn excess(part: u32, whole: u32) -> i32
-    requires part { part ≤ whole }
-    requires whole { whole ≤ 786432 }
-    ensures { result ≡ pos (2 * part) -ℤ pos whole }
-{
-    (2 * part) as i32 - whole as i32
 }
 
 /// What is measured of a slot in one sample.

@@ -9,23 +9,16 @@ use Rattle.multispin_word.specs.Planes.{differs}
 use Rattle.multispin_word.proofs.Bits.{is_set-xor}
 use Rattle.scalar_rule.specs.Neighbours.{agree}
 use Rattle.scalar_rule.proofs.FiniteSums.{count-sum, sum-same, sum-permuted, sum-thirds}
-use Rattle.scalar_rule.proofs.Shifts.{shift-x, shift-y, shift-z}
 use Rattle.plane_sweep.specs.Packed.{plane_at, word_at, spins_of}
 use Rattle.plane_sweep.specs.declared.replica.Plane.{Plane}
 use Rattle.bit_totals.specs.Tallies.{mixed, set_below}
 use Rattle.bit_totals.proofs.Places.{Within, site-below, own-word}
-use Rattle.bit_totals.proofs.PlaceCounts.{count-add, count-same, count-le, compact-order, places-all}
+use Rattle.bit_totals.proofs.PlaceCounts.{count-add, count-same, count-le, forward-below, compact-order, places-all}
 use Rattle.overlap_lines.specs.Overlaps.{steps_on, term, agreeing_bonds, agreeing_line}
 use Rattle.overlap_lines.specs.Counted.{line_from, plane_on, place_on}
 use Rattle.overlap_lines.proofs.StepPlaces.{word-on}
 
 -- ---- steps stay on the lattice
-
-forward-below : (l i d : ℕ) → IsLawfulSize l → i < volume l → d < 3 → forward l i d < volume l
-forward-below l i zero lawful below h = (shift-x l (omega (arith, lawful.0))).on i below
-forward-below l i (suc zero) lawful below h = (shift-y l (omega (arith, lawful.0))).on i below
-forward-below l i (suc (suc zero)) lawful below h = (shift-z l (omega (arith, lawful.0))).on i below
-forward-below l i (suc (suc (suc d))) lawful below h = absurd (omega arith)
 
 steps-below : (l i d r : ℕ) → IsLawfulSize l → i < volume l → d < 3 → steps_on l i d r < volume l
 unfolding steps_on

@@ -4,26 +4,12 @@ use Rattle.std.proofs.Math.Nat.{add-mul, mul_comm, mod-eq_of_lt}
 use Rattle.std.proofs.lemmas.Nat.{mul-add-lt, mod-mul-add, div-add-mod', mod_below}
 use Rattle.std.proofs.lemmas.Bool.{cases_lt}
 use Rattle.spin_model.specs.Lattice.{IsLawfulSize, site_at, next, forward, colour, half_plane, from_compact}
-use Rattle.spin_model.proofs.Sites.{x_of-site_at, y_of-site_at, z_of-site_at}
 use Rattle.spin_model.proofs.Colours.{colour-site_at}
 use Rattle.plane_sweep.specs.Packed.{plane_at, word_at}
 use Rattle.plane_sweep.specs.declared.replica.Plane.{Plane}
-use Rattle.bit_totals.proofs.Places.{Within, bounds, row_at, column_at, site-is, word-at}
+use Rattle.bit_totals.proofs.Places.{Within, bounds, row_at, column_at, site-is, forward-x, forward-y, forward-z, word-at}
 use Rattle.overlap_lines.specs.Overlaps.{steps_on}
 use Rattle.overlap_lines.specs.Counted.{plane_on, place_on}
-
--- one step along each axis
-forward-x : (l x y z : ℕ) → x < l → y < l → forward l (site_at l x y z) 0 ≡ site_at l (next l x) y z
-unfolding forward
-forward-x l x y z h k = rw (x_of-site_at l x y z h, y_of-site_at l x y z h k, z_of-site_at l x y z h k) refl
-
-forward-y : (l x y z : ℕ) → x < l → y < l → forward l (site_at l x y z) 1 ≡ site_at l x (next l y) z
-unfolding forward
-forward-y l x y z h k = rw (x_of-site_at l x y z h, y_of-site_at l x y z h k, z_of-site_at l x y z h k) refl
-
-forward-z : (l x y z : ℕ) → x < l → y < l → forward l (site_at l x y z) 2 ≡ site_at l x y (next l z)
-unfolding forward
-forward-z l x y z h k = rw (x_of-site_at l x y z h, y_of-site_at l x y z h k, z_of-site_at l x y z h k) refl
 
 -- a coordinate after one step more
 next-more : (l x r : ℕ) → 0 < l → next l ((x + r) % l) ≡ (x + suc r) % l

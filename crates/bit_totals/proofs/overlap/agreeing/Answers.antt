@@ -1,15 +1,11 @@
 -- The sites of all places are all sites, of which there are at most 262144.
-use Rattle.std.proofs.Common.{ℕ, ◌-◌, ◌^◌, ◌∙◌, arith}
-use Rattle.std.proofs.lemmas.List.{get_or-replicate}
+use Rattle.std.proofs.Common.{◌∙◌, arith}
 use Rattle.plane_sweep.specs.Packed.{spins_of}
 use Rattle.scalar_rule.specs.Neighbours.{spin, agree}
 use Rattle.spin_model.specs.Lattice.{volume}
 use Rattle.spin_model.proofs.Sites.{volume-bound}
 use Rattle.bit_totals.proofs.PlaceCounts.{all-agreeing, count-le, size-lawful}
 use Rattle.bit_totals.proofs.overlap.agreeing.Goals as goal
-
-pub count_planes-requires-clause-ones : goal.count_planes-requires-clause-ones
-count_planes-requires-clause-ones c = λ j h. get_or-replicate {A = ℕ} 2048 j (2 ^ 64 - 1) 0 h
 
 pub total-requires : goal.total-requires
 total-requires c = λ s h.

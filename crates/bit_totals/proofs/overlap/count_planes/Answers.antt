@@ -1,48 +1,14 @@
--- Plane by plane the words of ones and of both replicas say where these agree.
-use Rattle.std.proofs.Common.{◌≡◌, ◌*◌, ◌<◌, length, take, ap, sym, ◌∙◌, arith}
-use Rattle.std.proofs.Math.Nat.{zero-mul}
-use Rattle.std.proofs.lemmas.List.{length-take-le, get_or-take}
-use Rattle.plane_sweep.specs.Packed.{spins_of}
-use Rattle.spin_model.specs.Lattice.{half_plane}
-use Rattle.bit_totals.specs.Counted.{agreeing_from}
-use Rattle.bit_totals.proofs.PlaceCounts.{agreeing-le, agreeing-zero, plane-agreeing, plane-room, plane-sized, planes-room, size-lawful}
+-- Each list has ones alone, and a plane's words of them.
+use Rattle.std.proofs.Common.{ℕ, ◌-◌, ◌^◌}
+use Rattle.std.proofs.lemmas.List.{get_or-replicate}
+use Rattle.bit_totals.proofs.PlaceCounts.{plane-room, size-lawful}
 use Rattle.bit_totals.proofs.overlap.count_planes.Goals as goal
 
-pub planes-init : goal.planes-init
-planes-init c = λ l s f h.
-    let a = spins_of l s c.args.a.now.planes in
-    let b = spins_of l s c.args.b.now.planes in
-    let none : 0 * half_plane l ≡ 0 = zero-mul (half_plane l) in
-    c.none-tally.ensures s ∙ sym (ap (agreeing_from l a b) none ∙ agreeing-zero l a b)
+pub count_by-requires-clause-ones : goal.count_by-requires-clause-ones
+count_by-requires-clause-ones c = λ j h. get_or-replicate {A = ℕ} 128 j (2 ^ 64 - 1) 0 h
 
-pub add-requires-clause-room : goal.add-requires-clause-room
-add-requires-clause-room c = λ s h.
-    let one = c.requires.size in
-    let l = one.size in
-    let q = c.planes.q in
-    let a = c.args.a.now in
-    let count = one.first.count in
-    let counted = c.planes.invariant l s one.first h in
-    let part = agreeing-le l (spins_of l s a.planes) (spins_of l s c.args.b.now.planes) (q * half_plane l) in
-    let most = planes-room l q one.lawful (omega arith) in
-    let own = ap length c.words_of-own.ensures ∙ plane-sized l q a one.first (omega arith) in
-    let small = plane-room l one.lawful in
-    let long = length-take-le (length c.words_of-own.result.now) c.args.ones.now (omega (arith, c.requires.room)) in
-    omega arith
+pub count_by-requires-else-len-le32-clause-room : goal.count_by-requires-else-len-le32-clause-room
+count_by-requires-else-len-le32-clause-room c = λ l f. plane-room l (size-lawful l c.args.a.now c.args.b.now f c.requires)
 
-pub planes-preserved : goal.planes-preserved
-planes-preserved c = λ l s f h.
-    let one = c.requires.size in
-    let q = c.planes.q in
-    let a = c.args.a.now in
-    let b = c.args.b.now in
-    let lawful = size-lawful l a b f one in
-    let below : q < 2 * l = omega (arith, f.count) in
-    let own = ap length c.words_of-own.ensures ∙ plane-sized l q a f below in
-    let small = plane-room l lawful in
-    let n = length c.words_of-own.result.now in
-    let ones = take n c.args.ones.now in
-    let long = length-take-le n c.args.ones.now (omega (arith, c.requires.room)) in
-    let counted = plane-agreeing l q s a.planes b.planes ones c.words_of-own.result.now c.words_of.result.now lawful below h (long ∙ own)
-    (λ j k. get_or-take n c.args.ones.now j 0 (omega arith) ∙ c.requires.ones j (omega arith)) c.words_of-own.ensures c.words_of.ensures in
-    omega (arith, c.add.ensures s h, c.planes.invariant l s f h)
+pub count_by-requires-else-len-le32-clause-ones : goal.count_by-requires-else-len-le32-clause-ones
+count_by-requires-else-len-le32-clause-ones c = λ j h. get_or-replicate {A = ℕ} 2048 j (2 ^ 64 - 1) 0 h

@@ -1,27 +1,43 @@
--- Eight rows of the places from one on, each with the words of eight places.
-use Rattle.std.proofs.Common.{get_or, arith}
-use Rattle.std.proofs.lemmas.Nat.Bits.{bit_at-lt}
+-- Four times four rows, whose carries of four make carries of eight, and those one of sixteen.
+use Rattle.std.proofs.Common.{◌≡◌, ◌+◌, arith}
 use Rattle.bit_totals.specs.Tallies.{mixed}
-use Rattle.bit_totals.proofs.Tallying.{lane-le, tallied-block}
+use Rattle.bit_totals.proofs.Tallying.{set-more-le}
 use Rattle.bit_totals.proofs.tally.add_block.Goals as goal
 
-pub add_rows-requires : goal.add_rows-requires
-add_rows-requires c = λ i b h k.
-    let lane = lane-le c.args.rows.now i b h in
-    let room = c.requires.room b k in
-    let a0 = bit_at-lt (get_or c.row_at.result i 0) b in
-    let a1 = bit_at-lt (get_or c.row_at-2.result i 0) b in
-    let a2 = bit_at-lt (get_or c.row_at-3.result i 0) b in
-    let a3 = bit_at-lt (get_or c.row_at-4.result i 0) b in
-    let a4 = bit_at-lt (get_or c.row_at-5.result i 0) b in
-    let a5 = bit_at-lt (get_or c.row_at-6.result i 0) b in
-    let a6 = bit_at-lt (get_or c.row_at-7.result i 0) b in
-    let a7 = bit_at-lt (get_or c.row_at-8.result i 0) b in
-    omega (arith, c.count_rows.ensures i b h)
+pub add_one-requires-clause-room : goal.add_one-requires-clause-room
+add_one-requires-clause-room c = λ b h.
+    let word = mixed c.args.first.now c.args.second.now c.args.third.now in
+    let at = c.args.at in
+    let second : at + 32 + 32 ≡ at + 64 = omega arith in
+    let third : at + 64 + 32 ≡ at + 96 = omega arith in
+    let fourth : at + 96 + 32 ≡ at + 128 = omega arith in
+    omega (
+      arith,
+      c.requires.room b h,
+      c.sum_four-a.ensures.sum b,
+      rw second at (c.sum_four-b.ensures.sum b),
+      c.add_two-front.ensures.sum b,
+      rw third at (c.sum_four-c.ensures.sum b),
+      rw fourth at (c.sum_four-d.ensures.sum b),
+      c.add_two-back.ensures.sum b,
+      c.add_two-sixteens.ensures.sum b,
+      set-more-le word b at 128,
+    )
 
 pub returns : goal.returns
-returns c = λ b k.
-    let word = mixed c.args.first.now c.args.second.now c.args.third.now in
-    tallied-block c.args.rows.now c.add_rows.new.total word c.args.at b (λ i h.
-    let counted = rw (c.row_at.ensures i h, c.row_at-2.ensures i h, c.row_at-3.ensures i h, c.row_at-4.ensures i h, c.row_at-5.ensures i h, c.row_at-6.ensures i h, c.row_at-7.ensures i h, c.row_at-8.ensures i h) at (c.count_rows.ensures i b h) in
-    omega (arith, c.add_rows.ensures i b h k, counted))
+returns c = λ b h.
+    let at = c.args.at in
+    let second : at + 32 + 32 ≡ at + 64 = omega arith in
+    let third : at + 64 + 32 ≡ at + 96 = omega arith in
+    let fourth : at + 96 + 32 ≡ at + 128 = omega arith in
+    omega (
+      arith,
+      c.sum_four-a.ensures.sum b,
+      rw second at (c.sum_four-b.ensures.sum b),
+      c.add_two-front.ensures.sum b,
+      rw third at (c.sum_four-c.ensures.sum b),
+      rw fourth at (c.sum_four-d.ensures.sum b),
+      c.add_two-back.ensures.sum b,
+      c.add_two-sixteens.ensures.sum b,
+      c.add_one.ensures b h,
+    )

@@ -6,8 +6,8 @@ use Rattle.bit_totals.specs.Tallies.{mixed}
 use Rattle.bit_totals.proofs.Tallying.{set-le, set-past}
 use Rattle.bit_totals.proofs.tally.Tally.add.Goals as goal
 
-pub whole_blocks-init : goal.whole_blocks-init
-whole_blocks-init c =
+pub sixteens-init : goal.sixteens-init
+sixteens-init c =
     let word = mixed c.args.first.now c.args.second.now c.args.third.now in
     record {
       within = omega arith;
@@ -17,7 +17,12 @@ whole_blocks-init c =
 pub add_block-requires-clause-room : goal.add_block-requires-clause-room
 add_block-requires-clause-room c = λ b h.
     let word = mixed c.args.first.now c.args.second.now c.args.third.now in
-    omega (arith, c.requires.room b h, c.whole_blocks.invariant.counted b h, set-le word b c.whole_blocks.at)
+    omega (arith, c.requires.room b h, c.sixteens.invariant.counted b h, set-le word b c.sixteens.at)
+
+pub add_four-requires-clause-room : goal.add_four-requires-clause-room
+add_four-requires-clause-room c = λ b h.
+    let word = mixed c.args.first.now c.args.second.now c.args.third.now in
+    omega (arith, c.requires.room b h, c.fours.invariant.counted b h, set-le word b c.fours.at)
 
 pub add_row-requires-clause-room : goal.add_row-requires-clause-room
 add_row-requires-clause-room c = λ b h.

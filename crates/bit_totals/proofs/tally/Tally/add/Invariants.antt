@@ -3,14 +3,23 @@ use Rattle.std.proofs.Common.{◌≡◌, ℕ, ◌+◌, ◌-◌, ◌<◌, ◌≤�
 use Rattle.bit_totals.specs.Tallies.{tallied, mixed, set_below}
 use Rattle.bit_totals.proofs.tally.Tally.add.Given as goal
 
-abbrev pub invariant-whole_blocks : goal.invariant-whole_blocks
-invariant-whole_blocks l = record {
+abbrev pub invariant-sixteens : goal.invariant-sixteens
+invariant-sixteens l = record {
   within : l.at ≤ length l.first;
   counted : (b : ℕ) → b < 64 → tallied l.self.rows b ≡ tallied l.fn.self.rows b + set_below (mixed l.first l.second l.third) b l.at;
 }
 
-abbrev pub decreases-whole_blocks : goal.decreases-whole_blocks
-decreases-whole_blocks l = length l.first - l.at
+abbrev pub decreases-sixteens : goal.decreases-sixteens
+decreases-sixteens l = length l.first - l.at
+
+abbrev pub invariant-fours : goal.invariant-fours
+invariant-fours l = record {
+  within : l.at ≤ length l.first;
+  counted : (b : ℕ) → b < 64 → tallied l.self.rows b ≡ tallied l.fn.self.rows b + set_below (mixed l.first l.second l.third) b l.at;
+}
+
+abbrev pub decreases-fours : goal.decreases-fours
+decreases-fours l = length l.first - l.at
 
 abbrev pub invariant-rows : goal.invariant-rows
 invariant-rows l = record {

@@ -3,7 +3,7 @@ use Rattle.std.proofs.Common.{inl, inr, ◌≡◌, ◌+◌, ◌*◌, ◌∙◌, 
 use Rattle.std.proofs.lemmas.Bool.{cases_lt}
 use Rattle.std.proofs.lemmas.Nat.{mul-add-lt}
 use Rattle.std.proofs.Math.Nat.{mul_comm}
-use Rattle.bit_totals.proofs.ahead.turn_rows.Goals as goal
+use Rattle.bit_totals.proofs.ahead.turn_each.Goals as goal
 
 pub rows-preserved : goal.rows-preserved
 rows-preserved c =

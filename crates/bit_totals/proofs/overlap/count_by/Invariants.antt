@@ -4,7 +4,7 @@ use Rattle.bit_totals.specs.Counted.{agreeing_from}
 use Rattle.bit_totals.specs.Tallies.{tallied}
 use Rattle.plane_sweep.specs.Packed.{spins_of, FitsReplica}
 use Rattle.spin_model.specs.Lattice.{half_plane}
-use Rattle.bit_totals.proofs.overlap.count_planes.Given as goal
+use Rattle.bit_totals.proofs.overlap.count_by.Given as goal
 
 abbrev pub invariant-planes : goal.invariant-planes
 invariant-planes l = (size s : ℕ) → FitsReplica size l.a → s < 64

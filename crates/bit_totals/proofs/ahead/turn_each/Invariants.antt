@@ -1,6 +1,6 @@
 -- The rows before y are turned.
 use Rattle.std.proofs.Common.{◌≡◌, ℕ, ◌+◌, ◌*◌, ◌%◌, ◌<◌, length, get_or}
-use Rattle.bit_totals.proofs.ahead.turn_rows.Given as goal
+use Rattle.bit_totals.proofs.ahead.turn_each.Given as goal
 
 abbrev pub invariant-rows : goal.invariant-rows
 invariant-rows l = record {

@@ -5,11 +5,12 @@ use Rattle.bit_totals.specs.Tallies.{tallied}
 use Rattle.coupling_set.specs.CouplingWords.{bonds_of}
 use Rattle.plane_sweep.specs.Packed.{spins_of}
 use Rattle.spin_model.specs.Lattice.{half_plane}
-use Rattle.bit_totals.proofs.energy.count_planes.Given as goal
+use Rattle.bit_totals.proofs.energy.count_by.Given as goal
 
 abbrev pub invariant-planes : goal.invariant-planes
 invariant-planes l = record {
-  room : length l.ahead ≡ half_plane l.plan.size;
+  room_x : length l.in_x ≡ half_plane l.plan.size;
+  room_y : length l.in_y ≡ half_plane l.plan.size;
   counted : (b : ℕ) → b < 64 → tallied l.tally.rows b
       ≡ unsatisfied_from l.plan.size (bonds_of l.plan.couplings b) (spins_of l.plan.size b l.replica.planes) (l.q * half_plane l.plan.size);
 }

@@ -1,13 +1,13 @@
--- No plane has no bond, and the buffer has the words of any plane.
-use Rattle.std.proofs.Common.{◌≡◌, ◌*◌, ap, sym, ◌∙◌, arith}
+-- No plane has no bond, and each buffer has the words of any plane.
+use Rattle.std.proofs.Common.{◌≡◌, ◌*◌, ap, sym, ◌∙◌}
 use Rattle.std.proofs.Math.Nat.{zero-mul}
 use Rattle.std.proofs.lemmas.List.{length-take-le}
 use Rattle.coupling_set.specs.CouplingWords.{bonds_of}
 use Rattle.plane_sweep.specs.Packed.{spins_of}
 use Rattle.spin_model.specs.Lattice.{half_plane}
 use Rattle.bit_totals.specs.Counted.{unsatisfied_from}
-use Rattle.bit_totals.proofs.PlaceCounts.{from-zero, plane-room}
-use Rattle.bit_totals.proofs.energy.count_planes.Goals as goal
+use Rattle.bit_totals.proofs.PlaceCounts.{from-zero}
+use Rattle.bit_totals.proofs.energy.count_by.Goals as goal
 
 pub planes-init : goal.planes-init
 planes-init c =
@@ -15,7 +15,8 @@ planes-init c =
     let lawful = c.lattice.ensures.lawful.size in
     let size : c.size-size.result ≡ l = c.size-size.ensures.value ∙ c.lattice.ensures.value in
     record {
-      room = rw size (length-take-le (half_plane l) c.args.ahead.now (omega (arith, plane-room l lawful, c.requires.room)));
+      room_x = rw size (length-take-le (half_plane l) c.args.in_x.now c.requires.room_x);
+      room_y = rw size (length-take-le (half_plane l) c.args.in_y.now c.requires.room_y);
       counted = λ b h.
           let bonds = bonds_of c.args.plan.now.couplings b in
           let spins = spins_of l b c.args.replica.now.planes in
