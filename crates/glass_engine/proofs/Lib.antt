@@ -19,3 +19,4 @@ pub mod BankDrives
 pub mod BankRows
 pub mod BankReports
 pub mod BankSavings
+pub mod BankChecks

@@ -21,6 +21,7 @@ use std::test::Fail;
 use std::thread::Threads;
 use threshold_table::{RuleKind, RuleRow, RuleTable, SwapTable};
 
+mod banks;
 mod saving;
 mod summary;
 

@@ -71,7 +71,7 @@ fn placed_twice<R: Threads + Wait + Sync>(
 }
 
 /// The bytes of a name; none where there are none.
-fn bytes_of(alloc: Global, shelf: &mut MemoryShelf, name: &str) -> Vec<u8> {
+pub(super) fn bytes_of(alloc: Global, shelf: &mut MemoryShelf, name: &str) -> Vec<u8> {
     match shelf.fetch(alloc, name, 20000) {
         Fetched::Held(bytes) => bytes,
         _ => Vec::new(alloc),
