@@ -11,6 +11,7 @@ pub mod DemoRuns
 pub mod Resumed
 pub mod Amounts
 pub mod RunEndings
+pub mod OneBank
 pub mod AddingUp
 pub mod ReadStops
 pub mod SavedStates
@@ -21,4 +22,8 @@ pub mod ReportSpins
 pub mod LawfulReports
 pub mod UnevenReports
 pub mod BankedFiles
+pub mod BankPlans
+pub mod BankStands
+pub mod BankRuns
+pub mod OneOfBanks
 pub mod Completing

@@ -18,10 +18,10 @@ use Rattle.run_checkpoint.specs.declared.refused.CheckpointRefused.{CheckpointRe
 use Rattle.run_checkpoint.specs.declared.refused.CheckpointRefused.TheVariants as checkpoint
 use Rattle.glass_engine.proofs.SavedRuns.{fits-at}
 use Rattle.glass_main.specs.Beginnings.{Beginning, Level, Uneven, states_in, resumed_by, IsBaseOf}
-use Rattle.glass_main.specs.Endings.{IsOfFile, TellsLength, FetchesCheckpoint}
+use Rattle.glass_main.specs.Endings.{IsOfFile, IsOfCheckpoint, TellsLength, FetchesCheckpoint}
 use Rattle.glass_main.specs.Gathers.{Gathers, Fetches}
 use Rattle.glass_main.specs.Outside.{Store}
-use Rattle.glass_main.specs.Request.{and_then, told_as, bytes_at, checkpoint_at}
+use Rattle.glass_main.specs.Request.{and_then, told_as, bytes_at, read_at}
 use Rattle.glass_main.specs.Resumes.{IsBegun, Resumes, Unresumed, Begins, ending_of}
 use Rattle.glass_main.specs.Statuses.{IsRefusedBy}
 use Rattle.glass_main.specs.declared.planned.Planned.{Planned}
@@ -69,44 +69,45 @@ resumed-by planned until bytes (Some e) base some fits is = absurd cc
 
 pub base-resumes : (planned : Planned) (until : ℕ) (bytes : List ℕ) (base : RaggedStand) → 0 < slots_of planned.plan
     → RaggedStandFits planned.plan planned.orders.samples planned.orders.every base
-    → any_decoded planned.plan planned.orders.samples planned.orders.every until bytes ≡ Ok base → Resumes planned until bytes (Ok base)
+    → any_decoded planned.plan planned.orders.samples planned.orders.every until bytes ≡ Ok base → Resumes (IsBaseOf planned.plan) (resumed_by planned until bytes) (Ok base)
 unfolding any_decoded resumed_by
 base-resumes planned until bytes base some fits is =
     resumed-by planned until bytes (any_refusal planned.plan planned.orders.samples planned.orders.every until bytes) base some fits is
 
-refused-by : {A B : Type 0} (refusal : Option CheckpointRefused) (x : A) (y : B) (e : CheckpointRefused) → unless refusal x ≡ Err e → (refusal ≡ Some e) × (unless refusal y ≡ Err e)
+pub refused-by : {A B : Type 0} (refusal : Option CheckpointRefused) (x : A) (y : B) (e : CheckpointRefused) → unless refusal x ≡ Err e → (refusal ≡ Some e) × (unless refusal y ≡ Err e)
 refused-by None x y e is = absurd cc
 refused-by (Some due) x y e is = let same : due ≡ e = cc in (ap Some same, ap Err same)
 
-refusal-resumes : (planned : Planned) (until : ℕ) (bytes : List ℕ) (e : CheckpointRefused) → ¬ (e ≡ checkpoint.NoMemory)
-    → any_decoded planned.plan planned.orders.samples planned.orders.every until bytes ≡ Err e → Unresumed planned until bytes (Refused (refused.Checkpoint e))
+by-name : {A : Type 0} (asked : Result A CheckpointRefused) (e : CheckpointRefused) → IsOfCheckpoint e × (asked ≡ Err e) → Unresumed asked (Refused (refused.Checkpoint e))
+by-name asked e h = (e, refl, h.0, h.1)
+
+-- a refusal by name is told as the checkpoint's, and want of memory as itself
+pub refusal-ends : {A : Type 0} (asked : Result A CheckpointRefused) (e : CheckpointRefused) → (¬ (e ≡ checkpoint.NoMemory) → IsOfCheckpoint e × (asked ≡ Err e)) → Unresumed asked (ending_of e)
+refusal-ends asked checkpoint.NoMemory named = tt
+refusal-ends asked (checkpoint.Short a) named = by-name asked (checkpoint.Short a) (named (λ e. absurd cc))
+refusal-ends asked checkpoint.Magic named = by-name asked checkpoint.Magic (named (λ e. absurd cc))
+refusal-ends asked (checkpoint.Shape a b) named = by-name asked (checkpoint.Shape a b) (named (λ e. absurd cc))
+refusal-ends asked (checkpoint.Length a b) named = by-name asked (checkpoint.Length a b) (named (λ e. absurd cc))
+refusal-ends asked (checkpoint.Digest a b) named = by-name asked (checkpoint.Digest a b) (named (λ e. absurd cc))
+refusal-ends asked (checkpoint.OtherPlan a b) named = by-name asked (checkpoint.OtherPlan a b) (named (λ e. absurd cc))
+refusal-ends asked (checkpoint.Replicas a b c) named = by-name asked (checkpoint.Replicas a b c) (named (λ e. absurd cc))
+refusal-ends asked (checkpoint.Late a b) named = by-name asked (checkpoint.Late a b) (named (λ e. absurd cc))
+refusal-ends asked (checkpoint.Places a) named = by-name asked (checkpoint.Places a) (named (λ e. absurd cc))
+refusal-ends asked (checkpoint.Orders a b) named = by-name asked (checkpoint.Orders a b) (named (λ e. absurd cc))
+refusal-ends asked (checkpoint.Pending a b) named = by-name asked (checkpoint.Pending a b) (named (λ e. absurd cc))
+refusal-ends asked (checkpoint.BankCount a b) named = by-name asked (checkpoint.BankCount a b) (named (λ e. absurd cc))
+refusal-ends asked (checkpoint.BankEpoch a b c) named = by-name asked (checkpoint.BankEpoch a b c) (named (λ e. absurd cc))
+
+-- what the reader of one bank refuses
+pub base-refused : (planned : Planned) (until : ℕ) (bytes : List ℕ) (e : CheckpointRefused)
+    → (¬ (e ≡ checkpoint.NoMemory) → any_decoded planned.plan planned.orders.samples planned.orders.every until bytes ≡ Err e)
+    → ¬ (e ≡ checkpoint.NoMemory) → IsOfCheckpoint e × (resumed_by planned until bytes ≡ Err e)
 unfolding any_decoded resumed_by
-refusal-resumes planned until bytes e not is =
+base-refused planned until bytes e exact not =
     let plan = planned.plan in
     let o = planned.orders in
-    let both = refused-by (any_refusal plan o.samples o.every until bytes) (any_in plan bytes) (states_in plan bytes) e is in
-    (e, refl, record { refusal = not; cause = (plan, o.samples, o.every, until, bytes, both.0) }, both.1)
-
-named : (planned : Planned) (until : ℕ) (bytes : List ℕ) (e : CheckpointRefused) → ¬ (e ≡ checkpoint.NoMemory)
-    → (¬ (e ≡ checkpoint.NoMemory) → any_decoded planned.plan planned.orders.samples planned.orders.every until bytes ≡ Err e) → Unresumed planned until bytes (Refused (refused.Checkpoint e))
-named planned until bytes e not exact = refusal-resumes planned until bytes e not (exact not)
-
-pub refusal-ends : (planned : Planned) (until : ℕ) (bytes : List ℕ) (e : CheckpointRefused)
-    → (¬ (e ≡ checkpoint.NoMemory) → any_decoded planned.plan planned.orders.samples planned.orders.every until bytes ≡ Err e) → Unresumed planned until bytes (ending_of e)
-refusal-ends planned until bytes checkpoint.NoMemory exact = tt
-refusal-ends planned until bytes (checkpoint.Short a) exact = named planned until bytes (checkpoint.Short a) (λ e. absurd cc) exact
-refusal-ends planned until bytes checkpoint.Magic exact = named planned until bytes checkpoint.Magic (λ e. absurd cc) exact
-refusal-ends planned until bytes (checkpoint.Shape a b) exact = named planned until bytes (checkpoint.Shape a b) (λ e. absurd cc) exact
-refusal-ends planned until bytes (checkpoint.Length a b) exact = named planned until bytes (checkpoint.Length a b) (λ e. absurd cc) exact
-refusal-ends planned until bytes (checkpoint.Digest a b) exact = named planned until bytes (checkpoint.Digest a b) (λ e. absurd cc) exact
-refusal-ends planned until bytes (checkpoint.OtherPlan a b) exact = named planned until bytes (checkpoint.OtherPlan a b) (λ e. absurd cc) exact
-refusal-ends planned until bytes (checkpoint.Replicas a b c) exact = named planned until bytes (checkpoint.Replicas a b c) (λ e. absurd cc) exact
-refusal-ends planned until bytes (checkpoint.Late a b) exact = named planned until bytes (checkpoint.Late a b) (λ e. absurd cc) exact
-refusal-ends planned until bytes (checkpoint.Places a) exact = named planned until bytes (checkpoint.Places a) (λ e. absurd cc) exact
-refusal-ends planned until bytes (checkpoint.Orders a b) exact = named planned until bytes (checkpoint.Orders a b) (λ e. absurd cc) exact
-refusal-ends planned until bytes (checkpoint.Pending a b) exact = named planned until bytes (checkpoint.Pending a b) (λ e. absurd cc) exact
-refusal-ends planned until bytes (checkpoint.BankCount a b) exact = named planned until bytes (checkpoint.BankCount a b) (λ e. absurd cc) exact
-refusal-ends planned until bytes (checkpoint.BankEpoch a b c) exact = named planned until bytes (checkpoint.BankEpoch a b c) (λ e. absurd cc) exact
+    let both = refused-by (any_refusal plan o.samples o.every until bytes) (any_in plan bytes) (states_in plan bytes) e (exact not) in
+    (record { refusal = not; cause = inl (plan, o.samples, o.every, until, bytes, both.0) }, both.1)
 
 -- no slot has completed more epochs than it may
 pub encoded-reach : (plan : Plan) (samples every until : ℕ) (bytes : List ℕ) (base : RaggedStand) → 0 < slots_of plan → IsAnyEncoded plan samples every until bytes base → deepest_of (positions_of base) ≤ until
@@ -120,79 +121,76 @@ encoded-reach plan samples every until bytes base some encoded = elim encoded [
 
 -- ---- the step
 
-step-found : (planned : Planned) (until : ℕ) (name bytes : List ℕ) (held : Option Files) (base : RaggedStand) → IfSome (option_map (bytes_at roles.Checkpoint name) held) (λ a. a ≡ Ok bytes)
-    → Resumes planned until bytes (Ok base) → IfSome (option_map (checkpoint_at planned until name) held) (IsBegun planned.plan base)
-unfolding checkpoint_at
-step-found planned until name bytes None base found (from, read, is) = tt
-step-found planned until name bytes (Some files) base found (from, read, is) =
-    let whole : checkpoint_at planned until name files ≡ Ok from =
-    ap (λ (a : Result (List ℕ) Refusal). and_then a (λ bs. told_as refused.Checkpoint (resumed_by planned until bs))) found ∙ ap (told_as refused.Checkpoint) read in
-    subst (IsBegun planned.plan base) (sym whole) is
+module _ {A B : Type 0} (Packs : A → B → Type 0) (read : List ℕ → Result A CheckpointRefused) (name : List ℕ) where
+  -- what it gives where the bytes are these
+  step-is : (bytes : List ℕ) (files : Files) → bytes_at roles.Checkpoint name files ≡ Ok bytes → read_at read name files ≡ told_as refused.Checkpoint (read bytes)
+  unfolding read_at
+  step-is bytes files found = ap (λ (a : Result (List ℕ) Refusal). and_then a (λ bs. told_as refused.Checkpoint (read bs))) found
 
-step-refused : (planned : Planned) (until : ℕ) (name bytes : List ℕ) (held : Option Files) (e : CheckpointRefused) → IfSome (option_map (bytes_at roles.Checkpoint name) held) (λ a. a ≡ Ok bytes)
-    → resumed_by planned until bytes ≡ Err e → IfSome (option_map (checkpoint_at planned until name) held) (λ a. IsRefusedBy a (refused.Checkpoint e))
-unfolding checkpoint_at
-step-refused planned until name bytes None e found read = tt
-step-refused planned until name bytes (Some files) e found read =
-    let whole : checkpoint_at planned until name files ≡ Err (refused.Checkpoint e) =
-    ap (λ (a : Result (List ℕ) Refusal). and_then a (λ bs. told_as refused.Checkpoint (resumed_by planned until bs))) found ∙ ap (told_as refused.Checkpoint) read in
-    subst (λ (a : Result Beginning Refusal). IsRefusedBy a (refused.Checkpoint e)) (sym whole) refl
+  step-found : (bytes : List ℕ) (held : Option Files) (base : B) → IfSome (option_map (bytes_at roles.Checkpoint name) held) (λ a. a ≡ Ok bytes) → Resumes Packs (read bytes) (Ok base)
+      → IfSome (option_map (read_at read name) held) (IsBegun Packs base)
+  step-found bytes None base found (from, is, packs) = tt
+  step-found bytes (Some files) base found (from, is, packs) = subst (IsBegun Packs base) (sym (step-is bytes files found ∙ ap (told_as refused.Checkpoint) is)) packs
 
-pub begins-read : (planned : Planned) (until : ℕ) (name bytes : List ℕ) (r : Result RaggedStand Ending) (held holds : Store)
-    → Gathers (option_map (bytes_at roles.Checkpoint name) held.holds) (Fetches roles.Checkpoint) (Ok bytes) held holds → Resumes planned until bytes r
-    → Begins (Some name) planned.plan (option_map (checkpoint_at planned until name) held.holds) r held holds
-begins-read planned until name bytes (Ok base) held holds g is = record {
-  found = step-found planned until name bytes held.holds base g.found is;
-  passed = g.passed;
-  stopped = tt;
-  same = g.same;
-  lengths = g.lengths;
-  later = g.later;
-}
-begins-read planned until name bytes (Err Done) held holds g is = absurd is
-begins-read planned until name bytes (Err (Refused told)) held holds g (e, told_is, file, read) = record {
-  found = tt;
-  passed = tt;
-  stopped = ((subst (IsOfFile (FetchesCheckpoint (Some name))) (sym told_is) (record { role_is = refl; named = λ none. absurd cc }, file), subst (λ t. IfSome (option_map (checkpoint_at planned until name) held.holds) (λ a. IsRefusedBy a t)) (sym told_is) (step-refused planned until name bytes held.holds e g.found read)), g.passed, subst (TellsLength held.lengths) (sym told_is) tt);
-  same = g.same;
-  lengths = g.lengths;
-  later = g.later;
-}
-begins-read planned until name bytes (Err (Unread role)) held holds g is = absurd is
-begins-read planned until name bytes (Err Unwritten) held holds g is = absurd is
-begins-read planned until name bytes (Err Unsaved) held holds g is = absurd is
-begins-read planned until name bytes (Err NoMemory) held holds g is = record { found = tt; passed = tt; stopped = g.passed; same = g.same; lengths = g.lengths; later = g.later }
+  step-refused : (bytes : List ℕ) (held : Option Files) (e : CheckpointRefused) → IfSome (option_map (bytes_at roles.Checkpoint name) held) (λ a. a ≡ Ok bytes) → read bytes ≡ Err e
+      → IfSome (option_map (read_at read name) held) (λ a. IsRefusedBy a (refused.Checkpoint e))
+  step-refused bytes None e found is = tt
+  step-refused bytes (Some files) e found is = subst (λ (a : Result A Refusal). IsRefusedBy a (refused.Checkpoint e)) (sym (step-is bytes files found ∙ ap (told_as refused.Checkpoint) is)) refl
 
-step-absent : (planned : Planned) (until : ℕ) (name : List ℕ) (held : Option Files) (told : Refusal) → IfSome (option_map (bytes_at roles.Checkpoint name) held) (λ a. IsRefusedBy a told)
-    → IfSome (option_map (checkpoint_at planned until name) held) (λ a. IsRefusedBy a told)
-unfolding checkpoint_at
-step-absent planned until name None told is = tt
-step-absent planned until name (Some files) told is = next-refused (bytes_at roles.Checkpoint name files) is
-  where
-    next-refused : (a : Result (List ℕ) Refusal) → IsRefusedBy a told → IsRefusedBy (and_then a (λ bs. told_as refused.Checkpoint (resumed_by planned until bs))) told
-    next-refused (Ok bytes) r = absurd r
-    next-refused (Err due) r = r
+  pub begins-read : (bytes : List ℕ) (r : Result B Ending) (held holds : Store)
+      → Gathers (option_map (bytes_at roles.Checkpoint name) held.holds) (Fetches roles.Checkpoint) (Ok bytes) held holds → Resumes Packs (read bytes) r
+      → Begins (Some name) Packs (option_map (read_at read name) held.holds) r held holds
+  begins-read bytes (Ok base) held holds g is = record {
+    found = step-found bytes held.holds base g.found is;
+    passed = g.passed;
+    stopped = tt;
+    same = g.same;
+    lengths = g.lengths;
+    later = g.later;
+  }
+  begins-read bytes (Err Done) held holds g is = absurd is
+  begins-read bytes (Err (Refused told)) held holds g (e, told_is, file, due) = record {
+    found = tt;
+    passed = tt;
+    stopped = ((subst (IsOfFile (FetchesCheckpoint (Some name))) (sym told_is) (record { role_is = refl; named = λ none. absurd cc }, file), subst (λ t. IfSome (option_map (read_at read name) held.holds) (λ a. IsRefusedBy a t)) (sym told_is) (step-refused bytes held.holds e g.found due)), g.passed, subst (TellsLength held.lengths) (sym told_is) tt);
+    same = g.same;
+    lengths = g.lengths;
+    later = g.later;
+  }
+  begins-read bytes (Err (Unread role)) held holds g is = absurd is
+  begins-read bytes (Err Unwritten) held holds g is = absurd is
+  begins-read bytes (Err Unsaved) held holds g is = absurd is
+  begins-read bytes (Err NoMemory) held holds g is = record { found = tt; passed = tt; stopped = g.passed; same = g.same; lengths = g.lengths; later = g.later }
 
-pub begins-unread : (planned : Planned) (until : ℕ) (name : List ℕ) (ending : Ending) (held holds : Store)
-    → Gathers (option_map (bytes_at roles.Checkpoint name) held.holds) (Fetches roles.Checkpoint) (Err ending) held holds
-    → Begins (Some name) planned.plan (option_map (checkpoint_at planned until name) held.holds) (Err ending) held holds
-begins-unread planned until name Done held holds g = absurd g.stopped
-begins-unread planned until name (Refused told) held holds g = record {
-  found = tt;
-  passed = tt;
-  stopped = ((of-file-wider (Fetches roles.Checkpoint) (FetchesCheckpoint (Some name)) told (λ role is. record { role_is = is; named = λ none. absurd cc }) g.stopped.0.0, step-absent planned until name held.holds told g.stopped.0.1), g.stopped.1, g.stopped.2);
-  same = g.same;
-  lengths = g.lengths;
-  later = g.later;
-}
-begins-unread planned until name (Unread role) held holds g = record {
-  found = tt;
-  passed = tt;
-  stopped = (record { role_is = g.stopped.0; named = λ none. absurd cc }, g.stopped.1);
-  same = g.same;
-  lengths = g.lengths;
-  later = g.later;
-}
-begins-unread planned until name Unwritten held holds g = absurd g.stopped
-begins-unread planned until name Unsaved held holds g = absurd g.stopped
-begins-unread planned until name NoMemory held holds g = record { found = tt; passed = tt; stopped = g.stopped; same = g.same; lengths = g.lengths; later = g.later }
+  step-absent : (held : Option Files) (told : Refusal) → IfSome (option_map (bytes_at roles.Checkpoint name) held) (λ a. IsRefusedBy a told)
+      → IfSome (option_map (read_at read name) held) (λ a. IsRefusedBy a told)
+  unfolding read_at
+  step-absent None told is = tt
+  step-absent (Some files) told is = next-refused (bytes_at roles.Checkpoint name files) is
+    where
+      next-refused : (a : Result (List ℕ) Refusal) → IsRefusedBy a told → IsRefusedBy (and_then a (λ bs. told_as refused.Checkpoint (read bs))) told
+      next-refused (Ok bytes) r = absurd r
+      next-refused (Err due) r = r
+
+  pub begins-unread : (ending : Ending) (held holds : Store) → Gathers (option_map (bytes_at roles.Checkpoint name) held.holds) (Fetches roles.Checkpoint) (Err ending) held holds
+      → Begins (Some name) Packs (option_map (read_at read name) held.holds) (Err ending) held holds
+  begins-unread Done held holds g = absurd g.stopped
+  begins-unread (Refused told) held holds g = record {
+    found = tt;
+    passed = tt;
+    stopped = ((of-file-wider (Fetches roles.Checkpoint) (FetchesCheckpoint (Some name)) told (λ role is. record { role_is = is; named = λ none. absurd cc }) g.stopped.0.0, step-absent held.holds told g.stopped.0.1), g.stopped.1, g.stopped.2);
+    same = g.same;
+    lengths = g.lengths;
+    later = g.later;
+  }
+  begins-unread (Unread role) held holds g = record {
+    found = tt;
+    passed = tt;
+    stopped = (record { role_is = g.stopped.0; named = λ none. absurd cc }, g.stopped.1);
+    same = g.same;
+    lengths = g.lengths;
+    later = g.later;
+  }
+  begins-unread Unwritten held holds g = absurd g.stopped
+  begins-unread Unsaved held holds g = absurd g.stopped
+  begins-unread NoMemory held holds g = record { found = tt; passed = tt; stopped = g.stopped; same = g.same; lengths = g.lengths; later = g.later }

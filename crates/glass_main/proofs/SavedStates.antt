@@ -1,5 +1,5 @@
 -- The checkpoints whose link overlaps and correlation lines are printed: what they are refused for, and what they are read as.
-use Rattle.std.proofs.Common.{◌≡◌, ℕ, ◌≤◌, Bool, true, false, List, replicate, take, Option, Some, None, option_map, IfSome, Result, Ok, Err, IfOk, IfErr, refl, sym, ap, ◌∙◌, subst}
+use Rattle.std.proofs.Common.{inl, ◌≡◌, ℕ, ◌≤◌, Bool, true, false, List, replicate, take, Option, Some, None, option_map, IfSome, Result, Ok, Err, IfOk, IfErr, refl, sym, ap, ◌∙◌, subst}
 use Rattle.std.specs.Str.{bytes_eq}
 use Rattle.glass_edges.specs.Contents.{Files}
 use Rattle.glass_edges.specs.Refusals.{unless, GivesAfterTests}
@@ -75,7 +75,7 @@ any-of plan until bytes e None true first is due =
 pub level-cause : (plan : Plan) (bytes : List ℕ) (e : CheckpointRefused) → ¬ (e ≡ checkpoint.NoMemory) → level_refusal plan 1000000000 bytes ≡ Some e → IsOfCheckpoint e
 level-cause plan bytes e refusal due =
     let any = any-of plan 1000000000 bytes e (short 88 bytes) (is_uneven bytes) refl refl due in
-    record { refusal = refusal; cause = (plan, 1, 1, 1000000000, any.0, any.1) }
+    record { refusal = refusal; cause = inl (plan, 1, 1, 1000000000, any.0, any.1) }
 
 due-of : (refusal : Option CheckpointRefused) (x : Stand) (e : CheckpointRefused) → unless refusal x ≡ Err e → refusal ≡ Some e
 due-of None x e is = absurd cc

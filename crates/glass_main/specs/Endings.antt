@@ -1,5 +1,5 @@
 -- Which endings words may have, over any store: what holds also where no file is observable.
-use Rattle.std.specs.Prelude.{◌≡◌, ◌≢◌, ◌⊎◌, ℕ, ◌<◌, false, List, Option, Some, None, option_map, IfSome, Err}
+use Rattle.std.specs.Prelude.{◌≡◌, ◌≢◌, ◌⊎◌, ℕ, ◌<◌, Bool, true, false, List, Option, Some, None, option_map, IfSome, Err}
 use Rattle.glass_edges.specs.Contents.{Files}
 use Rattle.coupling_set.specs.CouplingsFile.{couplings_in}
 use Rattle.coupling_set.specs.declared.refused.CouplingsRefused.{CouplingsRefused}
@@ -8,6 +8,7 @@ use Rattle.threshold_table.specs.Tables.{RuleView, rule_table, swap_table}
 use Rattle.threshold_table.specs.declared.refused.TableRefused.{TableRefused}
 use Rattle.threshold_table.specs.declared.refused.TableRefused.TheVariants as table
 use Rattle.threshold_table.specs.declared.rule_table.RuleKind.{RuleKind}
+use Rattle.run_checkpoint.specs.BankDecoding.{banks_refusal}
 use Rattle.run_checkpoint.specs.Decoding.{level_refusal}
 use Rattle.run_checkpoint.specs.UnevenDecoding.{any_refusal}
 use Rattle.run_checkpoint.specs.declared.refused.CheckpointRefused.{CheckpointRefused}
@@ -21,7 +22,7 @@ use Rattle.sample_average.specs.declared.refused.ReportRefused.{ReportRefused}
 use Rattle.sample_average.specs.declared.refused.ReportRefused.TheVariants as report
 use Rattle.scalar_rule.specs.Plan as rule
 use Rattle.glass_main.specs.CommandLine.{RunOrder, Command, Plain, Check, Run, Average, Demo, Lines, Potts, Age}
-use Rattle.glass_main.specs.Request.{limit_of, and_then, banked, IsAccepted, run_file_at, rules_at, swaps_at, tables_at, plan_at}
+use Rattle.glass_main.specs.Request.{limit_of, and_then, banked, IsAccepted, run_file_at, rules_at, swaps_at, tables_at, plan_at, plans_at, has_banks}
 use Rattle.glass_main.specs.declared.role.Role.{Role}
 use Rattle.glass_main.specs.declared.role.Role.TheVariants as roles
 use Rattle.glass_main.specs.declared.refusal.Refusal.{Refusal}
@@ -51,10 +52,11 @@ pub record IsOfCouplings (e : CouplingsRefused) : Type 0 where
   pub refusal : ¬ (e ≡ couplings.NoMemory)
   pub cause : (size : ℕ) × (bytes : List ℕ) × (couplings_in size 0 bytes ≡ Err e)
 
--- some checkpoint is refused so, for some plan, orders and last epoch
+-- some checkpoint is refused so, of one bank for some plan, orders and last epoch, or of several for some plans and last epoch
 pub record IsOfCheckpoint (e : CheckpointRefused) : Type 0 where
   pub refusal : ¬ (e ≡ checkpoint.NoMemory)
-  pub cause : (plan : rule.Plan) × (samples : ℕ) × (every : ℕ) × (until : ℕ) × (bytes : List ℕ) × (any_refusal plan samples every until bytes ≡ Some e)
+  pub cause : ((plan : rule.Plan) × (samples : ℕ) × (every : ℕ) × (until : ℕ) × (bytes : List ℕ) × (any_refusal plan samples every until bytes ≡ Some e))
+      ⊎ ((plans : List rule.Plan) × (until : ℕ) × (bytes : List ℕ) × (banks_refusal plans until bytes ≡ Some e))
 
 -- some report is refused so, by its grammar or for too few samples
 pub record IsOfReport (blocks : ℕ) (e : ReportRefused) : Type 0 where
@@ -117,16 +119,16 @@ IsReachedAfter file held roles.Report = ⊥
 IsReachedAfter file held roles.Couplings = IfSome (option_map (tables_at file) held) IsAccepted
 IsReachedAfter file held roles.Checkpoint = ⊥
 
--- which files from a run file's name on
-abbrev pub IsReached : List ℕ → Option Files → Role → Type 0
-IsReached name held roles.RunFile = Unit {0}
-IsReached name held roles.RuleTable = IfSome (option_map (run_file_at name) held) IsAccepted
-IsReached name held roles.SwapTable =
-    IfSome (option_map (λ files. and_then (run_file_at name files) (λ file. rules_at file files)) held) IsAccepted
-IsReached name held roles.Report = ⊥
-IsReached name held roles.Couplings =
-    IfSome (option_map (λ files. and_then (run_file_at name files) (λ file. tables_at file files)) held) IsAccepted
-IsReached name held roles.Checkpoint = ⊥
+-- which files from a run file's name on, for a command that runs many banks or but one
+abbrev pub IsReached : Bool → List ℕ → Option Files → Role → Type 0
+IsReached many name held roles.RunFile = Unit {0}
+IsReached many name held roles.RuleTable = IfSome (option_map (run_file_at many name) held) IsAccepted
+IsReached many name held roles.SwapTable =
+    IfSome (option_map (λ files. and_then (run_file_at many name files) (λ file. rules_at file files)) held) IsAccepted
+IsReached many name held roles.Report = ⊥
+IsReached many name held roles.Couplings =
+    IfSome (option_map (λ files. and_then (run_file_at many name files) (λ file. tables_at file files)) held) IsAccepted
+IsReached many name held roles.Checkpoint = ⊥
 
 -- the checkpoint, where one is named
 pub record FetchesCheckpoint (name : Option (List ℕ)) (role : Role) : Type 0 where
@@ -136,25 +138,25 @@ pub record FetchesCheckpoint (name : Option (List ℕ)) (role : Role) : Type 0 w
 -- that of an order: no step before refuses
 pub record IsResumed (order : RunOrder) (held : Option Files) (role : Role) : Type 0 where
   pub fetches : FetchesCheckpoint order.from role
-  pub reached : IfSome (option_map (plan_at order.run) held) IsAccepted
+  pub reached : IfSome (option_map (plans_at (has_banks order.stop_after) order.run) held) IsAccepted
 
 -- which files of a run and of a checkpoint that is read behind them
 abbrev pub IsReachedSaved : List ℕ → Option Files → Role → Type 0
 IsReachedSaved name held roles.Checkpoint = IfSome (option_map (plan_at name) held) IsAccepted
-IsReachedSaved name held role = IsReached name held role
+IsReachedSaved name held role = IsReached false name held role
 
 -- ---- commands
 
 -- the files that a command fetches, at which the store may fail: `plain`, `demo` and `potts` fetch none
 abbrev pub MayFetch : Command → Option Files → Role → Type 0
 MayFetch (Plain order) held role = ⊥
-MayFetch (Check name) held role = IsReached name held role
-MayFetch (Run order) held role = IsReached order.run held role ⊎ IsResumed order held role
+MayFetch (Check name) held role = IsReached true name held role
+MayFetch (Run order) held role = IsReached (has_banks order.stop_after) order.run held role ⊎ IsResumed order held role
 MayFetch (Average order) held role = role ≡ roles.Report
 MayFetch (Demo n) held role = ⊥
 MayFetch (Lines order) held role = IsReachedSaved order.run held role
 MayFetch (Potts order) held role = ⊥
-MayFetch (Age order) held role = IsReached order.run held role
+MayFetch (Age order) held role = IsReached false order.run held role
 
 -- what a command may be refused for: `plain`, `demo` and `potts` read no file, and are never refused; `check`, `lines`, `age` and a run are
 -- for a file that they fetch, of which no step before refuses; no amount is asked for but by a run; `lines` reads a checkpoint at one

@@ -5,6 +5,8 @@ pub mod CommandLine
 pub mod Texts
 pub mod PottsRun
 pub mod AgeRun
+pub mod ManyBanks
+pub mod KeptPlans
 pub mod Beginnings
 pub mod Stops
 pub mod Outside
@@ -13,12 +15,15 @@ pub mod Lines
 pub mod Endings
 pub mod Statuses
 pub mod Gathers
+pub mod BankTables
 pub mod Resumes
 pub mod ReadPotts
 pub mod ReadAge
 pub mod ReadCommand
 pub mod Opened
+pub mod BanksOpened
 pub mod StopLaws
 pub mod DemoRun
 pub mod LawfulRuns
 pub mod SavedLaws
+pub mod SampleLaws

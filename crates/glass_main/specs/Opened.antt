@@ -1,5 +1,5 @@
 -- A run as it is opened, and why it isn't.
-use Rattle.std.specs.Prelude.{◌≡◌, ◌≢◌, ℕ, List, Option, Some, None, unwrap_or}
+use Rattle.std.specs.Prelude.{◌≡◌, ◌≢◌, ℕ, List, Option, Some, None, unwrap_or, Result}
 use Rattle.std.specs.Arc.{arc_value}
 use Rattle.glass_engine.specs.Runs.{RunView}
 use Rattle.glass_engine.specs.declared.run.SaveKind.{SaveKind}
@@ -9,8 +9,9 @@ use Rattle.plane_sweep.specs.declared.uneven.RaggedStand.{RaggedStand}
 use Rattle.glass_main.specs.Beginnings.{Beginning, run_text, run_checkpoint, IsBaseOf}
 use Rattle.glass_main.specs.Stops.{ComesTo, stopped_text, stopped_checkpoint}
 use Rattle.glass_main.specs.Endings.{IsOfAmount}
-use Rattle.glass_main.specs.Request.{run_work}
+use Rattle.glass_main.specs.Request.{Work}
 use Rattle.glass_main.specs.Statuses.{IsRefusedBy}
+use Rattle.glass_main.specs.declared.refusal.Refusal.{Refusal}
 use Rattle.glass_main.specs.declared.ending.Ending.{Ending}
 use Rattle.glass_main.specs.declared.ending.Ending.TheVariants.{Done, Refused, Unwritten, Unsaved, NoMemory}
 use Rattle.glass_main.specs.declared.planned.Planned.{Planned}
@@ -54,11 +55,11 @@ abbrev pub Comes : Option ℕ → Planned → Beginning → ℕ → RaggedStand 
 Comes None planned from e came = Unit {0}
 Comes (Some takes) planned from e came = ComesTo planned from e takes came
 
--- the ending of a run that isn't opened: it is refused for its amount, or there was not enough memory
-abbrev pub IsUnopened : Option ℕ → Planned → Beginning → ℕ → Ending → Type 0
-IsUnopened stop_after planned from e (Refused told) = IsOfAmount told × IsRefusedBy (run_work stop_after planned e from) told
-IsUnopened stop_after planned from e NoMemory = Unit {0}
-IsUnopened stop_after planned from e ending = ⊥
+-- the ending of a run, of which this work is asked, that isn't opened: it is refused for its amount, or there was not enough memory
+abbrev pub IsUnopened : Result Work Refusal → Ending → Type 0
+IsUnopened asked (Refused told) = IsOfAmount told × IsRefusedBy asked told
+IsUnopened asked NoMemory = Unit {0}
+IsUnopened asked ending = ⊥
 
 -- a run of what is asked for: its plan, its orders, its last epoch, what it starts from, and the hand-outs that it may make
 pub record IsRunOf (stop_after : Option ℕ) (planned : Planned) (from : Beginning) (e : ℕ) (run : RunView) : Type 0 where

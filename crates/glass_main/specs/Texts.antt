@@ -1,9 +1,8 @@
 -- What the commands print: lines of text, each ended by one line feed.
-use Rattle.std.specs.Prelude.{ℕ, List, Bool, ◌++◌, codes, decimal}
+use Rattle.std.specs.Prelude.{ℕ, List, [], ◌∷◌, Bool, ◌++◌, codes, decimal}
 use Rattle.std.specs.Fmt.{signed_decimal}
 use Rattle.hex.specs.Hex.{encode_lower}
-use Rattle.sha2.specs.Sha256.{sha256}
-use Rattle.run_plan.specs.CanonicalPlan.{canonical}
+use Rattle.run_plan.specs.CanonicalPlan.{plan_digest, banks_digest}
 use Rattle.run_plan.specs.DemoPlan.{demo_plan}
 use Rattle.spin_model.specs.Couplings.{plus}
 use Rattle.scalar_rule.specs.Opening.{opening}
@@ -17,7 +16,8 @@ use Rattle.glass_engine.specs.Summary.{summary}
 use Rattle.overlap_lines.specs.LineText.{lines_text}
 use Rattle.plane_sweep.specs.Packed.{part}
 use Rattle.glass_main.specs.CommandLine.{PlainOrder}
-use Rattle.glass_main.specs.declared.planned.Planned.{Planned}
+use Rattle.glass_main.specs.declared.plans.Plans.{Plans}
+use Rattle.glass_main.specs.declared.plans.Plans.TheVariants.{One, Banks}
 use Rattle.glass_main.specs.declared.saved_state.SavedState.{SavedState}
 
 -- the spins that a plain run ends with
@@ -41,23 +41,32 @@ spin_line l spins = codes "spin," ++ spin_digits l spins ++ codes "\n"
 abbrev pub plain_text : PlainOrder → List ℕ
 plain_text order = plain_header order ++ energy_line order.size (plain_spins order) ++ spin_line order.size (plain_spins order)
 
--- the sizes of a run
-unfoldable pub plan_sizes : Planned → List ℕ
-plan_sizes planned =
-    codes "plan 1 size=" ++ decimal planned.plan.size ++ codes " slots=" ++ decimal (slots_of planned.plan)
-    ++ codes " samples=" ++ decimal planned.orders.samples
+-- the sizes of a run, with the number of its samples
+unfoldable pub plan_sizes : Plan → ℕ → List ℕ
+plan_sizes plan samples =
+    codes "plan 1 size=" ++ decimal plan.size ++ codes " slots=" ++ decimal (slots_of plan) ++ codes " samples=" ++ decimal samples
 
 -- its dynamics
 unfoldable pub plan_dynamics : Plan → List ℕ
 plan_dynamics plan = codes " rule=" ++ kind_text plan.rules.kind ++ codes " sweeps=" ++ decimal plan.sweeps
 
--- the SHA-256 of its canonical bytes, in hexadecimal
-unfoldable pub plan_digest : Plan → List ℕ
-plan_digest plan = codes " digest=" ++ encode_lower (sha256 (canonical plan))
+-- a digest in hexadecimal
+unfoldable pub digest_word : List ℕ → List ℕ
+digest_word digest = codes " digest=" ++ encode_lower digest
 
--- what `check` prints
-abbrev pub check_text : Planned → List ℕ
-check_text planned = plan_sizes planned ++ plan_dynamics planned.plan ++ plan_digest planned.plan ++ codes "\n"
+-- a plan in one line
+abbrev pub plan_line : Plan → ℕ → List ℕ → List ℕ
+plan_line plan samples digest = plan_sizes plan samples ++ plan_dynamics plan ++ digest_word digest ++ codes "\n"
+
+-- the plans of several banks, which differ in their couplings alone, in one line
+unfoldable pub banks_line : List Plan → ℕ → List ℕ
+banks_line [] samples = []
+banks_line (plan ∷ plans) samples = plan_line plan samples (banks_digest (plan ∷ plans))
+
+-- what `check` prints: with the SHA-256 of the canonical bytes of the plan, or the digest of the plans of all banks
+abbrev pub check_text : Plans → List ℕ
+check_text (One planned) = plan_line planned.plan planned.orders.samples (plan_digest planned.plan)
+check_text (Banks planned) = banks_line planned.plans planned.orders.samples
 
 -- what `demo` prints: of the plan that is made from the number the summary of 64 samples, each of them run for 16 epochs from random
 -- spins by the serial dynamics

@@ -1,8 +1,7 @@
 -- Words of the command line as bytes, and the numbers that some of them write.
-use Rattle.std.specs.Prelude.{ℕ, zero, suc, ◌+◌, ◌%◌, Bool, ◌&&◌, ◌==◌, nat_le, if◌then◌else◌, List, [], ◌∷◌, ◌++◌, length, map, slice_index_or, Option, Some, None, String, string_bytes}
-use Rattle.std.specs.List.{list_all}
+use Rattle.std.specs.Prelude.{ℕ, zero, suc, ◌+◌, ◌%◌, Bool, ◌&&◌, ◌==◌, nat_le, if◌then◌else◌, List, [], ◌∷◌, ◌++◌, map, slice_index_or, Option, Some, None, String, string_bytes}
 use Rattle.std.specs.declared.alloc.Global.{Global}
-use Rattle.threshold_table.specs.TableText.{is_digit, value_of}
+use Rattle.glass_edges.specs.Decimal.{is_numeral, value_of}
 
 -- the bytes of each word
 abbrev pub texts : List (String Global) → List (List ℕ)
@@ -23,7 +22,7 @@ in_range low high n = if nat_le low n && nat_le n high then Some n else None
 
 -- a number is written with one to twenty decimal digits
 abbrev pub is_number : List ℕ → Bool
-is_number text = nat_le 1 (length text) && nat_le (length text) 20 && list_all is_digit text
+is_number text = is_numeral 20 text
 
 -- a number word: a number whose value lies in the range
 abbrev pub number_word : ℕ → ℕ → List ℕ → Option ℕ

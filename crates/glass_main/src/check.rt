@@ -1,25 +1,24 @@
-//! The command `check`: a run file, its tables and couplings are read, and its plan's digest printed.
+//! The command `check`: a run file, its tables and couplings are read, and the digest of its plan, or of the
+//! plans of its banks, printed.
 
 ghost use Rattle.std.specs.Prelude.{◌≡◌, ◌+◌, ◌≤◌, [], ◌++◌, length, Some, OnOk, OnErr};
 ghost use Rattle.hex.specs.Hex.{encode_lower};
-ghost use Rattle.sha2.specs.Sha256.{sha256};
 ghost use Rattle.glass_edges.specs.Causes.{HasCause};
 ghost use Rattle.glass_edges.specs.Contents.{appended, AppendsPrefix};
-ghost use Rattle.report_text.specs.Lines.{kind_text};
-ghost use Rattle.run_plan.specs.CanonicalPlan.{canonical};
 ghost use Rattle.glass_main.specs.CommandLine.{Check};
 ghost use Rattle.glass_main.specs.Outside.{output, store};
 ghost use Rattle.glass_main.specs.Statuses.{Ends};
-ghost use Rattle.glass_main.specs.Texts.{check_text, plan_sizes, plan_dynamics, plan_digest};
+ghost use Rattle.glass_main.specs.Texts.{check_text, plan_line, plan_sizes, plan_dynamics, digest_word};
 
+use crate::bank_gathering::gather_plans;
 use crate::ending::Ending;
-use crate::gathering::gather_plan;
 use crate::planned::Planned;
+use crate::plans::{PlannedBanks, Plans};
 use glass_edges::{Fault, Line, Shelf, Sink};
-use run_plan::digest;
+use report_text::kind_word;
+use run_plan::{digest, digest_banks};
 use scalar_rule::Plan;
 use std::alloc::Global;
-use threshold_table::RuleKind;
 
 /// Reads the run file of a name and what it names, and prints its plan in one line.
 pub(crate) fn check<H: Shelf, O: Sink>(
@@ -32,43 +31,78 @@ pub(crate) fn check<H: Shelf, O: Sink>(
         (store H.holds H.faults H.lengths shelf.old) (store H.holds H.faults H.lengths shelf.new)
         (output O.taken O.faults out.old) (output O.taken O.faults out.new) }
 {
-    let planned = match gather_plan(alloc, shelf, name) {
-        Ok(planned) => planned,
+    let plans = match gather_plans(alloc, shelf, name, true) {
+        Ok(plans) => plans,
         Err(ending) => return ending,
     };
-    match put_check(out, &planned) {
+    match put_plans(out, &plans) {
         Ok(()) => Ending::Done,
         Err(_) => Ending::Unwritten,
     }
 }
 
-// Prints the line of a plan.
-fn put_check<O: Sink>(out: &mut O, planned: &Planned) -> Result<(), Fault>
-    ensures whole { OnOk result (O.taken out.new ≡ appended (O.taken out.old) (check_text planned.now)) }
-    ensures prefix { OnErr result (AppendsPrefix (O.taken out.old) (O.taken out.new) (check_text planned.now)) }
+// Prints the line of a run's plans.
+fn put_plans<O: Sink>(out: &mut O, plans: &Plans) -> Result<(), Fault>
+    ensures whole { OnOk result (O.taken out.new ≡ appended (O.taken out.old) (check_text plans.now)) }
+    ensures prefix { OnErr result (AppendsPrefix (O.taken out.old) (O.taken out.new) (check_text plans.now)) }
+    ensures cause { HasCause (O.faults out.old) (O.faults out.new) result }
+{
+    match plans {
+        Plans::One(planned) => put_one(out, planned),
+        Plans::Banks(planned) => put_banks(out, planned),
+    }
+}
+
+// Prints the line of a run of one bank.
+fn put_one<O: Sink>(out: &mut O, planned: &Planned) -> Result<(), Fault>
+    ensures whole { OnOk result (O.taken out.new ≡ appended (O.taken out.old) (check_text (Plans.One planned.now))) }
+    ensures prefix { OnErr result (AppendsPrefix (O.taken out.old) (O.taken out.new) (check_text (Plans.One planned.now))) }
+    ensures cause { HasCause (O.faults out.old) (O.faults out.new) result }
+{
+    let plan = &planned.plan;
+    put_plan(out, plan, planned.orders.samples, &digest(plan))
+}
+
+// Prints the line of a run of several banks, by the plan of the first and the digest of all.
+#[tactic(auto, unfolding(crate::specs::Texts::banks_line))]
+fn put_banks<O: Sink>(out: &mut O, planned: &PlannedBanks) -> Result<(), Fault>
+    ensures whole { OnOk result (O.taken out.new ≡ appended (O.taken out.old) (check_text (Plans.Banks planned.now))) }
+    ensures prefix { OnErr result (AppendsPrefix (O.taken out.old) (O.taken out.new) (check_text (Plans.Banks planned.now))) }
+    ensures cause { HasCause (O.faults out.old) (O.faults out.new) result }
+{
+    let digest = digest_banks(&planned.plans);
+    put_plan(out, &planned.plans[0], planned.orders.samples, &digest)
+}
+
+// Prints the line of a plan, for so many samples, with a digest.
+fn put_plan<O: Sink>(out: &mut O, plan: &Plan, samples: u32, digest: &[u8; 32]) -> Result<(), Fault>
+    ensures whole { OnOk result (O.taken out.new ≡ appended (O.taken out.old)
+        (plan_line plan.now samples digest.now)) }
+    ensures prefix { OnErr result (AppendsPrefix (O.taken out.old) (O.taken out.new)
+        (plan_line plan.now samples digest.now)) }
     ensures cause { HasCause (O.faults out.old) (O.faults out.new) result }
 {
     let mut line = Line::new();
-    add_sizes(&mut line, planned);
-    add_dynamics(&mut line, &planned.plan);
-    add_digest(&mut line, &planned.plan);
+    add_sizes(&mut line, plan, samples);
+    add_dynamics(&mut line, plan);
+    add_digest(&mut line, digest);
     line.add(b"\n");
     line.put(out)
 }
 
 // Adds the sizes of a run.
 #[tactic(auto, unfolding(crate::specs::Texts::plan_sizes))]
-fn add_sizes(line: &mut Line, planned: &Planned)
+fn add_sizes(line: &mut Line, plan: &Plan, samples: u32)
     requires { line.old ≡ [] }
-    ensures text { line.new ≡ plan_sizes planned.now }
+    ensures text { line.new ≡ plan_sizes plan.now samples }
     ensures short { length line.new ≤ 90 }
 {
     line.add(b"plan 1 size=");
-    line.number(planned.plan.lattice().size() as u64);
+    line.number(plan.lattice().size() as u64);
     line.add(b" slots=");
-    line.number(planned.plan.slots() as u64);
+    line.number(plan.slots() as u64);
     line.add(b" samples=");
-    line.number(planned.orders.samples as u64);
+    line.number(samples as u64);
 }
 
 // Adds the dynamics of a plan.
@@ -84,33 +118,21 @@ fn add_dynamics(line: &mut Line, plan: &Plan)
     line.number(plan.sweeps() as u64);
 }
 
-// Adds the digest of a plan.
-#[tactic(auto, unfolding(crate::specs::Texts::plan_digest))]
-fn add_digest(line: &mut Line, plan: &Plan)
+// Adds a digest.
+#[tactic(auto, unfolding(crate::specs::Texts::digest_word))]
+fn add_digest(line: &mut Line, digest: &[u8; 32])
     requires { length line.old ≤ 150 }
-    ensures text { line.new ≡ line.old ++ plan_digest plan.now }
+    ensures text { line.new ≡ line.old ++ digest_word digest.now }
     ensures short { length line.new ≤ length line.old + 72 }
 {
     line.add(b" digest=");
-    line.add(&digest_digits(plan));
+    line.add(&digest_digits(digest));
 }
 
-// The dynamics as the run file writes it.
-fn kind_word(kind: RuleKind) -> &'static [u8]
-    ensures word { result.now ≡ kind_text kind }
-    ensures short { length result.now ≤ 10 }
+// A digest in hexadecimal.
+fn digest_digits(digest: &[u8; 32]) -> [u8; 64]
+    ensures { result ≡ encode_lower digest.now }
 {
-    match kind {
-        RuleKind::Heat => b"heat",
-        RuleKind::Metropolis => b"metropolis",
-    }
-}
-
-// The digest of a plan in hexadecimal.
-fn digest_digits(plan: &Plan) -> [u8; 64]
-    ensures { result ≡ encode_lower (sha256 (canonical plan.now)) }
-{
-    let digest = digest(plan);
     let mut digits = [0u8; 64];
     let _ = hex::encode_to_slice(digest.as_slice(), &mut digits);
     digits

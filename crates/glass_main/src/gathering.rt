@@ -1,6 +1,6 @@
 //! Reading what a run file names, step by step.
 
-ghost use Rattle.std.specs.Prelude.{◌≡◌, ◌≤◌, ◌+◌, false, length, option_map, IfOk};
+ghost use Rattle.std.specs.Prelude.{◌≡◌, ◌≤◌, ◌+◌, false, length, option_map, IfOk, IfErr, Err};
 ghost use Rattle.coupling_set.specs.BondsAsWords.{couplings_with};
 ghost use Rattle.spin_model.specs.Couplings.{plus, random};
 ghost use Rattle.glass_edges.specs.Refusals.{Gives};
@@ -24,7 +24,8 @@ use scalar_rule::Plan;
 use std::alloc::Global;
 use threshold_table::{RuleTable, SwapTable, TableRefused, read_rule, read_swap};
 
-/// Reads the run file of a name, then the tables and couplings that it names.
+/// Reads the run file of a name, then the tables and couplings that it names, for a command that runs one
+/// bank of 64 samples.
 #[tactic(auto, unfolding(crate::specs::Request::plan_at))]
 pub(crate) fn gather_plan<H: Shelf>(
     alloc: Global,
@@ -32,17 +33,17 @@ pub(crate) fn gather_plan<H: Shelf>(
     name: &str,
 ) -> Result<Planned, Ending>
     ensures asked { Gathers (option_map (model.plan_at name.now) (H.holds shelf.old))
-        (IsReached name.now (H.holds shelf.old)) result
+        (IsReached false name.now (H.holds shelf.old)) result
         (store H.holds H.faults H.lengths shelf.old) (store H.holds H.faults H.lengths shelf.new) }
     ensures orders { IfOk result (λ planned. AreLawfulOrders planned.orders) }
 {
-    let file = gather_run_file(alloc, shelf, name)?;
+    let file = gather_run_file(alloc, shelf, name, false)?;
     gather_after_file(alloc, shelf, &file)
 }
 
-// Reads the tables and couplings of a run file.
+/// Reads the tables and couplings of a run file of one bank.
 #[tactic(auto, unfolding(crate::specs::Request::plan_after_file))]
-fn gather_after_file<H: Shelf>(
+pub(crate) fn gather_after_file<H: Shelf>(
     alloc: Global,
     shelf: &mut H,
     file: &RunFile,
@@ -88,17 +89,22 @@ fn gather_after_rules<H: Shelf>(
     })
 }
 
-// Reads the run file of a name.
+/// Reads the run file of a name, for a command that runs many banks of 64 samples or but one.
 #[tactic(auto, unfolding(crate::specs::Request::run_file_at))]
-fn gather_run_file<H: Shelf>(alloc: Global, shelf: &mut H, name: &str) -> Result<RunFile, Ending>
-    ensures asked { Gathers (option_map (model.run_file_at name.now) (H.holds shelf.old))
+pub(crate) fn gather_run_file<H: Shelf>(
+    alloc: Global,
+    shelf: &mut H,
+    name: &str,
+    many: bool,
+) -> Result<RunFile, Ending>
+    ensures asked { Gathers (option_map (model.run_file_at many name.now) (H.holds shelf.old))
         (Fetches Role.RunFile) result
         (store H.holds H.faults H.lengths shelf.old) (store H.holds H.faults H.lengths shelf.new) }
     ensures lawful { IfOk result IsLawfulRunFile }
-    ensures orders { IfOk result (λ file. AreLawfulOrders file.orders) }
+    ensures orders { many ≡ false → IfOk result (λ file. AreLawfulOrders file.orders) }
 {
     let bytes = gather_bytes(alloc, shelf, Role::RunFile, name)?;
-    match read_run_file(alloc, bytes.as_slice(), false) {
+    match read_run_file(alloc, bytes.as_slice(), many) {
         Ok(file) => Ok(file),
         Err(PlanRefused::NoMemory) => Err(Ending::NoMemory),
         Err(refused) => Err(Ending::Refused(Refusal::Plan(refused))),
@@ -110,6 +116,8 @@ fn read_run_file(alloc: Global, bytes: &[u8], many: bool) -> Result<RunFile, Pla
     ensures value { Gives PlanRefused.NoMemory (λ file. file) result (model.banked many (run_file bytes.now)) }
     ensures lawful { IfOk result IsLawfulRunFile }
     ensures orders { many ≡ false → IfOk result (λ file. AreLawfulOrders file.orders) }
+    // What many banks refuse one refuses too.
+    ensures cause { IfErr result (λ e. ¬ (e ≡ PlanRefused.NoMemory) → model.banked false (run_file bytes.now) ≡ Err e) }
 {
     let file = read_plan(alloc, bytes)?;
     check_banks(&file.orders, many)?;

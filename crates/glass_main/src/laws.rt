@@ -1,6 +1,7 @@
 //! What holds of the definitions: each law is the contract of a function with an empty body.
 
 ghost use Rattle.glass_main.specs.LawfulRuns.{EndedReportsAreLawful, RunReportsAreLawful};
+ghost use Rattle.glass_main.specs.SampleLaws.{SamplesBelow64AreOfOneBank};
 ghost use Rattle.glass_main.specs.SavedLaws.{EncodedStatesAreRead, ReadStatesAreEncoded};
 ghost use Rattle.glass_main.specs.StopLaws.{AcceptedCheckpointsAreEncodings, SavedStopsAreRead, StoppedRunsAddUp};
 
@@ -41,4 +42,10 @@ pub fn read_states_are_encoded()
 /// And the encoding of states that fit, at an epoch in time, is read as them.
 pub fn encoded_states_are_read()
     ensures { EncodedStatesAreRead }
+{}
+
+/// The records and the slots of the samples below 64 of a run of several banks are, at every epoch from the
+/// opening states on, those of the run with 64 samples of the same run file and the same files.
+pub fn samples_below_64_are_of_one_bank()
+    ensures { SamplesBelow64AreOfOneBank }
 {}

@@ -5,6 +5,11 @@ mod age;
 mod age_words;
 mod average;
 mod average_words;
+mod bank_finishing;
+mod bank_gathering;
+mod bank_resuming;
+mod bank_run;
+mod bank_tables;
 mod check;
 mod checkpoint_lines;
 mod command_line;
@@ -22,6 +27,7 @@ mod long_line;
 mod plain;
 mod plan_lines;
 mod planned;
+mod plans;
 mod potts;
 mod potts_words;
 mod refusal;
@@ -43,10 +49,12 @@ pub use correlation_words::LinesOrder;
 pub use ending::Ending;
 pub use laws::{
     accepted_checkpoints_are_encodings, encoded_states_are_read, ended_reports_are_lawful,
-    read_states_are_encoded, run_reports_are_lawful, saved_stops_are_read, stopped_runs_add_up,
+    read_states_are_encoded, run_reports_are_lawful, samples_below_64_are_of_one_bank,
+    saved_stops_are_read, stopped_runs_add_up,
 };
 pub use lines::no_memory;
 pub use planned::Planned;
+pub use plans::{PlannedBanks, Plans};
 pub use potts_words::{PottsCouplings, PottsOrder};
 pub use refusal::Refusal;
 pub use role::Role;

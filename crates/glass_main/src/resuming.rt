@@ -4,7 +4,7 @@ ghost use Rattle.std.specs.Prelude.{◌≡◌, ◌≤◌, option_map, Some, IfOk
 ghost use Rattle.plane_sweep.specs.Packed.{StandFits, StandsFor};
 ghost use Rattle.run_plan.specs.RunFile.{AreLawfulOrders};
 ghost use Rattle.scalar_rule.specs.Opening.{opening};
-ghost use Rattle.glass_main.specs.Beginnings.{IsBaseOf, opened_by};
+ghost use Rattle.glass_main.specs.Beginnings.{IsBaseOf, opened_by, resumed_by};
 ghost use Rattle.glass_main.specs.Outside.{store};
 ghost use Rattle.glass_main.specs.Request as model;
 ghost use Rattle.glass_main.specs.ReadCommand.{name_bytes};
@@ -31,7 +31,7 @@ pub(crate) fn gather_base<H: Shelf>(
 ) -> Result<RaggedStand, Ending>
     requires orders { AreLawfulOrders planned.now.orders }
     requires until { until ≤ 1000000000 }
-    ensures asked { Begins (name_bytes name.entry) planned.now.plan
+    ensures asked { Begins (name_bytes name.entry) (IsBaseOf planned.now.plan)
         (option_map (model.beginning_at (name_bytes name.entry) planned.now until) (H.holds shelf.old))
         result (store H.holds H.faults H.lengths shelf.old) (store H.holds H.faults H.lengths shelf.new) }
     ensures resumable { IfOk result (IsResumable planned.now until) }
@@ -66,7 +66,7 @@ fn opening_stand(alloc: Global, planned: &Planned) -> Result<Stand, NoMemory>
 }
 
 // The state of the checkpoint of a name.
-#[tactic(auto, unfolding(crate::specs::Request::checkpoint_at))]
+#[tactic(auto, unfolding(crate::specs::Request::read_at))]
 fn gather_checkpoint<H: Shelf>(
     alloc: Global,
     shelf: &mut H,
@@ -76,7 +76,7 @@ fn gather_checkpoint<H: Shelf>(
 ) -> Result<RaggedStand, Ending>
     requires orders { AreLawfulOrders planned.now.orders }
     requires until { until ≤ 1000000000 }
-    ensures asked { Begins (Some name.now) planned.now.plan
+    ensures asked { Begins (Some name.now) (IsBaseOf planned.now.plan)
         (option_map (model.checkpoint_at planned.now until name.now) (H.holds shelf.old))
         result (store H.holds H.faults H.lengths shelf.old) (store H.holds H.faults H.lengths shelf.new) }
     ensures resumable { IfOk result (IsResumable planned.now until) }
@@ -92,7 +92,7 @@ fn gather_checkpoint<H: Shelf>(
 fn decode(alloc: Global, planned: &Planned, until: u64, bytes: &[u8]) -> Result<RaggedStand, Ending>
     requires orders { AreLawfulOrders planned.now.orders }
     requires until { until ≤ 1000000000 }
-    ensures read { Resumes planned.now until bytes.now result }
+    ensures read { Resumes (IsBaseOf planned.now.plan) (resumed_by planned.now until bytes.now) result }
     ensures resumable { IfOk result (IsResumable planned.now until) }
 {
     let plan = &planned.plan;
@@ -105,8 +105,8 @@ fn decode(alloc: Global, planned: &Planned, until: u64, bytes: &[u8]) -> Result<
     }
 }
 
-// How a call ends whose checkpoint is refused, or that ran out of memory at it.
-fn ending_of(refused: CheckpointRefused) -> Ending
+/// How a call ends whose checkpoint is refused, or that ran out of memory at it.
+pub(crate) fn ending_of(refused: CheckpointRefused) -> Ending
     ensures { result ≡ ending_of refused }
 {
     match refused {

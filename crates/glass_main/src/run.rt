@@ -1,7 +1,7 @@
 //! The command `run`: the run that a run file, its tables and its couplings describe, from their opening
 //! state or from a checkpoint, to its last epoch or until it stops, its report, and its own checkpoint.
 
-ghost use Rattle.std.specs.Prelude.{◌≡◌, ℕ, ◌≤◌, None, Some, IfOk, IfErr, unwrap_or};
+ghost use Rattle.std.specs.Prelude.{◌≡◌, ℕ, ◌≤◌, None, Some, Ok, IfSome, IfOk, IfErr, option_map, unwrap_or};
 ghost use Rattle.std.specs.Arc.{arc_value};
 ghost use Rattle.plane_sweep.specs.Uneven.{positions_of};
 ghost use Rattle.run_plan.specs.Amounts.{amount_refusal, row_count};
@@ -12,13 +12,16 @@ ghost use Rattle.glass_main.specs.CommandLine as commands;
 ghost use Rattle.glass_main.specs.Opened.{takes_of, saves_as, IsOpened, IsUnopened};
 ghost use Rattle.glass_main.specs.Outside.{output, store};
 ghost use Rattle.glass_main.specs.ReadCommand.{name_bytes, read_run_order, IsLawfulOrder};
+ghost use Rattle.glass_main.specs.Request as model;
 ghost use Rattle.glass_main.specs.Resumes.{IsResumable};
 ghost use Rattle.glass_main.specs.Statuses.{Ends};
 
+use crate::bank_gathering::gather_plans;
+use crate::bank_run::run_banks;
 use crate::ending::Ending;
 use crate::finishing::{Opened, finish_run};
-use crate::gathering::gather_plan;
 use crate::planned::Planned;
+use crate::plans::Plans;
 use crate::refusal::Refusal;
 use crate::resuming::gather_base;
 use crate::run_words::RunOrder;
@@ -35,7 +38,7 @@ use std::thread::Threads;
 pub(crate) const EVERY_TAKE: u64 = 32000000000;
 
 /// Reads the run file of an order and what it names, and its checkpoint; runs it, prints the report, and
-/// places its own checkpoint.
+/// places its own checkpoint. A run that may stop between epochs has one bank of 64 samples.
 pub(crate) fn run<R: Threads + Wait + Sync, H: Shelf, O: Sink, G: Gate + Sync>(
     rt: &R,
     alloc: Global,
@@ -49,10 +52,42 @@ pub(crate) fn run<R: Threads + Wait + Sync, H: Shelf, O: Sink, G: Gate + Sync>(
         (store H.holds H.faults H.lengths shelf.old) (store H.holds H.faults H.lengths shelf.new)
         (output O.taken O.faults out.old) (output O.taken O.faults out.new) }
 {
-    let planned = match gather_plan(alloc, shelf, order.run) {
-        Ok(planned) => planned,
+    let plans = match gather_plans(alloc, shelf, order.run, has_banks(order)) {
+        Ok(plans) => plans,
         Err(ending) => return ending,
     };
+    match plans {
+        Plans::One(planned) => run_one(rt, alloc, shelf, out, gate, order, planned),
+        Plans::Banks(planned) => run_banks(rt, alloc, shelf, out, gate, order, planned),
+    }
+}
+
+// Whether a run may have several banks.
+fn has_banks(order: &RunOrder<'_>) -> bool
+    ensures { result ≡ model.has_banks order.now.stop_after }
+{
+    order.stop_after.is_none()
+}
+
+// Reads the checkpoint of an order whose run file and what it names are read, of one bank; runs it, prints
+// the report, and places its own checkpoint.
+fn run_one<R: Threads + Wait + Sync, H: Shelf, O: Sink, G: Gate + Sync>(
+    rt: &R,
+    alloc: Global,
+    shelf: &mut H,
+    out: &mut O,
+    gate: &G,
+    order: &RunOrder<'_>,
+    planned: Planned,
+) -> Ending
+    requires order { IsLawfulOrder order.now }
+    requires orders { AreLawfulOrders planned.orders }
+    requires planned { IfSome (option_map (model.plans_at (model.has_banks order.now.stop_after) order.now.run.now)
+        (H.holds shelf.old)) (λ asked. asked ≡ Ok (Plans.One planned)) }
+    ensures { Ends (Some (commands.Run (read_run_order order.now))) result
+        (store H.holds H.faults H.lengths shelf.old) (store H.holds H.faults H.lengths shelf.new)
+        (output O.taken O.faults out.old) (output O.taken O.faults out.new) }
+{
     let until = until_of(order, &planned.orders);
     let base = match gather_base(alloc, shelf, &planned, until, order.from) {
         Ok(base) => base,
@@ -65,10 +100,10 @@ pub(crate) fn run<R: Threads + Wait + Sync, H: Shelf, O: Sink, G: Gate + Sync>(
     finish_run(rt, shelf, out, gate, opened, order)
 }
 
-// The epoch at which a run ends.
-fn until_of(order: &RunOrder<'_>, orders: &Orders) -> u64
+/// The epoch at which a run ends.
+pub(crate) fn until_of(order: &RunOrder<'_>, orders: &Orders) -> u64
     requires order { IsLawfulOrder order.now }
-    requires orders { AreLawfulOrders orders.now }
+    requires epochs { orders.now.epochs ≤ 1000000000 }
     ensures value { result ≡ unwrap_or order.now.until orders.now.epochs }
     ensures within { result ≤ 1000000000 }
 {
@@ -90,7 +125,7 @@ fn open_run(
     ensures accepted { IfOk result (λ opened. amount_refusal planned.plan planned.orders (floor_of (positions_of base)) until ≡ None) }
     ensures opened { IfOk result (IsOpened planned base until order.now.stop_after (name_bytes order.now.save)) }
     ensures stopped { (from : Beginning) → begins_at from ≡ floor_of (positions_of base)
-        → IfErr result (IsUnopened order.now.stop_after planned from until) }
+        → IfErr result (IsUnopened (model.run_work order.now.stop_after planned until from)) }
 {
     let from = floor_of(&planned, &base, until);
     if let Err(refused) = check_amount(&planned.plan, &planned.orders, from, until) {

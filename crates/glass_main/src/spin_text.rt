@@ -65,9 +65,5 @@ fn put_digits<O: Sink>(
         (line.old ++ spin_digits lattice.now spins.now)) }
     ensures cause { HasCause (O.faults out.old) (O.faults out.new) result }
 {
-    'digits: for k in 0..spins.len() / 4 {
-        line.make_room(out, 1)?;
-        line.add(&[four_spins(spins, 4 * k)]);
-    }
-    Ok(())
+    line.extend_by(out, spins.len() / 4, |k| four_spins(spins, 4 * k))
 }

@@ -1,12 +1,15 @@
 //! Words of the command line, and the numbers that some of them write.
 
-ghost use Rattle.std.specs.Prelude.{◌≡◌, ◌≤◌, length, IsTrue, option_map};
+ghost use Rattle.std.specs.Prelude.{◌≡◌, ◌≤◌, ◌^◌, length, true, option_map, IfSome, IfNone};
+ghost use Rattle.std.specs.Char.{is_ascii_digit};
 ghost use Rattle.std.specs.List.{list_all};
-ghost use Rattle.threshold_table.specs.TableText.{is_digit, value_of};
+ghost use Rattle.glass_edges.specs.Decimal.{value_of};
 ghost use Rattle.glass_main.specs.CommandLine as commands;
 ghost use Rattle.glass_main.specs.CommandLine.{is_file_name};
 ghost use Rattle.glass_main.specs.Words as model;
 ghost use Rattle.glass_main.specs.Words.{texts};
+
+use glass_edges::is_numeral;
 
 /// Word `k`, counted from 0; empty where there is none.
 pub(crate) fn word_at(words: &[String], k: usize) -> &str
@@ -40,45 +43,23 @@ pub(crate) fn name_word(word: &str) -> Option<&str>
 pub(crate) fn number_word(text: &str, low: u64, high: u64) -> Option<u64>
     ensures { result ≡ model.number_word low high text.now }
 {
-    let text = text.as_bytes();
-    if !is_number(text) {
+    if !is_numeral(20, text.as_bytes()) {
         return None;
     }
-    let value = value_of(text);
-    if low as u128 <= value && value <= high as u128 {
-        Some(value as u64)
+    let value = value_of(text)?;
+    if low <= value && value <= high {
+        Some(value)
     } else {
         None
     }
 }
 
-fn is_digit(b: u8) -> bool
-    ensures { result ≡ is_digit b }
+// The value of decimal digits, where it is below 2^64.
+fn value_of(digits: &str) -> Option<u64>
+    requires some { 1 ≤ length digits.now }
+    requires digits { list_all is_ascii_digit digits.now ≡ true }
+    ensures value { IfSome result (λ value. value ≡ value_of digits.now) }
+    ensures great { IfNone result (2 ^ 64 ≤ value_of digits.now) }
 {
-    b >= b'0' && b <= b'9'
-}
-
-fn has_digits_alone(text: &[u8]) -> bool
-    ensures { result ≡ list_all is_digit text.now }
-{
-    text.iter().all(|b| is_digit(*b))
-}
-
-// Whether the text is one to twenty digits.
-fn is_number(text: &[u8]) -> bool
-    ensures { result ≡ model.is_number text.now }
-{
-    1 <= text.len() && text.len() <= 20 && has_digits_alone(text)
-}
-
-// The value of digits. Twenty of them can pass 2^64.
-fn value_of(digits: &[u8]) -> u128
-    requires { IsTrue (model.is_number digits.now) }
-    ensures { result ≡ value_of digits.now }
-{
-    let mut value = 0u128;
-    'digits: for b in digits {
-        value = value * 10 + (*b - b'0') as u128;
-    }
-    value
+    digits.parse().ok()
 }

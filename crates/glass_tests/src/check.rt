@@ -63,11 +63,6 @@ fn run_file_refusals_by_key(rt: HostRuntime) -> Result<(), Fail> {
             "samples = 257",
             "key samples is out of range: 257",
         ),
-        (
-            "samples = 1",
-            "samples = 65",
-            "this command needs at most 64 samples, not 65",
-        ),
         ("size = 4", "size = -4", "key size is out of range: -4"),
         ("\"heat\"", "\"hot\"", "key rule has an unknown word"),
         ("\"plus\"", "\"file:\"", "key couplings has an unknown word"),

@@ -6,6 +6,10 @@ mod age;
 #[cfg(test)]
 mod average;
 #[cfg(test)]
+mod banks;
+#[cfg(test)]
+mod banks_alone;
+#[cfg(test)]
 mod called;
 #[cfg(test)]
 mod check;

@@ -19,12 +19,14 @@ const HEAT: &str = "214748364,429496729,1073741824,2147483648,3221225472,3865470
 1288490188,1503238553,1825361100,2147483648,2469606195,2791728742,3006477107
 ";
 
-const METROPOLIS: &str = "858993459,171798691,34359738
+/// Metropolis thresholds of three slots.
+pub const METROPOLIS: &str = "858993459,171798691,34359738
 1171354717,319460377,87125557
 1431655765,477218588,159072862
 ";
 
-const SWAPS: &str = "3149642683,2309737966,1693807841
+/// Exchange thresholds of their two pairs.
+pub const SWAPS: &str = "3149642683,2309737966,1693807841
 3435973836,2748779069
 ";
 
@@ -66,8 +68,8 @@ fn plan_of(alloc: Global, size: u32, kind: RuleKind, seed: u64) -> Result<Plan, 
     Ok(Plan::new(lattice, rules, swaps, couplings, 2, seed))
 }
 
-// The rows of a sample at an epoch.
-fn rows(alloc: Global, epoch: u64, sample: u32, records: &[Record]) -> Result<String, Fail> {
+/// The rows of a sample at an epoch.
+pub fn rows(alloc: Global, epoch: u64, sample: u32, records: &[Record]) -> Result<String, Fail> {
     let mut text = String::new(alloc);
     for (slot, record) in records.iter().enumerate() {
         text.push_str(format!(in alloc;
@@ -114,8 +116,8 @@ fn rows_alone(alloc: Global, plan: &Plan, bit: u32) -> Result<String, Fail>
     Ok(text)
 }
 
-// The rows of a sample in a report.
-fn rows_printed(alloc: Global, report: &str, sample: &str) -> Result<String, Fail> {
+/// The rows of a sample in a report.
+pub fn rows_printed(alloc: Global, report: &str, sample: &str) -> Result<String, Fail> {
     let mut text = String::new(alloc);
     for line in report.split('\n') {
         let mut fields = line.split(',');

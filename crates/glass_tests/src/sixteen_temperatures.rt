@@ -6,7 +6,8 @@ use crate::files::store;
 use sha2::{Digest, Sha256};
 use std::test::Fail;
 
-const RUN: &str = "# 8^3 glass, sixteen temperatures
+/// The run file.
+pub const RUN: &str = "# 8^3 glass, sixteen temperatures
 size = 8
 rule = \"metropolis\"
 rules = \"rules.csv\"
@@ -29,8 +30,8 @@ fn scaled(x: u64, y: u64, divisor: u64) -> u64 {
     x.saturating_mul(y).checked_div(divisor).unwrap_or(0)
 }
 
-// The Metropolis thresholds of sixteen slots: powers of (t + 2) / (t + 10).
-fn rules<R: AllocGlobal>(rt: &R) -> Result<String, Fail> {
+/// The Metropolis thresholds of sixteen slots: powers of (t + 2) / (t + 10).
+pub fn rules<R: AllocGlobal>(rt: &R) -> Result<String, Fail> {
     let mut text = String::new(rt.alloc());
     for t in 0..16u64 {
         let x = scaled(ALWAYS, t + 2, t + 10);
@@ -41,8 +42,8 @@ fn rules<R: AllocGlobal>(rt: &R) -> Result<String, Fail> {
     Ok(text)
 }
 
-// The exchange thresholds of fifteen pairs, 64 each: powers of the ratio of neighbouring slots.
-fn swaps<R: AllocGlobal>(rt: &R) -> Result<String, Fail> {
+/// The exchange thresholds of fifteen pairs, 64 each: powers of the ratio of neighbouring slots.
+pub fn swaps<R: AllocGlobal>(rt: &R) -> Result<String, Fail> {
     let mut text = String::new(rt.alloc());
     for k in 0..15u64 {
         let ratio = scaled(ALWAYS, (k + 2) * (k + 11), (k + 10) * (k + 3));

@@ -1,5 +1,6 @@
 use Rattle.std.proofs.Common.{sym, subst}
-use Rattle.glass_main.proofs.Resumed.{base-resumes, refusal-ends, encoded-reach}
+use Rattle.glass_main.proofs.Resumed.{base-resumes, base-refused, refusal-ends, encoded-reach}
+use Rattle.glass_main.specs.Beginnings.{resumed_by}
 use Rattle.glass_main.specs.Resumes.{Unresumed}
 use Rattle.glass_main.specs.declared.ending.Ending.{Ending}
 use Rattle.glass_main.proofs.resuming.decode.Goals as goal
@@ -20,5 +21,7 @@ returns-in-Ok-clause-resumable c =
 
 pub returns-in-Err-clause-read : goal.returns-in-Err-clause-read
 returns-in-Err-clause-read c =
-    let U : Ending → Type 0 = λ e. Unresumed c.args.planned.now c.args.until c.args.bytes.now e in
-    subst U (sym c.ending_of.ensures) (refusal-ends c.args.planned.now c.args.until c.args.bytes.now c.in-Err.refused c.in-Err.ensures.exact.1)
+    let planned = c.args.planned.now in
+    let U : Ending → Type 0 = λ e. Unresumed (resumed_by planned c.args.until c.args.bytes.now) e in
+    subst U (sym c.ending_of.ensures) (refusal-ends (resumed_by planned c.args.until c.args.bytes.now) c.in-Err.refused
+    (base-refused planned c.args.until c.args.bytes.now c.in-Err.refused c.in-Err.ensures.exact.1))

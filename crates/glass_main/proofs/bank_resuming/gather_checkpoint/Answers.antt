@@ -1,0 +1,17 @@
+use Rattle.std.proofs.Common.{ℕ, List, subst}
+use Rattle.run_checkpoint.specs.BankEncoding.{BanksStand}
+use Rattle.glass_main.specs.ManyBanks.{banks_resumed_by}
+use Rattle.glass_main.specs.Resumes.{Resumes}
+use Rattle.glass_main.proofs.Resumed.{begins-read, begins-unread}
+use Rattle.glass_main.proofs.bank_resuming.gather_checkpoint.Goals as goal
+
+pub returns-clause-asked : goal.returns-clause-asked
+returns-clause-asked g c =
+    let planned = c.args.planned.now in
+    let R : List ℕ → Type 0 = λ bytes. Resumes (BanksStand planned.plans) (banks_resumed_by planned c.args.until bytes) c.decode.result in
+    begins-read (BanksStand planned.plans) (banks_resumed_by planned c.args.until) c.args.name.now c.in-Ok.bytes c.decode.result _ _ c.in-Ok.ensures (subst R c.as_slice.ensures c.decode.ensures.read)
+
+pub returns-in-Err-clause-asked : goal.returns-in-Err-clause-asked
+returns-in-Err-clause-asked g c =
+    let planned = c.args.planned.now in
+    begins-unread (BanksStand planned.plans) (banks_resumed_by planned c.args.until) c.args.name.now _ _ _ c.in-Err.ensures

@@ -1,0 +1,60 @@
+use Rattle.std.proofs.Common.{◌≡◌, ℕ, None, Some, Ok, Err, option_map, subst, refl}
+use Rattle.plane_sweep.specs.Uneven.{positions_of}
+use Rattle.run_plan.specs.Amounts.{amount_refusal}
+use Rattle.scalar_rule.specs.Positions.{floor_of}
+use Rattle.glass_main.proofs.OneBank.{base-accepted}
+use Rattle.glass_main.proofs.OpenedRuns.{run-of}
+use Rattle.glass_main.proofs.RunEndings.{has-begun, ends-unbegun, ends-unopened, ends-finished}
+use Rattle.glass_main.proofs.StoppedRuns.{base-floor}
+use Rattle.glass_main.specs.Beginnings.{Beginning, Uneven, IsBaseOf}
+use Rattle.glass_main.specs.Opened.{IsUnopened}
+use Rattle.glass_main.specs.Outside.{output, store}
+use Rattle.glass_main.specs.ReadCommand.{read_run_order}
+use Rattle.glass_main.specs.Request.{RunWork, beginning_at, run_work, until_of}
+use Rattle.glass_main.specs.Resumes.{Begins}
+use Rattle.glass_main.specs.Statuses.{Wrote}
+use Rattle.glass_main.specs.declared.plans.Plans.TheVariants.{One}
+use Rattle.glass_main.proofs.run.run_one.Goals as goal
+
+pub returns-in-Err : goal.returns-in-Err
+returns-in-Err g c =
+    let order = read_run_order c.args.order.now in
+    let planned = c.args.planned in
+    let e = until_of order planned.orders in
+    let B : ℕ → Type 0 = λ e. Begins order.from (IsBaseOf planned.plan) (option_map (beginning_at order.from planned e) (g.H.Shelf.holds c.args.shelf.now)) (Err c.in-Err.ending) (store g.H.Shelf.holds g.H.Shelf.faults g.H.Shelf.lengths c.args.shelf.now) (store g.H.Shelf.holds g.H.Shelf.faults g.H.Shelf.lengths c.gather_base.new.shelf) in
+    ends-unbegun order (One planned) (beginning_at order.from planned e) (run_work order.stop_after planned e) (λ files. refl) (IsBaseOf planned.plan) c.in-Err.ending _ _ _
+    c.requires.planned (subst B c.until_of-until.ensures.value c.in-Err.ensures.asked)
+
+pub returns-in-Err-open_run : goal.returns-in-Err-open_run
+returns-in-Err-open_run g c =
+    let order = read_run_order c.args.order.now in
+    let planned = c.args.planned in
+    let base = c.in-Ok.base in
+    let e = until_of order planned.orders in
+    let same = c.until_of-until.ensures.value in
+    let B : ℕ → Type 0 = λ e. Begins order.from (IsBaseOf planned.plan) (option_map (beginning_at order.from planned e) (g.H.Shelf.holds c.args.shelf.now)) (Ok base) (store g.H.Shelf.holds g.H.Shelf.faults g.H.Shelf.lengths c.args.shelf.now) (store g.H.Shelf.holds g.H.Shelf.faults g.H.Shelf.lengths c.gather_base.new.shelf) in
+    let begun = has-begun order (One planned) (beginning_at order.from planned e) (run_work order.stop_after planned e) (λ files. refl) (IsBaseOf planned.plan) base _ _ c.requires.planned (subst B same c.in-Ok.ensures.asked) in
+    let U : Beginning → ℕ → Type 0 = λ from n. IsUnopened (run_work order.stop_after planned n from) c.in-Err-open_run.ending in
+    ends-unopened order (One planned) (beginning_at order.from planned e) (run_work order.stop_after planned e) (λ files. refl) (IsBaseOf planned.plan) base (Uneven base) c.in-Err-open_run.ending _ _ _ begun
+    (subst (U (Uneven base)) same (c.in-Err-open_run.ensures.stopped (Uneven base) refl))
+    (λ from b. subst (U from) same (c.in-Err-open_run.ensures.stopped from (base-floor planned.plan from base c.in-Ok.ensures.resumable.some b)))
+
+pub returns : goal.returns
+returns g c =
+    let order = read_run_order c.args.order.now in
+    let planned = c.args.planned in
+    let base = c.in-Ok.base in
+    let until = c.until_of-until.result in
+    let e = until_of order planned.orders in
+    let same = c.until_of-until.ensures.value in
+    let B : ℕ → Type 0 = λ e. Begins order.from (IsBaseOf planned.plan) (option_map (beginning_at order.from planned e) (g.H.Shelf.holds c.args.shelf.now)) (Ok base) (store g.H.Shelf.holds g.H.Shelf.faults g.H.Shelf.lengths c.args.shelf.now) (store g.H.Shelf.holds g.H.Shelf.faults g.H.Shelf.lengths c.gather_base.new.shelf) in
+    let begun = has-begun order (One planned) (beginning_at order.from planned e) (run_work order.stop_after planned e) (λ files. refl) (IsBaseOf planned.plan) base _ _ c.requires.planned (subst B same c.in-Ok.ensures.asked) in
+    let A : ℕ → Type 0 = λ e. amount_refusal planned.plan planned.orders (floor_of (positions_of base)) e ≡ None in
+    let W : ℕ → Type 0 = λ e. (from : Beginning) → IsBaseOf planned.plan from base
+    → Wrote order.save (Some (Ok (RunWork planned from e order.stop_after))) c.finish_run.result (store g.H.Shelf.holds g.H.Shelf.faults g.H.Shelf.lengths c.gather_base.new.shelf) (store g.H.Shelf.holds g.H.Shelf.faults g.H.Shelf.lengths c.finish_run.new.shelf)
+    (output g.O.Sink.taken g.O.Sink.faults c.args.out.now) (output g.O.Sink.taken g.O.Sink.faults c.finish_run.new.out) in
+    let wrote : W until = λ from b. c.finish_run.ensures.wrote planned from until (run-of order.stop_after planned base until order.save c.in-Ok-open_run.opened from c.in-Ok-open_run.ensures.opened b) in
+    let none : A e = subst A same c.in-Ok-open_run.ensures.accepted in
+    ends-finished order (One planned) (beginning_at order.from planned e) (run_work order.stop_after planned e) (λ files. refl) (IsBaseOf planned.plan) base (λ from. RunWork planned from e order.stop_after)
+    (λ from b. base-accepted order.stop_after planned base e from c.in-Ok.ensures.resumable.some b none) c.finish_run.result _ _ _ _ _ begun c.finish_run.ensures.ending
+    c.finish_run.ensures.out c.finish_run.ensures.files (subst W same wrote) c.finish_run.ensures.later_store c.finish_run.ensures.later

@@ -1,0 +1,215 @@
+//! Reading what a run file names, where the run may have several banks of 64 samples.
+
+ghost use Rattle.std.specs.Prelude.{◌≡◌, ◌≤◌, ◌<◌, ◌+◌, length, map, option_map, IfOk, IfErr, Ok, Err};
+ghost use Rattle.std.specs.Arc.{arc_value};
+ghost use Rattle.coupling_set.specs.CouplingsFile.{couplings_in};
+ghost use Rattle.glass_edges.specs.Refusals.{Gives};
+ghost use Rattle.run_plan.specs.RunFile.{IsLawfulRunFile};
+ghost use Rattle.threshold_table.specs.Tables.{rule_table, swap_table};
+ghost use Rattle.glass_main.specs.BankTables.{rules_read, swaps_read, plans_by, HasLawfulOrders};
+ghost use Rattle.glass_main.specs.Endings.{IsReached, IsReachedAfter, IsReachedAfterRules};
+ghost use Rattle.glass_main.specs.Gathers.{Gathers, Fetches};
+ghost use Rattle.glass_main.specs.ManyBanks.{bank_count};
+ghost use Rattle.glass_main.specs.Outside.{store};
+ghost use Rattle.glass_main.specs.Request as model;
+
+use crate::bank_tables::{ReadRules, ReadSwaps, plans_of};
+use crate::ending::Ending;
+use crate::gathering::{gather_after_file, gather_bytes, gather_run_file};
+use crate::plans::{PlannedBanks, Plans};
+use crate::refusal::Refusal;
+use crate::role::Role;
+use coupling_set::CouplingsRefused;
+use glass_edges::Shelf;
+use plain_list::Items;
+use run_plan::{CouplingSource, RunFile};
+use std::alloc::Global;
+use threshold_table::{RuleTable, TableRefused, read_rule, read_swap};
+
+/// The samples of a bank.
+const BANK_SAMPLES: u32 = 64;
+
+/// Reads the run file of a name, then the tables and couplings that it names, for a command that runs many
+/// banks of 64 samples or but one.
+#[tactic(auto, unfolding(crate::specs::Request::plans_at))]
+pub(crate) fn gather_plans<H: Shelf>(
+    alloc: Global,
+    shelf: &mut H,
+    name: &str,
+    many: bool,
+) -> Result<Plans, Ending>
+    ensures asked { Gathers (option_map (model.plans_at many name.now) (H.holds shelf.old))
+        (IsReached many name.now (H.holds shelf.old)) result
+        (store H.holds H.faults H.lengths shelf.old) (store H.holds H.faults H.lengths shelf.new) }
+    ensures orders { IfOk result HasLawfulOrders }
+{
+    let file = gather_run_file(alloc, shelf, name, many)?;
+    gather_after_run_file(alloc, shelf, &file)
+}
+
+// Reads the tables and couplings of a run file.
+#[tactic(auto, unfolding(crate::specs::Request::plans_after_file))]
+fn gather_after_run_file<H: Shelf>(
+    alloc: Global,
+    shelf: &mut H,
+    file: &RunFile,
+) -> Result<Plans, Ending>
+    requires lawful { IsLawfulRunFile file.now }
+    ensures asked { Gathers (option_map (model.plans_after_file file.now) (H.holds shelf.old))
+        (IsReachedAfter file.now (H.holds shelf.old)) result
+        (store H.holds H.faults H.lengths shelf.old) (store H.holds H.faults H.lengths shelf.new) }
+    ensures orders { IfOk result HasLawfulOrders }
+{
+    if file.orders.samples <= BANK_SAMPLES {
+        let planned = gather_after_file(alloc, shelf, file)?;
+        Ok(Plans::One(planned))
+    } else {
+        let planned = gather_banks(alloc, shelf, file)?;
+        Ok(Plans::Banks(planned))
+    }
+}
+
+// Reads the tables and couplings of a run file of several banks.
+#[tactic(auto, unfolding(crate::specs::Request::banks_after_file))]
+fn gather_banks<H: Shelf>(
+    alloc: Global,
+    shelf: &mut H,
+    file: &RunFile,
+) -> Result<PlannedBanks, Ending>
+    requires lawful { IsLawfulRunFile file.now }
+    requires several { 64 < file.now.orders.samples }
+    ensures asked { Gathers (option_map (model.banks_after_file file.now) (H.holds shelf.old))
+        (IsReachedAfter file.now (H.holds shelf.old)) result
+        (store H.holds H.faults H.lengths shelf.old) (store H.holds H.faults H.lengths shelf.new) }
+{
+    let rules = gather_rules(alloc, shelf, file)?;
+    gather_after_rules(alloc, shelf, file, &rules)
+}
+
+// Reads the swap table and the couplings of a run file whose rule table is read.
+#[tactic(auto, unfolding(crate::specs::Request::banks_after_rules))]
+fn gather_after_rules<H: Shelf>(
+    alloc: Global,
+    shelf: &mut H,
+    file: &RunFile,
+    rules: &ReadRules,
+) -> Result<PlannedBanks, Ending>
+    requires lawful { IsLawfulRunFile file.now }
+    requires several { 64 < file.now.orders.samples }
+    requires rules { rule_table file.now.kind rules.now.bytes ≡ Ok rules.now.rules }
+    ensures asked { Gathers (option_map (model.banks_after_rules file.now rules.now.rules) (H.holds shelf.old))
+        (IsReachedAfterRules file.now rules.now.rules (H.holds shelf.old)) result
+        (store H.holds H.faults H.lengths shelf.old) (store H.holds H.faults H.lengths shelf.new) }
+{
+    let swaps = gather_swaps(alloc, shelf, file, &rules.rules)?;
+    gather_after_tables(alloc, shelf, file, rules, &swaps)
+}
+
+// Reads the couplings of a run file whose tables are read.
+#[tactic(auto, unfolding(crate::specs::Request::banks_after_tables))]
+fn gather_after_tables<H: Shelf>(
+    alloc: Global,
+    shelf: &mut H,
+    file: &RunFile,
+    rules: &ReadRules,
+    swaps: &ReadSwaps,
+) -> Result<PlannedBanks, Ending>
+    requires lawful { IsLawfulRunFile file.now }
+    requires several { 64 < file.now.orders.samples }
+    requires rules { rule_table file.now.kind rules.now.bytes ≡ Ok rules.now.rules }
+    requires swaps { swap_table (length rules.now.rules.rows) swaps.now.bytes ≡ Ok swaps.now.swaps }
+    requires pairs { length swaps.now.swaps + 1 ≡ length rules.now.rules.rows }
+    ensures asked { Gathers (option_map (model.banks_after_tables file.now rules.now.rules swaps.now.swaps) (H.holds shelf.old))
+        (Fetches Role.Couplings) result
+        (store H.holds H.faults H.lengths shelf.old) (store H.holds H.faults H.lengths shelf.new) }
+{
+    let stored = gather_stored(alloc, shelf, &file.couplings)?;
+    match read_banks(alloc, file, rules, swaps, stored.as_slice()) {
+        Ok(planned) => Ok(planned),
+        Err(CouplingsRefused::NoMemory) => Err(Ending::NoMemory),
+        Err(refused) => Err(Ending::Refused(Refusal::Couplings(refused))),
+    }
+}
+
+// The plans of the banks, by the bytes of the couplings file where one is named.
+fn read_banks(
+    alloc: Global,
+    file: &RunFile,
+    rules: &ReadRules,
+    swaps: &ReadSwaps,
+    stored: &[u8],
+) -> Result<PlannedBanks, CouplingsRefused>
+    requires lawful { IsLawfulRunFile file.now }
+    requires several { 64 < file.now.orders.samples }
+    requires rules { rule_table file.now.kind rules.now.bytes ≡ Ok rules.now.rules }
+    requires swaps { swap_table (length rules.now.rules.rows) swaps.now.bytes ≡ Ok swaps.now.swaps }
+    requires pairs { length swaps.now.swaps + 1 ≡ length rules.now.rules.rows }
+    ensures value { Gives CouplingsRefused.NoMemory (λ planned. planned) result
+        (model.banks_by file.now rules.now.rules swaps.now.swaps
+        (model.bonds_in file.now.couplings file.now.lattice file.now.seed stored.now)) }
+    ensures cause { IfErr result (λ e. ¬ (e ≡ CouplingsRefused.NoMemory) → couplings_in file.now.lattice 0 stored.now ≡ Err e) }
+{
+    match plans_of(alloc, file, rules, swaps, stored) {
+        Ok(plans) => Ok(PlannedBanks {
+            plans,
+            orders: file.orders,
+        }),
+        Err(refused) => Err(refused),
+    }
+}
+
+// Reads the rule table that a run file names, and keeps its bytes.
+#[tactic(auto, unfolding(crate::specs::Request::rules_at))]
+fn gather_rules<H: Shelf>(alloc: Global, shelf: &mut H, file: &RunFile) -> Result<ReadRules, Ending>
+    ensures asked { Gathers (option_map (model.rules_at file.now) (H.holds shelf.old))
+        (Fetches Role.RuleTable) (rules_read result)
+        (store H.holds H.faults H.lengths shelf.old) (store H.holds H.faults H.lengths shelf.new) }
+    ensures read { IfOk result (λ read. rule_table file.now.kind read.bytes ≡ Ok read.rules) }
+{
+    let bytes = gather_bytes(alloc, shelf, Role::RuleTable, file.rules.as_str())?;
+    match read_rule(alloc, bytes.as_slice(), file.kind) {
+        Ok(rules) => Ok(ReadRules { rules, bytes }),
+        Err(TableRefused::NoMemory) => Err(Ending::NoMemory),
+        Err(refused) => Err(Ending::Refused(Refusal::Rules(refused))),
+    }
+}
+
+// Reads the swap table that a run file names, for so many slots, and keeps its bytes.
+#[tactic(auto, unfolding(crate::specs::Request::swaps_at))]
+fn gather_swaps<H: Shelf>(
+    alloc: Global,
+    shelf: &mut H,
+    file: &RunFile,
+    rules: &RuleTable,
+) -> Result<ReadSwaps, Ending>
+    ensures asked { Gathers (option_map (model.swaps_at file.now rules.now) (H.holds shelf.old))
+        (Fetches Role.SwapTable) (swaps_read result)
+        (store H.holds H.faults H.lengths shelf.old) (store H.holds H.faults H.lengths shelf.new) }
+    ensures read { IfOk result (λ read. swap_table (length rules.now.rows) read.bytes ≡ Ok read.swaps) }
+    ensures pairs { IfOk result (λ read. length read.swaps + 1 ≡ length rules.now.rows) }
+{
+    let bytes = gather_bytes(alloc, shelf, Role::SwapTable, file.swaps.as_str())?;
+    match read_swap(alloc, bytes.as_slice(), rules.slots()) {
+        Ok(swaps) => Ok(ReadSwaps { swaps, bytes }),
+        Err(TableRefused::NoMemory) => Err(Ending::NoMemory),
+        Err(refused) => Err(Ending::Refused(Refusal::Swaps(refused))),
+    }
+}
+
+// Fetches the couplings file that a source names; no bytes where it names none.
+#[tactic(auto, unfolding(crate::specs::Request::stored_at))]
+fn gather_stored<H: Shelf>(
+    alloc: Global,
+    shelf: &mut H,
+    source: &CouplingSource,
+) -> Result<Items<u8>, Ending>
+    ensures { Gathers (option_map (model.stored_at source.now) (H.holds shelf.old))
+        (Fetches Role.Couplings) result
+        (store H.holds H.faults H.lengths shelf.old) (store H.holds H.faults H.lengths shelf.new) }
+{
+    match source {
+        CouplingSource::Plus => Ok(Items::of(Vec::new(alloc))),
+        CouplingSource::Random => Ok(Items::of(Vec::new(alloc))),
+        CouplingSource::File(name) => { gather_bytes(alloc, shelf, Role::Couplings, name.as_str()) }
+    }
+}

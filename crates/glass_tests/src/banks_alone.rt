@@ -1,0 +1,205 @@
+//! Runs over several banks of samples with random couplings from a random start, against an independent
+//! program and against the same samples run by themselves.
+
+ghost use Rattle.std.specs.Prelude.{◌≡◌, ◌<◌, ◌≤◌, length};
+ghost use Rattle.scalar_rule.specs.Plan.{slots_of};
+ghost use Rattle.scalar_rule.specs.Shape.{Fits};
+
+use crate::called::{call_on, call_with};
+use crate::checkpoints::{bytes_of, ends_with};
+use crate::files::{changed, store};
+use crate::samples_alone::{METROPOLIS, SWAPS, rows, rows_printed};
+use crate::sixteen_temperatures as sixteen;
+use coupling_set::Couplings;
+use lattice_geometry::Lattice;
+use scalar_rule::{Plan, Record, Sample, Start};
+use sha2::{Digest, Sha256};
+use std::alloc::Global;
+use std::test::Fail;
+use threshold_table::{RuleKind, read_rule, read_swap};
+
+// The run file of so many samples of three slots, from a random start.
+fn random_run(alloc: Global, samples: u32, epochs: u64, sweeps: u32) -> Result<String, Fail> {
+    Ok(format!(in alloc;
+        "size = 4\nrule = \"metropolis\"\nrules = \"rules.csv\"\nswaps = \"swaps.csv\"\ncouplings = \"random\"\nsweeps = {sweeps}\nseed = 611\nsamples = {samples}\nepochs = {epochs}\nevery = 1\nstart = \"random\"\nspins = false\n"
+    )?)
+}
+
+// The SHA-256 of the report and the last bytes of the checkpoint of 130 samples, by an independent program.
+const REPORT_OF_130: [u8; 32] = [
+    0x80, 0x0f, 0x8f, 0x35, 0xe0, 0xed, 0xdd, 0x3f, 0xca, 0xa3, 0x93, 0x2e, 0x7b, 0x2d, 0x8f, 0x79,
+    0x4e, 0x95, 0xa8, 0x1d, 0x6e, 0xb7, 0x1a, 0xdd, 0x47, 0x15, 0xae, 0xe2, 0xfc, 0xed, 0xa6, 0x5d,
+];
+
+const LAST_OF_130: [u8; 32] = [
+    0x57, 0x2a, 0x74, 0x87, 0x5b, 0x16, 0x94, 0x19, 0xb8, 0x1c, 0x44, 0x83, 0xac, 0x00, 0x27, 0x37,
+    0x2a, 0x0a, 0x86, 0x08, 0xa7, 0x8a, 0x9f, 0x90, 0x67, 0x08, 0xb3, 0xe1, 0x9d, 0x17, 0xa0, 0x6e,
+];
+
+#[test]
+fn three_banks_with_random_couplings(rt: HostRuntime) -> Result<(), Fail> {
+    let run = random_run(rt.alloc(), 130, 2, 1)?;
+    let mut shelf = store(&rt, run.as_str(), METROPOLIS, SWAPS)?;
+    shelf.room("c", 48740)?;
+    let called = call_on(&rt, "run run.toml --workers 2 --save c", &mut shelf)?;
+    assert_eq!(rt; called.status, 0);
+    assert_eq!(rt; Sha256::digest(called.out.taken()), REPORT_OF_130);
+    let saved = bytes_of(&rt, &mut shelf, "c");
+    assert_eq!(rt; saved.len(), 48740);
+    assert!(rt; ends_with(saved.as_slice(), LAST_OF_130.as_slice()));
+    Ok(())
+}
+
+// The rows of a sample that goes on by itself from its bank's opening, of each `every`th epoch.
+fn rows_alone(
+    alloc: Global,
+    plan: &Plan,
+    sample: u32,
+    epochs: u64,
+    every: u64,
+) -> Result<String, Fail>
+    requires sample { sample < 256 }
+    requires epochs { epochs ≤ 1000 }
+    requires every { 1 ≤ every }
+{
+    let none = Record {
+        first_energy: 0,
+        second_energy: 0,
+        overlap: 0,
+        first_replica: 0,
+        second_replica: 0,
+    };
+    let mut records = vec![in alloc; none; plan.slots() as usize]?;
+    let mut text = String::new(alloc);
+    let mut alone = Sample::opening_bank(alloc, plan, sample % 64, Start::Random, sample / 64)?;
+    'epochs: for epoch in 0..epochs {
+        alone.epoch(plan, records.as_mut_slice());
+        if epoch % every == every - 1 {
+            text.push_str(rows(alloc, epoch, sample, records.as_slice())?.as_str())?;
+        }
+    }
+    Ok(text)
+}
+
+// The plan of a bank of a run with random couplings, at which no text is read but the tables'.
+fn plan_of(
+    alloc: Global,
+    lattice: Lattice,
+    rules: &str,
+    swaps: &str,
+    sweeps: u32,
+    seed: u64,
+    bank: u32,
+) -> Result<Plan, Fail>
+    requires sweeps { (1 ≤ sweeps) × (sweeps ≤ 1000000) }
+    requires seed { seed < 9223372036854775808 }
+    requires bank { bank < 4 }
+{
+    let rules = read_rule(alloc, rules.as_bytes(), RuleKind::Metropolis)?;
+    let swaps = read_swap(alloc, swaps.as_bytes(), rules.slots())?;
+    if swaps.pairs() + 1 != rules.slots() {
+        return Err("a pair for each two neighbouring slots".into());
+    }
+    let couplings = Couplings::random_bank(alloc, lattice, seed, bank)?;
+    Ok(Plan::new(lattice, rules, swaps, couplings, sweeps, seed))
+}
+
+// Whether a sample of a report has the rows of the same sample run by itself.
+fn agrees(
+    alloc: Global,
+    report: &str,
+    plan: &Plan,
+    sample: u32,
+    epochs: u64,
+    every: u64,
+) -> Result<bool, Fail>
+    requires sample { sample < 256 }
+    requires epochs { epochs ≤ 1000 }
+    requires every { 1 ≤ every }
+{
+    let name = format!(in alloc; "{sample}")?;
+    let found = rows_printed(alloc, report, name.as_str())?;
+    let alone = rows_alone(alloc, plan, sample, epochs, every)?;
+    Ok(!found.is_empty() && found.as_str() == alone.as_str())
+}
+
+// The files of sixteen temperatures at size 8.
+#[test]
+fn samples_of_the_second_bank_run_alone(rt: HostRuntime) -> Result<(), Fail> {
+    let alloc = rt.alloc();
+    let run = changed(&rt, sixteen::RUN, "samples = 64", "samples = 128")?;
+    let (rules, swaps) = (sixteen::rules(&rt)?, sixteen::swaps(&rt)?);
+    let shelf = store(&rt, run.as_str(), rules.as_str(), swaps.as_str())?;
+    let called = call_with(&rt, "run run.toml --workers 4", shelf)?;
+    assert_eq!(rt; called.status, 0);
+    let report = std::str::from_utf8(called.out.taken())?;
+    let lattice = Lattice::of(8)?;
+    let plan = plan_of(
+        alloc,
+        lattice,
+        rules.as_str(),
+        swaps.as_str(),
+        2,
+        20240611,
+        1,
+    )?;
+    for sample in [64, 127] {
+        assert!(rt;
+            agrees(alloc, report, &plan, sample, 20, 10)?,
+            "sample {sample}"
+        );
+    }
+    Ok(())
+}
+
+#[test]
+fn samples_of_four_banks_run_alone(rt: HostRuntime) -> Result<(), Fail> {
+    let alloc = rt.alloc();
+    let run = random_run(alloc, 256, 3, 2)?;
+    let shelf = store(&rt, run.as_str(), METROPOLIS, SWAPS)?;
+    let called = call_with(&rt, "run run.toml --workers 3", shelf)?;
+    assert_eq!(rt; called.status, 0);
+    let report = std::str::from_utf8(called.out.taken())?;
+    let lattice = Lattice::of(4)?;
+    for bank in 0..4u32 {
+        let plan = plan_of(alloc, lattice, METROPOLIS, SWAPS, 2, 611, bank)?;
+        for bit in [0u32, 31, 32, 63] {
+            let sample = 64 * bank + bit;
+            assert!(rt;
+                agrees(alloc, report, &plan, sample, 3, 1)?,
+                "sample {sample}"
+            );
+        }
+    }
+    Ok(())
+}
+
+// The rows of the samples below 64.
+fn rows_of_bank_0(alloc: Global, report: &str) -> Result<String, Fail> {
+    let mut text = String::new(alloc);
+    for sample in 0..64u32 {
+        let name = format!(in alloc; "{sample}")?;
+        text.push_str(rows_printed(alloc, report, name.as_str())?.as_str())?;
+    }
+    Ok(text)
+}
+
+#[test]
+fn first_64_samples_are_those_of_a_run_of_64(rt: HostRuntime) -> Result<(), Fail> {
+    let alloc = rt.alloc();
+    let mut found = Vec::new(alloc);
+    for samples in [64, 200] {
+        let run = random_run(alloc, samples, 3, 1)?;
+        let called = call_with(
+            &rt,
+            "run run.toml",
+            store(&rt, run.as_str(), METROPOLIS, SWAPS)?,
+        )?;
+        assert_eq!(rt; called.status, 0);
+        let report = std::str::from_utf8(called.out.taken())?;
+        found.push(rows_of_bank_0(alloc, report)?)?;
+    }
+    let (first, second) = (found.first(), found.last());
+    assert!(rt; first.map(|rows| rows.as_str()) == second.map(|rows| rows.as_str()));
+    Ok(())
+}
