@@ -84,7 +84,7 @@ class Report:
         if not found:
             raise self.damaged("this is no header of a report")
         size, slots, samples, first, until = (int(found[k]) for k in (1, 2, 3, 5, 6))
-        if not (4 <= size <= 64 and size % 2 == 0 and 1 <= slots <= 32 and 1 <= samples <= 64
+        if not (4 <= size <= 64 and size % 2 == 0 and 1 <= slots <= 32 and 1 <= samples <= 256
                 and first <= until <= 10 ** 9):
             raise self.damaged("a number of the header isn't lawful")
         return Header(size, slots, samples, found[4].decode(), first, until)

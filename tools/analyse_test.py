@@ -129,6 +129,7 @@ def check_damage(checks, caller, lines):
     checks.same("a label that jumped", got, block + 1)
     for header in ("", "glass 2" + lines[0][7:], lines[0] + " ", lines[0].replace("size=4", "size=5"),
                    lines[0].replace("slots=3", "slots=33"), lines[0].replace("samples=2", "samples=0"),
+                   lines[0].replace("samples=2", "samples=257"),
                    lines[0].replace("from=0", "from=9"), lines[0].replace("metropolis", "glauber")):
         checks.same(f"header {header}", caller.refused_line(text_of_lines([header] + lines[1:])), 1)
     for change in (("spin,", "spins,"), (lines[-1][-16:], lines[-1][-16:].upper() + "0"), (lines[-1][-16:], lines[-1][-15:])):

@@ -23,7 +23,8 @@ PATHS = {
     "scalar_rule/specs/Positions": "positions", "scalar_rule/specs/SpinDigits": "plain",
     "run_plan/specs/CanonicalPlan": "plan_bytes", "run_checkpoint/specs/Encoding": "checkpoint",
     "run_checkpoint/specs/UnevenEncoding": "checkpoint", "glass_engine/specs/Report": "report",
-    "report_text/specs/Lines": "report",
+    "report_text/specs/Lines": "report", "run_checkpoint/specs/Lengths": "checkpoint",
+    "glass_engine/specs/Banks": "banks", "run_checkpoint/specs/BankEncoding": "banks",
 }
 # Definitions that the independent program writes otherwise, or that no run asks for.
 OTHERWISE = {
@@ -34,6 +35,7 @@ OTHERWISE = {
     "hex_digit": "in `four_spins`", "rank": "the lock's progress word, of which no text and no bytes are made",
     "turns": "a number in proofs; the definition is `has_turn`", "sum_below": "Python's `sum`",
     "run_report": "`uneven_report` of what a run was opened with", "flattened": "a packed state's own parts",
+    "BanksStand": "of packed states", "BanksFit": "of packed states", "banks_parts": "of packed states",
     "potts_sweep_words": "of the Potts glass: tools/plain_potts.py",
     "potts_start_words": "of the Potts glass: tools/plain_potts.py",
     "words_on": "how the kept words lie; `couplings_view` makes them by `place_of`",
@@ -47,7 +49,7 @@ DEFINED = re.compile(r"^(?:abbrev |unfoldable )?pub (?:record |data )?([A-Za-z_]
 def defined_in(specs: str) -> List[str]:
     """The public definitions of a file, without the conditions: these are words that begin with a verb."""
     names = list(dict.fromkeys(DEFINED.findall(specs)))
-    return [it for it in names if not re.match(r"(?:Is|Are|Has|Keeps|Fits)[A-Z]", it)]
+    return [it for it in names if not re.match(r"(?:Is|Are|Has|Have|Keeps|Fits)[A-Z]", it)]
 
 
 def written_in(code: str) -> Set[str]:

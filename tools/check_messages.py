@@ -17,8 +17,6 @@ from typing import Dict, Iterator, List, Set, Tuple
 LINES = "crates/glass_main/specs/Lines.antt"
 STATUSES = "crates/glass_main/specs/Statuses.antt"
 PAGES = {"docs/manual/when_a_run_ends_badly.md": "## Every line", "docs/specification/messages.md": "| status | line |"}
-# Refusals that no command can meet: `check` and `run` read no checkpoint of several banks.
-UNMET = {"BankCount", "BankEpoch"}
 HOLE = "#"
 Line = Tuple[int, str]
 
@@ -75,9 +73,8 @@ class Definitions:
         found: Set[Line] = set()
         for case, function in (("Plan", "plan_line"), ("Couplings", "couplings_line"), ("Checkpoint", "checkpoint_line"),
                                ("Report", "report_line")):
-            for variant, term in self.cases(function):
-                if variant not in UNMET:
-                    found |= {(self.status("refusal_status", case), it) for it in self.texts(term, "")}
+            for _, term in self.cases(function):
+                found |= {(self.status("refusal_status", case), it) for it in self.texts(term, "")}
         for case, role in (("Rules", "RuleTable"), ("Swaps", "SwapTable")):
             for _, term in self.cases("table_line"):
                 found |= {(self.status("refusal_status", case), it) for it in self.texts(term, role)}

@@ -1,21 +1,23 @@
 """What `glass check`, `run` and `average` must do with the files of a folder: status, line, text and saved checkpoint.
 
-The files are read by input_judge.py and report_judge.py; what a run does from there on is asked of the definitions of
-tools/reference, one sample and one spin at a time, so it is told only of small and short runs: of others the
-status and the first line."""
+The files are read by input_judge.py, checkpoint_judge.py and report_judge.py; what a run does from there on is
+asked of the definitions of tools/reference, one sample and one spin at a time, so it is told only of small and short
+runs: of others the status and the first line."""
 from collections import namedtuple
 
+import checkpoint_judge
 import input_judge as judge
 import reference.definitions as rule
 import report_judge
-from input_judge import Open, Refused
+from input_judge import BANK, Open, Refused
 
 # status and line (None: any of the manual); the first bytes of the output; all of it (None: not told); the run (None:
-# nothing runs); how much work the program has, sites times sweeps of all slots (None: not told)
+# nothing runs); how much work the program has, sites times sweeps of all slots and banks (None: not told)
 Verdict = namedtuple("Verdict", "status line head text run work")
-Run = namedtuple("Run", "planned base until")
-# So many sites are followed through a run here, and so many are printed.
-MOST_MOVED, MOST_PRINTED = 1500, 30000
+# What each bank starts with, and the last epoch.
+Run = namedtuple("Run", "planned bases until")
+# So many sites are followed through a run here, and so many are printed: an epoch of the least run over two banks.
+MOST_MOVED, MOST_PRINTED = 4200, 30000
 
 
 def refused(refusal):
@@ -48,12 +50,23 @@ def averaged(name, blocks):
     return Verdict(0, b"", text, text, None, 0)
 
 
+def stopped(name):
+    """The verdict on `glass run NAME --stop-after N --save CHECKPOINT`, as far as the reading of NAME and its files."""
+    try:
+        judge.planned(name, many=False)
+    except Refused as refusal:
+        return refused(refusal)
+    except Open:
+        pass
+    return NOT_TOLD
+
+
 # ---------------------------------------------------------------- what a run starts with
 
 
-def opening(planned):
-    """The positions of the opening; what its slots hold is made sample by sample."""
-    return judge.Base([(0, False)] * len(planned.plan.rows), None, None, {})
+def openings(planned):
+    """The positions of the opening, bank by bank; what their slots hold is made sample by sample."""
+    return [checkpoint_judge.Base([(0, False)] * len(planned.plan.rows), None, None, {}) for _ in planned.plans]
 
 
 def sample_copy(replica, size, b):
@@ -63,24 +76,25 @@ def sample_copy(replica, size, b):
     return rule.PlainCopy(spins, tuple(words for words, _ in planes), labels[b])
 
 
-def sample_state(planned, base, b, shift):
+def sample_state(planned, bases, sample, shift):
     """One sample of the state that a run starts with, its epochs counted from an even number on."""
+    bank, b = divmod(sample, BANK)
+    plan, base = planned.plans[bank], bases[bank]
     positions = tuple(rule.Position(epoch - shift, waits) for epoch, waits in base.positions)
     if base.slots is None:
-        s = rule.opening(planned.plan, planned.orders["start"], 0, b)
+        s = rule.opening(plan, planned.orders["start"], bank, b)
         return rule.UnevenState(b, positions, s.slots, s.pairs)
-    size = planned.plan.size
-    slots = tuple(rule.PlainSlot(*(sample_copy(replica, size, b) for replica in slot)) for slot in base.slots)
+    slots = tuple(rule.PlainSlot(*(sample_copy(replica, plan.size, b) for replica in slot)) for slot in base.slots)
     return rule.UnevenState(b, positions, slots, tuple(rule.PlainPair(*pair) for pair in base.pairs))
 
 
-def begins(base):
-    """The least completed epoch."""
-    return min(map(judge.done, base.positions))
+def begins(bases):
+    """The least completed epoch, which all banks have together."""
+    return min(map(checkpoint_judge.done, bases[0].positions))
 
 
-def shift_of(base):
-    return min(epoch for epoch, _ in base.positions) // 2 * 2
+def shift_of(bases):
+    return min(epoch for epoch, _ in bases[0].positions) // 2 * 2
 
 
 def check_amount(planned, floor, until):
@@ -99,21 +113,22 @@ def check_amount(planned, floor, until):
 
 def rows_of(run, samples, states, shift):
     """The rows of the report, sample by sample from the kept records and the rule."""
-    plan, base = run.planned.plan, run.base
-    for e in range(begins(base), run.until):
+    plans, pending = run.planned.plans, run.bases[0].pending
+    for e in range(begins(run.bases), run.until):
         if not rule.is_recorded(run.planned.orders["every"], e):
             continue
         for b in range(samples):
-            for t in range(len(plan.rows)):
-                record = base.pending.get((e, b, t))
+            for t in range(len(plans[0].rows)):
+                record = pending.get((e, b, t))
                 if record is None:
-                    record = rule.record_of(plan, b, rule.arrived(plan, states[b], e - shift, t))
+                    plan = plans[b // BANK]
+                    record = rule.record_of(plan, b % BANK, rule.arrived(plan, states[b], e - shift, t))
                 yield f"row,{e},{b},{t}," + ",".join(map(str, record))
 
 
 def spins_of(run, samples, states, shift):
-    plan = run.planned.plan
     for b in range(samples):
+        plan = run.planned.plans[b // BANK]
         for t in range(len(plan.rows)):
             slot = rule.ready(plan, states[b], run.until - shift, t)
             for c, copy in enumerate(slot):
@@ -123,21 +138,21 @@ def spins_of(run, samples, states, shift):
 def header(run):
     plan, samples = run.planned.plan, run.planned.orders["samples"]
     return (f"glass 1 size={plan.size} slots={len(plan.rows)} samples={samples} rule={plan.rule} "
-            f"from={begins(run.base)} to={run.until}")
+            f"from={begins(run.bases)} to={run.until}")
 
 
 def is_short(run):
     """Whether the run is followed here."""
     plan, orders = run.planned.plan, run.planned.orders
     sites = plan.size ** 3 * len(plan.rows)
-    moved = sites * plan.sweeps * (run.until - begins(run.base)) * orders["samples"]
+    moved = sites * plan.sweeps * (run.until - begins(run.bases)) * orders["samples"]
     printed = sites * orders["samples"] if orders["spins"] else 0
     return plan.couplings is not None and moved <= MOST_MOVED and printed <= MOST_PRINTED
 
 
 def report(run):
-    samples, shift = run.planned.orders["samples"], shift_of(run.base)
-    states = [sample_state(run.planned, run.base, b, shift) for b in range(samples)]
+    samples, shift = run.planned.orders["samples"], shift_of(run.bases)
+    states = [sample_state(run.planned, run.bases, b, shift) for b in range(samples)]
     lines = [header(run), *rows_of(run, samples, states, shift), f"end,{run.until}"]
     if run.planned.orders["spins"]:
         lines += spins_of(run, samples, states, shift)
@@ -148,34 +163,38 @@ def ran(name, base_name, until):
     """The verdict on `glass run NAME --until UNTIL`, with `--from BASE_NAME` where that is not None."""
     try:
         planned = judge.planned(name)
-        base = opening(planned)
+        bases = openings(planned)
         if base_name is not None:
-            base = judge.checkpoint(judge.fetched(base_name, "checkpoint"), planned, until)
-        check_amount(planned, begins(base), until)
+            bases = checkpoint_judge.checkpoint(judge.fetched(base_name, "checkpoint"), planned, until)
+        check_amount(planned, begins(bases), until)
     except Refused as refusal:
         return refused(refusal)
     except Open:
         return NOT_TOLD
-    run = Run(planned, base, until)
-    work = planned.plan.size ** 3 * len(planned.plan.rows) * planned.plan.sweeps * (until - begins(base))
+    run = Run(planned, bases, until)
+    work = planned.plan.size ** 3 * len(planned.plan.rows) * planned.plan.sweeps * (until - begins(bases)) * len(bases)
     head = (header(run) + "\n").encode()
     return Verdict(0, b"", head, report(run) if is_short(run) else None, run, work)
 
 
 def wrong_in_saved(stored, run, samples):
     """What is wrong in the checkpoint that a run saved, looked at in some samples; None where nothing is."""
-    planned, base, until = run
-    plan, shift = planned.plan, shift_of(base)
+    planned, bases, until = run
+    shift = shift_of(bases)
     try:
-        kept = judge.level_checkpoint(stored, planned, until)
+        kept = checkpoint_judge.checkpoint(stored, planned, until)
     except Refused as refusal:
         return refusal.line
-    if kept.positions != [(until, False)] * len(plan.rows):
-        return f"it is at epoch {kept.positions[0][0]}"
-    if base.slots is not None and base.positions == kept.positions:
-        return None if (kept.slots, kept.pairs) == (base.slots, base.pairs) else "its state is not that of the start"
+    if stored[:8] == b"GLASSCK2":
+        return "it is of slots at epochs of their own"
+    if kept[0].positions != [(until, False)] * len(planned.plan.rows):
+        return f"it is at epoch {kept[0].positions[0][0]}"
+    if bases[0].slots is not None and bases[0].positions == kept[0].positions:
+        is_same = all((it.slots, it.pairs) == (base.slots, base.pairs) for it, base in zip(kept, bases))
+        return None if is_same else "its state is not that of the start"
     for b in samples:
-        start, end = sample_state(planned, base, b, shift), sample_state(planned, kept, b, until)
+        plan = planned.plans[b // BANK]
+        start, end = sample_state(planned, bases, b, shift), sample_state(planned, kept, b, until)
         slots = tuple(rule.ready(plan, start, until - shift, t) for t in range(len(plan.rows)))
         pairs = tuple(rule.generators(plan, start, k, until - shift) for k in range(len(plan.rows) - 1))
         if (slots, pairs) != (end.slots, end.pairs):

@@ -30,6 +30,7 @@ from pathlib import Path
 import couplings
 import expected_runs
 import input_growth
+import input_judge
 from make_tables import OneLineParser, Refusal
 
 TOP = Path(__file__).resolve().parent.parent
@@ -51,7 +52,8 @@ HEAT = ["4294967296,4294967296,4294967296,0,0,0,0", "0,0,0,0,0,0,4294967296", "4
 METROPOLIS = ["858993459, 171798691, 34359738", "1171354717,319460377,87125557", "1431655765,477218588,159072862"]
 # size, rule, slots, couplings, samples, every, start
 STUDIES = [(4, "heat", 2, "plus", 1, 1, "up"), (4, "metropolis", 3, "random", 2, 2, "random"),
-           (4, "heat", 1, "file:j.bin", 1, 1, "random"), (6, "metropolis", 2, "file:j.bin", 1, 1, "random")]
+           (4, "heat", 1, "file:j.bin", 1, 1, "random"), (6, "metropolis", 2, "file:j.bin", 1, 1, "random"),
+           (4, "heat", 1, "file:j.bin", 65, 1, "up"), (4, "metropolis", 2, "random", 66, 2, "random")]
 
 
 # ---------------------------------------------------------------- lawful files
@@ -62,7 +64,7 @@ def lawful_files(study):
     size, rule, slots, source, samples, every, start = study
     rows = HEAT if rule == "heat" else METROPOLIS
     swaps = ["3149642683, 2309737966, 1693807842", "4294967296"][:slots - 1]
-    of_file = 1 if size == 4 else 65
+    of_file = 65 if size == 6 or samples > 64 else 1
     bonds = [couplings.random_sample(size, 5, b, couplings.probability("1/2")) for b in range(of_file)]
     run = RUN.format(size=size, rule=rule, source=source, samples=samples, every=every, start=start)
     return {"run.toml": run.encode(), "rules.csv": ("\n".join(rows[:slots]) + "\n").encode(),
@@ -85,8 +87,15 @@ class Study:
                 raise Refusal(f"a lawful run ended with status {ended.returncode}: {ended.stderr.decode()}")
             self.bases.append((folder / "base").read_bytes())
         self.reports = [self.call("run", "run.toml", "--until", until).stdout for until in ("0", "1", "3")]
-        for epoch in (0, 1, 1, 2, 2):
-            self.bases.append(input_growth.uneven(rng, self.bases[epoch], self.size, self.slots, self.samples, self.every))
+        if self.samples > 64:
+            # Two banks at different epochs, and one bank alone.
+            places = [12 + g * input_growth.bank_length(self.size, self.slots) for g in range(3)]
+            for first, second in ((0, 1), (2, 1)):
+                self.bases.append(input_growth.sealed(self.bases[first][:places[1]] + self.bases[second][places[1]:]))
+            self.bases.append(self.bases[1][places[0]:places[1]])
+        else:
+            self.bases += [input_growth.uneven(rng, self.bases[epoch], self.size, self.slots, self.samples, self.every)
+                           for epoch in (0, 1, 1, 2, 2)]
 
     def write(self, files):
         for name, stored in files.items():
@@ -164,6 +173,9 @@ class Fuzzer:
         before = self.failed
         if kind != "base":
             self.hold(number, study, ["check", "run.toml"], expected_runs.checked("run.toml"))
+        if rng.random() < 0.1:
+            words = ["run", "run.toml", "--stop-after", "0", "--save", "stopped"]
+            self.hold(number, study, words, expected_runs.stopped("run.toml"))
         self.hold_run(number, study, rng, changed["base"] if kind == "base" or rng.random() < 0.2 else None)
         if self.failed > before or self.kept is not None:
             self.keep(number, study)
@@ -205,7 +217,8 @@ class Fuzzer:
         if saved.exists() != (ended.returncode == 0):
             self.complain(number, words, f"status {ended.returncode} and the checkpoint stands: {saved.exists()}")
         elif ended.returncode == 0 and verdict.text is not None:
-            wrong = expected_runs.wrong_in_saved(saved.read_bytes(), verdict.run, (0, rng.randrange(64)))
+            seen = (0, rng.randrange(input_judge.BANK * len(verdict.run.bases)))
+            wrong = expected_runs.wrong_in_saved(saved.read_bytes(), verdict.run, seen)
             if wrong is not None:
                 self.complain(number, words, f"the saved checkpoint: {wrong}")
 

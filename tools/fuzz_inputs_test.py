@@ -6,6 +6,7 @@ import random
 import tempfile
 from collections import namedtuple
 
+import couplings
 import expected_runs
 import fuzz_inputs
 import input_growth
@@ -20,6 +21,11 @@ TWO_SLOTS = {"run.toml": RUN.format(size=4, rule="heat", source="plus", samples=
 PLAN = "d9aa15c363f754a61bc0ea79f1bbe78112219581fbe4f49adbdb771408c853e7"
 SEALS = {1: "f5061320742401e61d10bc117909495b597fa50026b573897d9c4c900297dbd3",
          2: "de1f29722e9c43a589222fc234412f6559ae06b16d13e1187ec06fde2629633c"}
+# One slot of 65 samples, the published digest of each bank's plan, and the length of a checkpoint of two banks.
+TWO_BANKS = {"run.toml": RUN.format(size=4, rule="heat", source="plus", samples=65, every=1, start="up").encode(),
+             "rules.csv": b"0,0,0,0,0,0,4294967296\n", "swaps.csv": b""}
+BANK_PLAN = "347567cbd87c08235566da9a200b5e5129cf41a25bff22c0a63e399a7928c63d"
+BANKS_LENGTH = 10332
 ROWS = ["row,0,0,0,192,192,64,0,0", "row,0,0,1,-192,-192,64,1,1", "row,1,0,0,192,192,64,1,1", "row,1,0,1,-192,-192,64,0,0"]
 HEAD = "glass 1 size=4 slots=2 samples=1 rule=heat from=%d to=%d\n"
 Ended = namedtuple("Ended", "returncode stdout stderr")
@@ -115,6 +121,65 @@ def uneven(checks):
                 b"glass: the checkpoint has a wrong place at slot 0\n")
 
 
+def both(first, second):
+    body = b"GLASSCK3\0\0\0\2" + first + second
+    return body + hashlib.sha256(body).digest()
+
+
+def banks_text(last_spins):
+    """The report of 65 samples that end up, but for the last."""
+    rows = [f"row,0,{b},0,-192,-192,64,0,0" for b in range(65)]
+    lines = ["glass 1 size=4 slots=1 samples=65 rule=heat from=0 to=1", *rows, "end,1"]
+    lines += [f"spin,{b},0,{c},{last_spins if b == 64 else 'f' * 16}" for b in range(65) for c in range(2)]
+    return ("\n".join(lines) + "\n").encode()
+
+
+def banks(checks):
+    """Two banks: the plan's digest, the report, the checkpoint, and what is refused of it."""
+    write(TWO_BANKS)
+    message = b"GLASSPL2\0\0\0\2" + 2 * bytes.fromhex(BANK_PLAN)
+    checks.same("plan of two banks", expected_runs.checked("run.toml").text[-65:-1].decode(),
+                hashlib.sha256(message).hexdigest())
+    planned = input_judge.planned("run.toml")
+    at1 = rule.epoch(planned.plan, rule.opening(planned.plan, "up", 0, 0))
+    first, later = (encoded(BANK_PLAN, s, 4) for s in (at1, rule.epoch(planned.plan, at1)))
+    stored, verdict = both(first, first), expected_runs.ran("run.toml", None, 1)
+    checks.same("length of two banks", len(stored), BANKS_LENGTH)
+    checks.same("report of two banks", verdict.text, banks_text("f" * 16))
+    checks.same("saved of two banks", expected_runs.wrong_in_saved(stored, verdict.run, (0, 63, 64, 127)), None)
+    checks.same("a bank of another epoch", expected_runs.wrong_in_saved(both(first, later), verdict.run, (0,)),
+                "the checkpoint is at epoch 2, past 1")
+    wrong = input_growth.sealed_in_all(changed(stored, 12 + 5144 + 371, 254), 4, 1)
+    checks.same("a wrong spin in bank 1", expected_runs.wrong_in_saved(wrong, verdict.run, (0, 63, 64)),
+                "sample 64 is not that of the rule")
+    of_bank1 = 12 + len(first)
+    for bytes_, line in ((stored[:43], "the checkpoint is too short: 43 bytes"), (first, "the checkpoint is of another kind"),
+                         (stored[:11] + b"\3" + stored[12:], "the checkpoint has 3 banks, not 2"),
+                         (stored[:-1], "the checkpoint has 10331 bytes, not 10332"),
+                         (changed(stored, of_bank1 + 7, 50), "the checkpoint is of another kind"),
+                         (changed(stored, of_bank1 + 61, 1), f"the checkpoint is damaged: {first[-32:].hex()} stored"),
+                         (input_growth.sealed_in_all(changed(stored, of_bank1 + 61, 1), 4, 1),
+                          "the checkpoint has a wrong replica at slot 0, copy 0, sample 5"),
+                         (both(first, later), "the checkpoint has bank 1 at epoch 2, not 1"),
+                         (stored[:56] + b"M" + stored[57:], "the checkpoint is damaged")):
+        write({"base": bytes_})
+        checks.same(line, expected_runs.ran("run.toml", "base", 2).line.decode()[:7 + len(line)], f"glass: {line}")
+    rng = random.Random(5)
+    for k in range(200):
+        write({"base": input_growth.grown_bytes(rng, "base", stored, [first, stored], 4, 1)})
+        verdict = expected_runs.ran("run.toml", "base", 1)
+        checks.same(f"a changed checkpoint of two banks, {k}", verdict.status, 6 if verdict.line else 0)
+    write({"base": stored})
+    refused = b"glass: this command needs at most 64 samples, not 65\n"
+    checks.same("a stop", expected_runs.stopped("run.toml")[:2], (3, refused))
+    write({"run.toml": TWO_BANKS["run.toml"].replace(b"samples = 65", b"samples = 64")})
+    checks.same("two banks for one", expected_runs.ran("run.toml", "base", 2).line, b"glass: the checkpoint is of another kind\n")
+    write({"run.toml": TWO_BANKS["run.toml"].replace(b"plus", b"file:j.bin"),
+           "j.bin": couplings.file_bytes(4, [bytes(192)] * 64 + [bytes([1]) * 192])})
+    checks.same("bytes of 65 samples", os.path.getsize("j.bin"), 1608)
+    checks.same("sample 64 of a file", expected_runs.ran("run.toml", None, 1).text, banks_text("5a5aa5a55a5aa5a5"))
+
+
 def reports(checks):
     """The worked report of the run above, in one block and cut."""
     rows = (HEAD % (0, 2)).encode() + "".join(row + "\n" for row in ROWS).encode() + b"end,2\n"
@@ -161,6 +226,7 @@ def self_test():
             uneven(checks)
             reports(checks)
             wrong_answers(checks)
+            banks(checks)
         finally:
             os.chdir(start)
     checks.same("lines of the manual", len(fuzz_inputs.LINES) >= 39, True)

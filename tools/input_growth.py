@@ -139,6 +139,24 @@ def sealed(stored):
     return stored[:-32] + hashlib.sha256(stored[:-32]).digest()
 
 
+def bank_length(size, slots):
+    return 88 + 2 * slots * replica_length(size) + 488 * (slots - 1)
+
+
+def bank_places(stored, size, slots):
+    """Where the checkpoints of the banks stand in one of several."""
+    length = bank_length(size, slots)
+    return range(12, len(stored) - 31 - length, length) if stored[:8] == b"GLASSCK3" else range(0)
+
+
+def sealed_in_all(stored, size, slots):
+    """With the digests of the banks made anew, and then that of the whole."""
+    for at in bank_places(stored, size, slots):
+        end = at + bank_length(size, slots)
+        stored = stored[:at] + sealed(stored[at:end]) + stored[end:]
+    return sealed(stored)
+
+
 def noise(rng, stored, _):
     a, b = piece(rng, stored)
     return stored[:a] + random_bytes(rng, b - a) + stored[b:]
@@ -167,20 +185,21 @@ def replica_length(size):
     return 64 + 2 * size * (244 + 4 * size * size)
 
 
-def contents_place(stored, slots):
-    return 64 + 9 * slots if stored[:8] == b"GLASSCK2" else 56
+def contents_place(rng, stored, size, slots):
+    if stored[:8] == b"GLASSCK2":
+        return 64 + 9 * slots
+    return 56 + rng.choice(bank_places(stored, size, slots) or [0])
 
 
-def label_place(rng, stored, size, slots):
+def label_places(rng, stored, size, slots):
     """The place of a label, and that of the same copy and sample in another slot."""
-    copy, sample = rng.randrange(2), rng.randrange(64)
-    first, second = (contents_place(stored, slots) + (2 * rng.randrange(slots) + copy) * replica_length(size) + sample
-                     for _ in range(2))
+    copy, sample, start = rng.randrange(2), rng.randrange(64), contents_place(rng, stored, size, slots)
+    first, second = (start + (2 * rng.randrange(slots) + copy) * replica_length(size) + sample for _ in range(2))
     return first, second
 
 
 def with_labels(rng, stored, size, slots):
-    first, second = label_place(rng, stored, size, slots)
+    first, second = label_places(rng, stored, size, slots)
     if max(first, second) >= len(stored):
         return stored
     changed = bytearray(stored)
@@ -191,8 +210,12 @@ def with_labels(rng, stored, size, slots):
     return bytes(changed)
 
 
-def fields_of(stored, slots):
+def fields_of(stored, size, slots):
     """Places and widths of the numbers of a couplings file or of a checkpoint."""
+    if stored[:8] == b"GLASSCK3":
+        of_banks = [(at + field, width) for at in bank_places(stored, size, slots)
+                    for field, width in ((0, 8), (8, 8), (40, 8), (40, 8), (48, 4), (52, 4))]
+        return [(0, 8)] + 3 * [(8, 4)] + of_banks
     if stored[:8] == b"GLASSCK2":
         of_slots = [(64 + 9 * t, 8) for t in range(slots)] + [(72 + 9 * t, 1) for t in range(slots)]
         return [(0, 8), (8, 8), (40, 4), (44, 4), (48, 4), (52, 8), (60, 4)] + 2 * of_slots
@@ -206,13 +229,15 @@ def grown_bytes(rng, name, stored, others, size, slots):
     for _ in range(rng.choice((1, 1, 1, 2, 3))):
         way = rng.random()
         if way < 0.3 and is_shaped:
-            stored = with_field(rng, stored, fields_of(stored, slots))
+            stored = with_field(rng, stored, fields_of(stored, size, slots))
         elif way < 0.5 and is_shaped and name == "base":
             stored = with_labels(rng, stored, size, slots)
         else:
             stored = rng.choice(BINARY_CHANGES)(rng, stored, others)
     seal = rng.random()
-    return sealed(stored) if seal < 0.7 else stored + hashlib.sha256(stored).digest() if seal < 0.75 else stored
+    if seal < 0.7:
+        return sealed_in_all(stored, size, slots) if seal < 0.6 else sealed(stored)
+    return stored + hashlib.sha256(stored).digest() if seal < 0.75 else stored
 
 
 def grown(rng, name, stored, others, size, slots):
@@ -272,5 +297,6 @@ def epochs_of(base):
                   if 72 + 9 * t < len(base)]
         last = max(map(completed, places), default=0)
     else:
-        last = int.from_bytes(base[40:48], "big")
+        start = 12 if base[:8] == b"GLASSCK3" else 0
+        last = int.from_bytes(base[start + 40:start + 48], "big")
     return [min(max(last + more, 0), 10 ** 9) for more in (-1, 0, 0, 0, 1)]

@@ -1,12 +1,11 @@
-"""What docs/specification says of a run file, its tables, its couplings and a checkpoint: what they are, or the
-status and the line of their first refusal.
+"""What docs/specification says of a run file, its tables and its couplings: what they are, or the status and the line of
+their first refusal. checkpoint_judge.py says it of a checkpoint.
 
 It is written from those documents and shares nothing with the program: each format is read here anew. TOML is read by
 Python's own reader of TOML 1.0 (from 3.11 on), where the program takes 1.1: where the two may differ, where there is no
 reader, or where a digest would take long to make, the answer is open."""
 import hashlib
 import re
-import struct
 from collections import namedtuple
 from functools import lru_cache
 
@@ -18,12 +17,11 @@ try:
 except ImportError:
     tomllib = None
 
-# Positions are pairs of an epoch and whether the slot waits; the rest is as contents_of gives it, and the records that
-# are kept ahead by their epoch, sample and slot.
-Base = namedtuple("Base", "positions slots pairs pending")
 LIMITS = {"run file": 1048576, "rule table": 65536, "swap table": 4194304, "couplings file": 25165872,
           "checkpoint": 544943596, "report": 67108864}
 GREATEST_EPOCH = 10 ** 9
+# Samples are simulated in banks of so many.
+BANK = 64
 # A document may be refused for its depth, and this one is not.
 SHALLOW = 40
 # A decimal past the greatest one is infinite to Python's reader, and no number to the program's.
@@ -137,9 +135,13 @@ def run_file(stored):
     if others:
         shown = bytes(b if 32 <= b <= 126 else 63 for b in others[0])
         raise Refused(3, f"unknown key {shown.decode()}")
-    if document["samples"] > 64:
-        raise Refused(3, f"this command needs at most 64 samples, not {document['samples']}")
     return document
+
+
+def check_banks(orders):
+    """What is asked of a run file by a command that runs one bank of 64 samples."""
+    if orders["samples"] > BANK:
+        raise Refused(3, f"this command needs at most 64 samples, not {orders['samples']}")
 
 
 # ---------------------------------------------------------------- tables and couplings
@@ -196,7 +198,7 @@ def seal_of(status, what, stored):
 
 
 def couplings_file(stored, size):
-    """The bonds of the first 64 samples."""
+    """The bonds of the file's samples."""
     if len(stored) < 48:
         raise Refused(5, f"the couplings file is too short: {len(stored)} bytes")
     if stored[:8] != b"GLASSCJ1":
@@ -210,22 +212,34 @@ def couplings_file(stored, size):
     if len(stored) != 48 + samples * part:
         raise Refused(5, f"the couplings file has {len(stored)} bytes, not {48 + samples * part}")
     seal_of(5, "couplings file", stored)
-    return [couplings.unpacked(stored[16 + b * part:16 + (b + 1) * part]) for b in range(min(samples, 64))]
+    return [couplings.unpacked(stored[16 + b * part:16 + (b + 1) * part]) for b in range(samples)]
 
 
 @lru_cache(maxsize=64)
-def random_bonds(size, seed):
-    return words_of(size, [couplings.program_sample(size, seed, b) for b in range(64)])
+def random_bonds(size, seed, bank):
+    return words_of(size, [couplings.program_sample(size, seed, BANK * bank + b) for b in range(BANK)])
 
 
 def words_of(size, samples):
-    """A word for each bond in order of number, with bit b set where J of sample b is -1."""
+    """A word for each bond in order of number, with bit b set where J of a bank's sample b is -1."""
     return tuple(sum(bonds[n] << b for b, bonds in enumerate(samples)) for n in range(3 * size ** 3))
 
 
 # ---------------------------------------------------------------- plan
 
-Planned = namedtuple("Planned", "orders plan digest")
+
+class Planned(namedtuple("Planned", "orders plans digests")):
+    """The orders, and of each bank the plan and its digest; the digests are None where they would take long to make."""
+
+    @property
+    def plan(self):
+        return self.plans[0]
+
+    @property
+    def digest(self):
+        if self.digests is None or len(self.digests) == 1:
+            return self.digests and self.digests[0]
+        return hashlib.sha256(b"GLASSPL2" + len(self.digests).to_bytes(4, "big") + bytes.fromhex("".join(self.digests))).hexdigest()
 
 
 def plan_digest(size, kind, rows, swaps, sweeps, seed, bonds):
@@ -239,142 +253,35 @@ def plan_digest(size, kind, rows, swaps, sweeps, seed, bonds):
     return hashlib.sha256(b"".join(parts)).hexdigest()
 
 
-def bonds_of(source, size, seed):
+def bonds_of(source, size, seed, banks):
+    """Each bank's words of the bonds, None where they would take long to make."""
     if source.startswith("file:"):
-        return words_of(size, couplings_file(fetched(source[5:], "couplings file"), size))
+        samples = couplings_file(fetched(source[5:], "couplings file"), size)
+        return [words_of(size, samples[BANK * g:BANK * (g + 1)]) for g in range(banks)]
     if source == "plus":
-        return (0,) * (3 * size ** 3)
-    return random_bonds(size, seed) if size <= 8 else None
+        return [(0,) * (3 * size ** 3)] * banks
+    return [random_bonds(size, seed, g) for g in range(banks)] if size <= 8 else None
 
 
-def planned(name):
+def in_places(size, bonds):
+    """The words of a bank's bonds as the definitions keep them; at sizes of which no run is followed they are 0."""
+    places = [0] * len(bonds)
+    for n, word in enumerate(bonds if size <= 16 else ()):
+        places[rule.place_of(size, n // 3, n % 3)] = word
+    return rule.CouplingsView(size, tuple(places))
+
+
+def planned(name, many=True):
+    """What a run file and its files are; `many` is said where the command runs more than one bank."""
     orders = run_file(fetched(name, "run file"))
+    if not many:
+        check_banks(orders)
     size, kind, seed = orders["size"], orders["rule"], orders["seed"]
+    banks = (orders["samples"] + BANK - 1) // BANK
     rows = rule_table(fetched(orders["rules"], "rule table"), kind)
     swaps = swap_table(fetched(orders["swaps"], "swap table"), len(rows) - 1)
-    bonds = bonds_of(orders["couplings"], size, seed)
-    if bonds is None:
-        return Planned(orders, rule.Plan(size, kind, rows, swaps, None, orders["sweeps"], seed), None)
-    places = [0] * len(bonds)
-    if size <= 8:
-        for n, word in enumerate(bonds):
-            places[rule.place_of(size, n // 3, n % 3)] = word
-    plan = rule.Plan(size, kind, rows, swaps, rule.CouplingsView(size, tuple(places)), orders["sweeps"], seed)
-    return Planned(orders, plan, plan_digest(size, kind, rows, swaps, orders["sweeps"], seed, bonds))
-
-
-# ---------------------------------------------------------------- checkpoints
-
-
-def contents_length(size, slots):
-    return 2 * slots * (64 + 2 * size * (244 + 4 * size * size)) + 488 * (slots - 1)
-
-
-def window(stored, at):
-    return struct.unpack_from(">61I", stored, at)
-
-
-def contents_of(stored, at, size, slots):
-    """Each slot's two replicas, a replica being its labels and its planes, and each pair's two generators."""
-    half, replicas = size * size // 2, []
-    for _ in range(2 * slots):
-        labels, at = stored[at:at + 64], at + 64
-        planes = []
-        for _ in range(2 * size):
-            planes.append((window(stored, at), struct.unpack_from(f">{half}Q", stored, at + 244)))
-            at += 244 + 8 * half
-        replicas.append((labels, planes))
-    pairs = [(window(stored, at + 488 * k), window(stored, at + 488 * k + 244)) for k in range(slots - 1)]
-    return [tuple(replicas[2 * t:2 * t + 2]) for t in range(slots)], pairs
-
-
-def check_labels(slots):
-    for t, slot in enumerate(slots):
-        for c in range(2):
-            for b in range(64):
-                label = slot[c][0][b]
-                if label >= len(slots) or any(label == slots[s][c][0][b] for s in range(t)):
-                    raise Refused(6, f"the checkpoint has a wrong replica at slot {t}, copy {c}, sample {b}")
-
-
-def check_frame(stored, at, planned_, length):
-    """Shape, which stands at a place; length; digest; and the plan's digest."""
-    size, slots = planned_.plan.size, len(planned_.plan.rows)
-    if (number(stored, at, 4), number(stored, at + 4, 4)) != (size, slots):
-        raise Refused(6, f"the checkpoint has size {number(stored, at, 4)} and {number(stored, at + 4, 4)} slots")
-    if len(stored) != length:
-        raise Refused(6, f"the checkpoint has {len(stored)} bytes, not {length}")
-    seal_of(6, "checkpoint", stored)
-    if planned_.digest is None:
-        raise Open
-    if stored[8:40].hex() != planned_.digest:
-        raise Refused(6, f"the checkpoint is of another plan: {stored[8:40].hex()} stored, {planned_.digest} here")
-
-
-def level_checkpoint(stored, planned_, until):
-    size, slots = planned_.plan.size, len(planned_.plan.rows)
-    check_frame(stored, 48, planned_, 88 + contents_length(size, slots))
-    contents, pairs = contents_of(stored, 56, size, slots)
-    check_labels(contents)
-    epoch = number(stored, 40, 8)
-    if epoch > until:
-        raise Refused(6, f"the checkpoint is at epoch {epoch}, past {until}")
-    return Base([(epoch, False)] * slots, contents, pairs, {})
-
-
-def done(position):
-    return position[0] + position[1]
-
-
-def check_places(places):
-    for t, (epoch, phase) in enumerate(places):
-        partner = t + 1 if (t + epoch) % 2 == 0 else t - 1
-        is_wrong = phase not in (0, 2) or epoch > GREATEST_EPOCH or phase == 2 and not 0 <= partner < len(places)
-        if t > 0 and not is_wrong:
-            below, low, high = places[t - 1], *sorted((places[t - 1][0], epoch))
-            # Of the epochs at which the pair below has its turn the same ones lie below both; no two of them are neighbours.
-            first_turn = low + (low + t - 1) % 2
-            is_wrong = first_turn < high or partner == t - 1 and phase == 2 and below == (epoch, 2)
-        if is_wrong:
-            raise Refused(6, f"the checkpoint has a wrong place at slot {t}")
-
-
-def uneven_checkpoint(stored, planned_, until):
-    size, slots = planned_.plan.size, len(planned_.plan.rows)
-    if len(stored) < 96:
-        raise Refused(6, f"the checkpoint is too short: {len(stored)} bytes")
-    count = number(stored, 60, 4)
-    check_frame(stored, 40, planned_, 96 + 9 * slots + contents_length(size, slots) + 14 * count)
-    contents, pairs = contents_of(stored, 64 + 9 * slots, size, slots)
-    check_labels(contents)
-    places = [(number(stored, 64 + 9 * t, 8), stored[72 + 9 * t]) for t in range(slots)]
-    check_places(places)
-    samples, every = number(stored, 48, 4), number(stored, 52, 8)
-    if (samples, every) != (planned_.orders["samples"], planned_.orders["every"]):
-        raise Refused(6, f"the checkpoint is of samples={samples} every={every}")
-    positions = [(epoch, phase == 2) for epoch, phase in places]
-    floor, deepest = min(map(done, positions)), max(map(done, positions))
-    kept = [(e, b, t) for e in range(floor, deepest) if rule.is_recorded(every, e) for b in range(samples)
-            for t in range(slots) if e < done(positions[t])]
-    if count != len(kept):
-        raise Refused(6, f"the checkpoint has {count} pending records, not {len(kept)}")
-    if deepest > until:
-        raise Refused(6, f"the checkpoint is at epoch {deepest}, past {until}")
-    start = len(stored) - 32 - 14 * count
-    return Base(positions, contents, pairs,
-                {place: record_at(stored, start + 14 * k) for k, place in enumerate(kept)})
-
-
-def record_at(stored, at):
-    signed = [int.from_bytes(stored[at + 4 * k:at + 4 * k + 4], "big", signed=True) for k in range(3)]
-    return rule.Record(*signed, stored[at + 12], stored[at + 13])
-
-
-def checkpoint(stored, planned_, until):
-    if len(stored) < 88:
-        raise Refused(6, f"the checkpoint is too short: {len(stored)} bytes")
-    if stored[:8] == b"GLASSCK2":
-        return uneven_checkpoint(stored, planned_, until)
-    if stored[:8] != b"GLASSCK1":
-        raise Refused(6, "the checkpoint is of another kind")
-    return level_checkpoint(stored, planned_, until)
+    bonds = bonds_of(orders["couplings"], size, seed, banks)
+    kept = [None] * banks if bonds is None else [in_places(size, it) for it in bonds]
+    plans = [rule.Plan(size, kind, rows, swaps, it, orders["sweeps"], seed) for it in kept]
+    digests = None if bonds is None else [plan_digest(size, kind, rows, swaps, orders["sweeps"], seed, it) for it in bonds]
+    return Planned(orders, plans, digests)

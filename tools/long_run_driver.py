@@ -25,7 +25,7 @@ from long_run_stop import Stop
 PLAN = re.compile("plan 1 size=([0-9]+) slots=([0-9]+) samples=([0-9]+) rule=[a-z]+ sweeps=([0-9]+) "
                   "digest=([0-9a-f]{64})\n")
 GREATEST_ROWS = 4194304
-# The program moves so many disorder samples, also where it prints fewer.
+# The program moves disorder samples in banks of so many, also where it prints fewer.
 BANK = 64
 CHECKPOINT_REFUSED = 6
 # A part that another machine's pace would make 15 minutes long begins with an eighth of its epochs.
@@ -58,8 +58,8 @@ class Plan:
     digest: str
 
     def updates(self, epochs: float) -> float:
-        """Spin updates of so many epochs: all samples, slots and both replicas."""
-        return epochs * self.sweeps * 2 * BANK * self.slots * self.size ** 3
+        """Spin updates of so many epochs: all samples that are moved, slots and both replicas."""
+        return epochs * self.sweeps * 2 * moved(self.samples) * self.slots * self.size ** 3
 
 
 @dataclass(frozen=True)
@@ -71,6 +71,11 @@ class Pace:
 
 
 # ---------------------------------------------------------------- lengths
+
+
+def moved(samples: int) -> int:
+    """How many samples the program moves where it prints so many."""
+    return (samples + BANK - 1) // BANK * BANK
 
 
 def most_until(first: int, every: int, rows_an_epoch: int) -> int:

@@ -11,7 +11,7 @@ from dataclasses import dataclass
 from pathlib import Path
 from typing import List, Optional, Sequence
 
-from long_run_driver import BANK, Driver
+from long_run_driver import Driver, moved
 from long_run_folder import Fault, Record, RunFolder, read_keys
 from long_run_report import header_of, is_joined
 
@@ -112,8 +112,8 @@ def line_of(name: str, state: State) -> str:
     if state.last is None:
         return text.rstrip()
     rate = (state.last.until - state.last.first) / max(state.last.seconds, 1e-3)
-    size, sweeps = int(state.last.keys["size"]), int(state.last.keys["sweeps"])
-    updates = rate * sweeps * 2 * BANK * state.slots * size ** 3
+    size, sweeps, samples = (int(state.last.keys[key]) for key in ("size", "sweeps", "samples"))
+    updates = rate * sweeps * 2 * moved(samples) * state.slots * size ** 3
     left = "" if state.word == "done" else duration((state.epochs - state.epoch) / rate)
     return f"{text} {updates:>10.2e} {left:>14}  {duration(state.age)} ago on {state.last.host}"
 

@@ -9,7 +9,7 @@ from pathlib import Path
 from typing import List, Tuple
 
 import long_run_folder
-from long_run_driver import GREATEST_ROWS, Options, Pace, most_until, part_length
+from long_run_driver import GREATEST_ROWS, Options, Pace, Plan, most_until, part_length
 from long_run_folder import Fault, plain_keys, read_keys
 from long_run_states import duration, index_of, ranges
 from make_tables import Checks
@@ -85,6 +85,9 @@ def check_lengths(checks: Checks) -> None:
     for pace, left, wanted in ((None, None, 1), (None, 5.0, 1), (None, -1.0, 0), (Pace(4, 50), None, 8),
                                (Pace(4000, 50), None, 5000), (Pace(4000, 50), 10.0, 400), (Pace(1, 0.01), 50.0, 0)):
         checks.same(f"length after {pace} with {left} s", part_length(pace, options, left), wanted)
+    for samples, wanted in ((1, 64), (64, 64), (65, 128), (256, 256)):
+        updates = Plan(4, 1, samples, 3, "").updates(1)
+        checks.same(f"updates of {samples} samples", updates, 2 * 3 * 64 * wanted)
 
 
 def check_words(checks: Checks) -> None:

@@ -1,11 +1,10 @@
 #!/usr/bin/env python3
-"""Runs the built program and holds every byte of it to the definitions: text, digest, report, checkpoints of both kinds.
+"""Runs the built program and holds every byte of it to the definitions: text, digest, report, checkpoints of all kinds.
 
     python3 tools/reference/against_program.py ./glass
 
-Each case is a run file with its tables, in a folder of its own; all 64 samples are followed one spin at a time, so that a
-checkpoint is compared whole. Some seconds. Status 1 at the first difference, which is told."""
-import hashlib
+Each case is a run file with its tables, in a folder of its own; all samples of its banks of 64 are followed one spin at a
+time, so that a checkpoint is compared whole. Some seconds. Status 1 at the first difference, which is told."""
 import random as rng
 import subprocess
 import sys
@@ -14,9 +13,12 @@ from pathlib import Path
 
 sys.path.insert(0, str(Path(__file__).resolve().parents[1]))
 sys.dont_write_bytecode = True
+import couplings as couplings_files  # noqa: E402
 import reference.definitions as rule  # noqa: E402
 
 DONE = []
+# A file has the couplings of so many samples; those behind them are J = +1.
+IN_FILE = 131
 
 
 def same(name, found, wanted):
@@ -35,11 +37,17 @@ class Case:
         width = 7 if kind == "heat" else 3
         rows = tuple(tuple(source.choice((0, 2 ** 32, source.randrange(2 ** 32 + 1))) for _ in range(width)) for _ in range(slots))
         swaps = tuple(tuple(source.randrange(2 ** 32 + 1) for _ in range(40)) for _ in range(slots - 1))
-        seed = source.randrange(2 ** 63)
-        signs = {b: rule.random(seed, b) for b in range(64)} if couplings == "random" else {}
+        self.seed, self.size, self.couplings = source.randrange(2 ** 63), size, couplings
         self.name, self.samples, self.every, self.epochs, self.start = name, samples, every, epochs, start
-        self.plan = rule.Plan(size, kind, rows, swaps, rule.couplings_view(size, signs), sweeps, seed)
-        self.couplings, self.states = couplings, {}
+        self.of_file = [bytes(source.randrange(2) for _ in range(3 * size ** 3)) for _ in range(IN_FILE * couplings.startswith("file:"))]
+        self.plans = [rule.Plan(size, kind, rows, swaps, rule.couplings_view(size, rule.of_bank(self.signs, bank)), sweeps, self.seed)
+                      for bank in range((samples + 63) // 64)]
+        self.plan, self.states = self.plans[0], {}
+
+    def signs(self, sample):
+        if self.couplings == "random":
+            return rule.random(self.seed, sample)
+        return self.of_file[sample].__getitem__ if sample < len(self.of_file) else rule.plus(sample)
 
     def write(self, folder):
         lines = [f"size = {self.plan.size}", f'rule = "{self.plan.rule}"', 'rules = "rules.csv"', 'swaps = "swaps.csv"',
@@ -49,16 +57,32 @@ class Case:
         (folder / "run.toml").write_text("\n".join(lines) + "\n")
         for name, table in (("rules.csv", self.plan.rows), ("swaps.csv", self.plan.swaps)):
             (folder / name).write_text("".join(",".join(map(str, row)) + "\n" for row in table))
+        if self.of_file:
+            (folder / self.couplings[5:]).write_bytes(couplings_files.file_bytes(self.size, self.of_file))
 
     def opening(self, b):
         return self.at(b, 0)
 
-    def at(self, b, e):
-        """Sample b at epoch e of the serial dynamics, made once."""
-        if (b, e) not in self.states:
-            self.states[b, e] = (rule.opening(self.plan, self.start, 0, b) if e == 0
-                                 else rule.epoch(self.plan, self.at(b, e - 1)))
-        return self.states[b, e]
+    def at(self, b, e, bank=0):
+        """Bit b of a bank at epoch e of the serial dynamics, made once."""
+        if (b, e, bank) not in self.states:
+            self.states[b, e, bank] = (rule.opening(self.plans[bank], self.start, bank, b) if e == 0
+                                       else rule.epoch(self.plans[bank], self.at(b, e - 1, bank)))
+        return self.states[b, e, bank]
+
+    def banks_at(self, e):
+        return [rule.Bank(plan, lambda b, bank=bank: self.at(b, e, bank)) for bank, plan in enumerate(self.plans)]
+
+    def report(self, first, last):
+        """That of the run from an epoch to another."""
+        if len(self.plans) > 1:
+            return rule.banks_report(self.banks_at(first), self.samples, self.every, True, last)
+        return rule.report(self.plan, lambda b: self.at(b, first), self.samples, self.every, True, last)
+
+    def checkpoint(self, e):
+        if len(self.plans) > 1:
+            return rule.banks_encoding(self.plans, [bank.start for bank in self.banks_at(e)])
+        return rule.encoding(self.plan, lambda b: self.at(b, e))
 
 
 def ran(program, folder, *words):
@@ -71,13 +95,23 @@ def ran(program, folder, *words):
 def whole_run(program, folder, case):
     plan = case.plan
     line = (f"plan 1 size={plan.size} slots={len(plan.rows)} samples={case.samples} rule={plan.rule} sweeps={plan.sweeps} "
-            f"digest={hashlib.sha256(rule.canonical(plan)).hexdigest()}\n")
+            f"digest={rule.banks_digest(case.plans).hex()}\n")
     same(f"{case.name}: check", ran(program, folder, "check", "run.toml"), line.encode())
     same(f"{case.name}: length", len(rule.canonical(plan)).to_bytes(8, "big"), rule.canonical_length(plan).to_bytes(8, "big"))
-    text = rule.report(plan, case.opening, case.samples, case.every, True, case.epochs)
-    same(f"{case.name}: report", ran(program, folder, "run", "run.toml", "--save", "end", "--workers", "2"), text.encode())
-    same(f"{case.name}: checkpoint", (folder / "end").read_bytes(),
-         rule.encoding(plan, lambda b: case.at(b, case.epochs)))
+    same(f"{case.name}: report", ran(program, folder, "run", "run.toml", "--save", "end", "--workers", "2"),
+         case.report(0, case.epochs).encode())
+    same(f"{case.name}: checkpoint", (folder / "end").read_bytes(), case.checkpoint(case.epochs))
+
+
+def resumed_run(program, folder, case, epoch):
+    """A run to an epoch, and from there on."""
+    ran(program, folder, "run", "run.toml", "--until", str(epoch), "--save", "half")
+    half = case.checkpoint(epoch)
+    same(f"{case.name}: checkpoint at {epoch}", (folder / "half").read_bytes(), half)
+    same(f"{case.name}: its length", len(half).to_bytes(8, "big"), rule.banks_len(case.plans).to_bytes(8, "big"))
+    same(f"{case.name}: report from {epoch}", ran(program, folder, "run", "run.toml", "--from", "half", "--save", "end"),
+         case.report(epoch, case.epochs).encode())
+    same(f"{case.name}: checkpoint from {epoch}", (folder / "end").read_bytes(), case.checkpoint(case.epochs))
 
 
 def stopped_run(program, folder, case, takes):
@@ -118,7 +152,9 @@ def main(words):
     program = str(Path(words[0]).resolve())
     cases = [Case("heat bath", 4, "heat", 2, "random", 64, 2, 1, "random"),
              Case("Metropolis", 4, "metropolis", 3, "random", 3, 2, 2, "random"),
-             Case("ferromagnet", 4, "metropolis", 1, "plus", 2, 3, 1, "up")]
+             Case("ferromagnet", 4, "metropolis", 1, "plus", 2, 3, 1, "up"),
+             Case("two banks", 4, "metropolis", 2, "random", 70, 2, 1, "random"),
+             Case("three banks of a file", 4, "heat", 1, "file:j.bin", 130, 1, 1, "up")]
     with tempfile.TemporaryDirectory() as name:
         plain(program, Path(name))
         for case in cases:
@@ -127,6 +163,7 @@ def main(words):
             case.write(folder)
             whole_run(program, folder, case)
         stopped_run(program, Path(name) / "Metropolis", cases[1], 4)
+        resumed_run(program, Path(name) / "two banks", cases[3], 1)
     print(f"against_program: {len(DONE)} comparisons, each of every byte, agree")
 
 

@@ -48,3 +48,8 @@ def couplings_view(l, signs):
                 if bonds(bond(i, d)):
                     words[place_of(l, i, d)] |= 1 << b
     return CouplingsView(l, tuple(words))
+
+
+def of_bank(signs, bank):
+    """The bonds of a bank's 64 samples by their bits, where `signs` has those of each sample of the whole."""
+    return {m: signs(64 * bank + m) for m in range(64)}

@@ -1,9 +1,9 @@
-"""The bytes of checkpoints: run_checkpoint/specs/Encoding.antt and UnevenEncoding.antt.
+"""The bytes of checkpoints: run_checkpoint/specs/Encoding.antt, UnevenEncoding.antt and Lengths.antt.
 
 `states` is a function from a sample's number to its state, as in the definitions."""
 from hashlib import sha256
 
-from reference.words import slice_index_or, table
+from reference.words import monus, slice_index_or, table
 from reference.seeding import big_bytes
 from reference.lattice import from_compact, half_plane, half_volume
 from reference.sums import spin
@@ -96,3 +96,33 @@ def uneven_encoding(plan, samples, every, states, pending):
     return sealed(uneven_header(plan, samples, every, len(pending)) + b"".join(map(position_bytes, states(0).positions))
                   + contents(plan.size, slots_of(plan), lambda b: states(b).slots, states(0).pairs)
                   + b"".join(map(record_bytes, pending)))
+
+
+generator_len = 244
+pair_len = 488
+position_len = 9
+record_len = 14
+
+
+def plane_len(l):
+    return generator_len + 8 * half_plane(l)
+
+
+def replica_len(l):
+    return 64 + plane_len(l) * (2 * l)
+
+
+def slot_len(l):
+    return 2 * replica_len(l)
+
+
+def contents_len(l, n):
+    return slot_len(l) * n + pair_len * monus(n, 1)
+
+
+def encoding_len(l, n):
+    return 56 + contents_len(l, n) + 32
+
+
+def uneven_len(l, n, count):
+    return 64 + position_len * n + contents_len(l, n) + record_len * count + 32

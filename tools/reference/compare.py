@@ -7,6 +7,7 @@
                                                 what sample 101 of seed 7 begins with at size 4 and two slots
 """
 import argparse
+import hashlib
 import random as rng
 import sys
 import time
@@ -17,13 +18,15 @@ sys.dont_write_bytecode = True
 from reference.stream import advanced, draw  # noqa: E402
 from reference.seeding import block_message, exchange_words, sweep_words  # noqa: E402
 from reference.lattice import backward, bond_count, colour, compact, forward, from_compact, volume, x_of, y_of, z_of  # noqa: E402
-from reference.bonds import couplings_view, plus, random  # noqa: E402
+from reference.banks import Bank, bank_len, banks_encoding, banks_len, banks_report, of_sample  # noqa: E402
+from reference.bonds import couplings_view, of_bank, plus, random  # noqa: E402
 from reference.sums import neighbours  # noqa: E402
 from reference.sweep import Configuration, half_sweep  # noqa: E402
 from reference.opening import Plan, dynamics_of, opening, slots_of  # noqa: E402
-from reference.epoch import epoch, epoch_records, is_recorded, swept_slots  # noqa: E402
+from reference.epoch import epoch, epoch_records, is_recorded, serial, swept_slots  # noqa: E402
 from reference.uneven import Position, UnevenState, arrived, generators, position_at, ready  # noqa: E402
 from reference.plain import command_of, plain_text, spin_digits  # noqa: E402
+from reference.plan_bytes import plan_digest  # noqa: E402
 from reference.grid import Register, Tempering, hex_of  # noqa: E402
 from reference.demo import FULL, demo_rows  # noqa: E402
 
@@ -220,6 +223,56 @@ def uneven_runs():
                 at[t] = Position(e, True)
 
 
+def grid_report(own, samples, every, epochs):
+    """The report of a run to its end from samples on the grid, and these at its end."""
+    l, slots = own[0].l, range(len(own[0].rows))
+    lines = [f"glass 1 size={l} slots={len(slots)} samples={samples} rule={own[0].rule} from=0 to={epochs}"]
+    for e in range(epochs):
+        found = [it.step() for it in own]
+        if (e + 1) % every == 0:
+            lines += [f"row,{e},{b},{t}," + ",".join(map(str, found[b][t])) for b in range(samples) for t in slots]
+    lines.append(f"end,{epochs}")
+    lines += [f"spin,{b},{t},{c},{hex_of(own[b].slots[t][c], l)}" for b in range(samples) for t in slots for c in range(2)]
+    return "\n".join(lines) + "\n"
+
+
+def grid_checkpoint(own, digest):
+    """The checkpoint of one bank's 64 samples on the grid, beside the digest of its plan."""
+    l, first = own[0].l, own[0]
+    stored = b"GLASSCK1" + digest + b"".join(n.to_bytes(w, "big") for n, w in ((first.epoch, 8), (l, 4), (len(first.slots), 4)))
+    for t, slot in enumerate(first.slots):
+        for c in range(2):
+            stored += bytes(it.slots[t][c].label for it in own)
+            for colour_, z in ((k // l, k % l) for k in range(2 * l)):
+                stored += b"".join(word.to_bytes(4, "big") for word in slot[c].registers[colour_, z].window())
+                for y, x in ((y, x) for y in range(l) for x in range(l) if (x + y + z) % 2 == colour_):
+                    word = sum(1 << b for b, it in enumerate(own) if it.slots[t][c].grid[x, y, z] > 0)
+                    stored += word.to_bytes(8, "big")
+    for pair in first.pairs:
+        stored += b"".join(word.to_bytes(4, "big") for register in pair for word in register.window())
+    return stored + hashlib.sha256(stored).digest()
+
+
+def bank_runs():
+    """Reports and checkpoints over two and four banks: of the definitions, and of the program on a grid."""
+    same("who gives sample b", [of_sample("none", lambda bank, m: (bank, m), "abcd", b) for b in (0, 63, 64, 130, 255, 256)],
+         [("a", 0), ("a", 63), ("b", 0), ("c", 2), ("d", 63), "none"])
+    rows, swaps = map(tuple, demo_rows(2))
+    for samples, start, epochs, every in ((70, "random", 3, 2), (256, "up", 1, 1)):
+        count = (samples + 63) // 64
+        plans = [Plan(4, "metropolis", rows, swaps, couplings_view(4, of_bank(lambda b: random(11, b), g)), 1, 11) for g in range(count)]
+        opened = [[opening(plan, start, g, b) for b in range(64)] for g, plan in enumerate(plans)]
+        banks = [Bank(plan, states.__getitem__) for plan, states in zip(plans, opened)]
+        own = [Tempering(4, "metropolis", rows, swaps, 1, 11, sample, start, sample % 64, sample // 64) for sample in range(64 * count)]
+        same(f"report of {samples} samples", banks_report(banks, samples, every, True, epochs), grid_report(own, samples, every, epochs))
+        ended = [[serial(plan, s, epochs) for s in states] for plan, states in zip(plans, opened)]
+        stored = banks_encoding(plans, [states.__getitem__ for states in ended])
+        parts = [grid_checkpoint(own[64 * g:64 * g + 64], plan_digest(plan)) for g, plan in enumerate(plans)]
+        whole = b"GLASSCK3" + count.to_bytes(4, "big") + b"".join(parts)
+        same(f"checkpoint of {samples} samples", stored, whole + hashlib.sha256(whole).digest())
+        same("its length", (len(stored), len(parts[0])), (banks_len(plans), bank_len(plans)))
+
+
 def long_run():
     """Size 8, sixteen temperatures, random couplings and start, two sweeps an epoch, twenty epochs."""
     rows, swaps = demo_rows(16)
@@ -261,7 +314,7 @@ def main():
             parser.error("SAMPLE is from 0 to 255")
         print_opening(*options.opening)
         return
-    for part in (known_values, small_runs, exact_thresholds, chosen_runs, uneven_runs):
+    for part in (known_values, small_runs, exact_thresholds, chosen_runs, bank_runs, uneven_runs):
         begun, before = time.time(), len(DONE)
         part()
         print(f"{part.__name__}: {len(DONE) - before} comparisons agree, {time.time() - begun:.1f} s", flush=True)

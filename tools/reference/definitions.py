@@ -16,4 +16,5 @@ from reference.plain import *  # noqa: F401,F403
 from reference.plan_bytes import *  # noqa: F401,F403
 from reference.checkpoint import *  # noqa: F401,F403
 from reference.report import *  # noqa: F401,F403
+from reference.banks import *  # noqa: F401,F403
 from reference.demo import *  # noqa: F401,F403

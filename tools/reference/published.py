@@ -8,6 +8,7 @@ the files that publish it.
 Status 1 where a file has another value."""
 import re
 import sys
+from functools import lru_cache
 from hashlib import sha256
 from pathlib import Path
 
@@ -41,6 +42,26 @@ def level_digest(epoch):
     return rule.encoding(plan, states.__getitem__)[-32:].hex()
 
 
+def last_bytes_of_65():
+    """Those of the checkpoint of 65 samples of one slot after an epoch."""
+    plan = ferromagnet([UP], [])
+    banks = [rule.Bank(plan, lambda b, g=g: rule.opening(plan, "up", g, b)) for g in range(2)]
+    return rule.banks_checkpoint(banks, 1)[-32:].hex()
+
+
+@lru_cache(maxsize=None)
+def random_banks():
+    """130 samples of three slots with random couplings and a random start, over two epochs: report and checkpoint."""
+    rows, seed = tuple(rule.demo_rows(3)[0]), 611
+    swaps = ((3149642683, 2309737966, 1693807841), (3435973836, 2748779069))
+    banks = []
+    for g in range(3):
+        signs = rule.of_bank(lambda b: rule.random(seed, b), g)
+        plan = rule.Plan(4, "metropolis", rows, swaps, rule.couplings_view(4, signs), 1, seed)
+        banks.append(rule.Bank(plan, [rule.opening(plan, "random", g, b) for b in range(64)].__getitem__))
+    return rule.banks_report(banks, 130, 1, False, 2), rule.banks_checkpoint(banks, 2)
+
+
 def sixteen_report():
     """The report of sixteen temperatures at size 8, all 64 samples one after the other."""
     plan, every, until = glass(8, 16, 2, 20240611), 10, 20
@@ -56,6 +77,7 @@ def sixteen_report():
 
 
 TESTS = "crates/glass_tests/src/"
+BANKS, ALONE = TESTS + "banks.rt", TESTS + "banks_alone.rt"
 SHORT = {
     "smallest_plan": (lambda: plan_digest(ferromagnet([DOWN], [])), [TESTS + "check.rt", "crates/run_plan/src/tests.rt"]),
     "two_slots_plan": (lambda: plan_digest(ferromagnet([BOARD, UP], [[FULL]])), ["crates/run_checkpoint/src/tests/known.rt"]),
@@ -64,6 +86,11 @@ SHORT = {
     "demo_plan": (lambda: plan_digest(glass(16, 8, 4, 1)), ["crates/run_plan/src/tests.rt"]),
     "glass_8_plan": (lambda: plan_digest(glass(8, 16, 2, 20240611)),
                      ["examples/glass_8/README.md", "crates/table_agreement/src/sixteen_temperatures.rt"]),
+    "one_slot_plan": (lambda: plan_digest(ferromagnet([UP], [])), ["crates/run_checkpoint/src/tests/known.rt"]),
+    "two_banks_plan": (lambda: rule.banks_digest([ferromagnet([UP], [])] * 2).hex(), [BANKS]),
+    "two_banks_at_1": (last_bytes_of_65, [BANKS, "crates/glass_engine/src/tests/banks.rt"]),
+    "three_banks_report": (lambda: sha256(random_banks()[0].encode()).hexdigest(), [ALONE]),
+    "three_banks_at_2": (lambda: random_banks()[1][-32:].hex(), [ALONE]),
 }
 LONG = {"sixteen": (sixteen_report, [TESTS + "sixteen_temperatures.rt", "examples/glass_8/README.md"])}
 
