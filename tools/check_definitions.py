@@ -11,6 +11,8 @@ import sys
 from pathlib import Path
 from typing import Dict, List, Set
 
+import source_check
+
 # A file of definitions, and the modules of tools/reference that write it down.
 PATHS = {
     "spin_model/specs/Words": "words", "spin_model/specs/Steps": "words", "spin_model/specs/Stream": "stream",
@@ -101,19 +103,10 @@ def self_test(root: Path) -> int:
 
 def main(words: List[str]) -> int:
     root = Path(__file__).resolve().parent.parent
-    if words == ["--self-test"]:
-        return self_test(root)
-    if words:
-        print(f"check_definitions: what is {words[0]}? See the head of the file.", file=sys.stderr)
-        return 2
     specs, modules = sources(root)
-    found = missing(specs, modules)
-    for line in found:
-        print(f"check_definitions: {line}", file=sys.stderr)
-    if not found:
-        count = sum(len(defined_in(it)) for it in specs.values())
-        print(f"check_definitions: {count} definitions are written down in tools/reference or told there")
-    return 1 if found else 0
+    count = sum(len(defined_in(it)) for it in specs.values())
+    return source_check.run("check_definitions", words, lambda: self_test(root), lambda: missing(specs, modules),
+                            lambda: f"{count} definitions are written down in tools/reference or told there")
 
 
 if __name__ == "__main__":

@@ -14,6 +14,8 @@ import sys
 from pathlib import Path
 from typing import Dict, Iterator, List, Set, Tuple
 
+import source_check
+
 LINES = "crates/glass_main/specs/Lines.antt"
 STATUSES = "crates/glass_main/specs/Statuses.antt"
 PAGES = {"docs/manual/when_a_run_ends_badly.md": "## Every line", "docs/specification/messages.md": "| status | line |"}
@@ -139,18 +141,10 @@ def self_test(root: Path) -> int:
 
 def main(words: List[str]) -> int:
     root = Path(__file__).resolve().parent.parent
-    if words == ["--self-test"]:
-        return self_test(root)
-    if words:
-        print(f"check_messages: what is {words[0]}? See the head of the file.", file=sys.stderr)
-        return 2
     lines, statuses = ((root / it).read_text(encoding="utf-8") for it in (LINES, STATUSES))
-    found = differences(lines, statuses, {it: (root / it).read_text(encoding="utf-8") for it in PAGES})
-    for line in found:
-        print(f"check_messages: {line}", file=sys.stderr)
-    if not found:
-        print(f"check_messages: {len(Definitions(lines, statuses).all())} lines have their rows")
-    return 1 if found else 0
+    pages = {it: (root / it).read_text(encoding="utf-8") for it in PAGES}
+    return source_check.run("check_messages", words, lambda: self_test(root), lambda: differences(lines, statuses, pages),
+                            lambda: f"{len(Definitions(lines, statuses).all())} lines have their rows")
 
 
 if __name__ == "__main__":

@@ -8,12 +8,13 @@ benchmarks' crates and those of tests alone owe no rows for their calls.
 --self-test runs the tests of this tool.
 
 Status: 0 where page and sources agree, 1 where they do not, with a line a difference, 2 for a wrong word."""
-import os
 import re
 import sys
 import tempfile
 from pathlib import Path
 from typing import Dict, Iterator, List, Set
+
+import source_check
 
 PAGE = "docs/proofs.md"
 # Crates whose calls nobody outside calls.
@@ -157,17 +158,9 @@ def self_test() -> int:
 
 
 def main(words: List[str]) -> int:
-    if words == ["--self-test"]:
-        return self_test()
-    if words:
-        print(f"check_proofs_page: what is {words[0]}? See the head of the file.", file=sys.stderr)
-        return 2
-    found = differences(Path(os.path.dirname(os.path.abspath(__file__))).parent)
-    for line in found:
-        print(f"check_proofs_page: {line}", file=sys.stderr)
-    if not found:
-        print(f"check_proofs_page: {PAGE} and the sources agree")
-    return 1 if found else 0
+    root = Path(__file__).resolve().parent.parent
+    return source_check.run("check_proofs_page", words, self_test, lambda: differences(root),
+                            lambda: f"{PAGE} and the sources agree")
 
 
 if __name__ == "__main__":
