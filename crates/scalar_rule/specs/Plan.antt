@@ -2,6 +2,7 @@
 use Rattle.std.specs.Prelude.{◌≡◌, ℕ, ◌+◌, ◌-◌, ◌≤◌, List, length}
 use Rattle.coupling_set.specs.CouplingWords.{CouplingsView, AreCouplings, bonds_of}
 use Rattle.spin_model.specs.Lattice.{IsLawfulSize}
+use Rattle.spin_model.specs.Limits.{most_sweeps}
 use Rattle.threshold_table.specs.Tables.{RuleView, IsLawfulRules, IsLawfulSwaps, rule_of, thresholds_of}
 use Rattle.scalar_rule.specs.Sweep.{Dynamics}
 
@@ -41,5 +42,5 @@ pub record IsLawfulPlan (plan : Plan) : Type 0 where
   pub couplings : AreCouplings plan.couplings
   pub lattice : plan.couplings.size ≡ plan.size
   pub some_sweeps : 1 ≤ plan.sweeps
-  pub few_sweeps : plan.sweeps ≤ 1000000
+  pub few_sweeps : plan.sweeps ≤ most_sweeps
   pub seed : plan.seed ≤ 9223372036854775807

@@ -1,6 +1,7 @@
 //! An epoch of parallel tempering of one disorder sample.
 
 ghost use Rattle.std.specs.Prelude.{◌≡◌, ◌+◌, ◌<◌, length, if◌then◌else◌};
+ghost use Rattle.spin_model.specs.Limits.{last_epoch};
 ghost use Rattle.spin_model.specs.Steps.{table};
 ghost use Rattle.scalar_rule.specs.Epoch as model;
 ghost use Rattle.scalar_rule.specs.Exchange.{drawn_pair};
@@ -21,7 +22,7 @@ impl Sample {
     /// first, and then the exchange of the pairs whose turn it is. Takes no memory.
     pub fn epoch(&mut self, plan: &Plan, rows: &mut [Record])
         requires fits { Fits plan.now self.old }
-        requires epoch { self.old.epoch < 1000000000 }
+        requires epoch { self.old.epoch < last_epoch }
         requires rows { length rows.old ≡ slots_of plan.now }
         ensures state { self.new ≡ model.epoch plan.now self.old }
         ensures records { rows.new ≡ model.epoch_records plan.now self.old }
@@ -99,7 +100,7 @@ fn exchange_pairs(
     requires slots { FitSlots plan.now slots.old }
     requires pairs { length pairs.old ≡ pairs_of plan.now }
     requires bit { bit < 64 }
-    requires epoch { epoch < 1000000000 }
+    requires epoch { epoch < last_epoch }
     ensures slots { slots.new ≡ table
         (model.exchanged plan.now bit epoch pairs.old slots.old) (slots_of plan.now) }
     ensures pairs { pairs.new ≡ table
@@ -123,7 +124,7 @@ fn exchange_in_turn(
     pair: u32,
 )
     requires bit { bit < 64 }
-    requires epoch { epoch < 1000000000 }
+    requires epoch { epoch < last_epoch }
     requires pair { pair < pairs_of plan.now }
     requires slots { pair + 1 < length slots.old }
     requires pairs { pair < length pairs.old }

@@ -1,6 +1,7 @@
 //! The plan of a run: all that fixes its physics.
 
 ghost use Rattle.std.specs.Prelude.{◌≡◌, ◌+◌, ◌≤◌, length};
+ghost use Rattle.spin_model.specs.Limits.{most_sweeps};
 ghost use Rattle.scalar_rule.specs.Plan.{IsLawfulPlan, slots_of};
 
 use coupling_set::Couplings;
@@ -45,7 +46,7 @@ impl Plan {
         requires pairs { length swaps + 1 ≡ length rules.rows }
         requires couplings { couplings.size ≡ lattice }
         requires some_sweeps { 1 ≤ sweeps }
-        requires few_sweeps { sweeps ≤ 1000000 }
+        requires few_sweeps { sweeps ≤ most_sweeps }
         requires seed { seed ≤ 9223372036854775807 }
         ensures { result ≡ record {
           size = lattice;

@@ -6,3 +6,4 @@ pub mod Lattice
 pub mod Couplings
 pub mod SiteRule
 pub mod Laws
+pub mod Limits

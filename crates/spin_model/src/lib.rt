@@ -1,9 +1,11 @@
-//! The definitions of the model, which the crates above cite, and their laws.
+//! The definitions of the model, which the crates above cite, their laws, and the program's limits.
 #![tactic(auto)]
 
 mod laws;
+mod limits;
 
 pub use laws::{
     advancing_adds_up, draws_of_advanced, neighbours_have_other_colour, state_is_window,
     stream_is_recurrence,
 };
+pub use limits::{CERTAIN, GREATEST_DEMO, LAST_EPOCH, MOST_ROWS, MOST_SWEEPS};

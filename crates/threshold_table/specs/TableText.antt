@@ -4,6 +4,7 @@ use Rattle.std.specs.Prelude.{ℕ, ◌-◌, Bool, not, ◌&&◌, ◌||◌, ◌==
 use Rattle.std.specs.List.{slice_split, filter, prefix_len, suffix_len, list_all}
 use Rattle.glass_edges.specs.Decimal.{is_numeral, value_of}
 use Rattle.glass_edges.specs.Refusals.{or_else, first_found, unless}
+use Rattle.spin_model.specs.Limits.{certain}
 use Rattle.threshold_table.specs.declared.bounds.Bounds.{Bounds}
 use Rattle.threshold_table.specs.declared.refused.TableRefused.{TableRefused}
 use Rattle.threshold_table.specs.declared.refused.TableRefused.TheVariants as refused
@@ -77,7 +78,7 @@ record_values line = map field_value (fields line)
 unfoldable pub field_refusal : ℕ → ℕ → List ℕ → Option TableRefused
 field_refusal at field text =
     if is_number (trimmed text)
-    then (if nat_le (field_value text) 4294967296 then None else Some (refused.TooGreat at field (field_value text)))
+    then (if nat_le (field_value text) certain then None else Some (refused.TooGreat at field (field_value text)))
     else Some (refused.Number at field)
 
 -- whether a count lies between two bounds, both included

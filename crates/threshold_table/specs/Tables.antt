@@ -3,6 +3,7 @@
 use Rattle.std.specs.Prelude.{ℕ, ◌-◌, ◌≤◌, ◌++◌, Bool, ◌&&◌, ◌==◌, nat_le, List, [], length, take, drop, replicate, slice_index, slice_index_or, Result}
 use Rattle.std.specs.List.{All, list_all}
 use Rattle.glass_edges.specs.Refusals.{unless}
+use Rattle.spin_model.specs.Limits.{certain}
 use Rattle.spin_model.specs.SiteRule.{Rule, HeatBath, Metropolis}
 use Rattle.threshold_table.specs.declared.bounds.Bounds.{Bounds}
 use Rattle.threshold_table.specs.declared.refused.TableRefused.{TableRefused}
@@ -17,11 +18,11 @@ use Rattle.threshold_table.specs.TableText.{table_refusal, table_of, rows_of}
 pub record IsLawfulRow (width : Bounds) (row : List ℕ) : Type 0 where
   pub least : width.least ≤ length row
   pub most : length row ≤ width.most
-  pub limited : All (λ n. n ≤ 4294967296) row
+  pub limited : All (λ n. n ≤ certain) row
 
 -- whether numbers are thresholds
 abbrev pub are_thresholds : List ℕ → Bool
-are_thresholds row = list_all (λ n. nat_le n 4294967296) row
+are_thresholds row = list_all (λ n. nat_le n certain) row
 
 -- ---- the rule table: one row per temperature slot, slot 0 the coldest
 

@@ -7,9 +7,7 @@ ghost use Rattle.threshold_table.specs.TableText.{is_space, trimmed, field_refus
 
 use crate::refused::TableRefused;
 use glass_edges::{is_numeral, value_of};
-
-/// The greatest threshold, which stands for the probability 1.
-const ALWAYS: u64 = 4294967296;
+use spin_model::CERTAIN;
 
 fn spaces_in_front(field: &[u8]) -> usize
     ensures value { result ≡ prefix_len is_space field.now }
@@ -54,7 +52,7 @@ pub(crate) fn number_at(at: u64, field: u64, text: &[u8]) -> Result<u64, TableRe
         return Err(TableRefused::Number { at, field });
     }
     let value = value_of(digits);
-    if value > ALWAYS {
+    if value > CERTAIN {
         return Err(TableRefused::TooGreat { at, field, value });
     }
     Ok(value)

@@ -2,6 +2,7 @@
 
 ghost use Rattle.std.specs.Prelude.{◌≡◌, ℕ, ◌<◌, ◌≤◌, List, IsTrue, IfOk, length};
 ghost use Rattle.std.specs.List.{All, list_all};
+ghost use Rattle.spin_model.specs.Limits.{certain};
 ghost use Rattle.threshold_table.specs.Tables.{entry_count, swap_threshold, are_thresholds, IsLawfulSwaps};
 
 use glass_edges::NoMemory;
@@ -86,7 +87,7 @@ impl SwapTable {
     pub fn threshold(&self, pair: u32, entry: u32) -> u64
         requires { pair < length self.now }
         ensures value { result ≡ swap_threshold self.now pair entry }
-        ensures limited { result ≤ 4294967296 }
+        ensures limited { result ≤ certain }
     {
         let row = self.rows.at(pair as usize).as_slice();
         let entry = entry as usize;

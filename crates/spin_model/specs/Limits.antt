@@ -1,0 +1,22 @@
+-- The limits of the program that more than one crate speaks of. Those that one crate alone has stand there.
+use Rattle.std.specs.Prelude.{ℕ}
+
+-- the last epoch that a run ends at; also the most epochs from one that is printed to the next
+abbrev pub last_epoch : ℕ
+last_epoch = 1000000000
+
+-- the most sweeps of an epoch, of a plain run, and of each time after a quench
+abbrev pub most_sweeps : ℕ
+most_sweeps = 1000000
+
+-- the greatest number that a demonstration is made from
+abbrev pub greatest_demo : ℕ
+greatest_demo = 1000000
+
+-- the most rows of a report
+abbrev pub most_rows : ℕ
+most_rows = 4194304
+
+-- the greatest threshold, of probability 1: each draw, a word of 32 bits, is below it
+abbrev pub certain : ℕ
+certain = 4294967296

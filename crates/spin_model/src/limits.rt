@@ -1,0 +1,16 @@
+//! The limits of the program that more than one crate tests.
+
+/// The last epoch that a run ends at, and the most epochs from one that is printed to the next.
+pub const LAST_EPOCH: u64 = 1000000000;
+
+/// The most sweeps of an epoch, of a plain run, and of each time after a quench.
+pub const MOST_SWEEPS: u64 = 1000000;
+
+/// The greatest number that a demonstration is made from.
+pub const GREATEST_DEMO: u64 = 1000000;
+
+/// The most rows of a report.
+pub const MOST_ROWS: u64 = 4194304;
+
+/// The greatest threshold, of probability 1: each draw, a word of 32 bits, is below it.
+pub const CERTAIN: u64 = 4294967296;
