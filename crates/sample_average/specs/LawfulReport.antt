@@ -2,6 +2,7 @@
 use Rattle.std.specs.Prelude.{◌≡◌, ℕ, ◌+◌, ◌*◌, ◌/◌, ◌%◌, ◌<◌, ◌≤◌, ◌⊎◌, unsigned_abs, Bool, true, ◌&&◌, ◌||◌, nat_le, ◌==◌, if◌then◌else◌, List, [], ◌∷◌, ◌++◌, length, map, take, flat_map, codes, decimal}
 use Rattle.std.specs.Fmt.{signed_decimal}
 use Rattle.std.specs.List.{AllByRecursion, list_all, concat}
+use Rattle.spin_model.specs.Limits.{last_epoch}
 use Rattle.sample_average.specs.declared.header.Header.{Header}
 use Rattle.sample_average.specs.declared.header.Rule.{Rule}
 use Rattle.sample_average.specs.declared.header.Rule.TheVariants as rules_of
@@ -26,7 +27,7 @@ pub record IsLawfulHeader (h : Header) : Type 0 where
   pub some_samples : 1 ≤ h.samples
   pub few_samples : h.samples ≤ 256
   pub rising : h.from ≤ h.to
-  pub until : h.to ≤ 1000000000
+  pub until : h.to ≤ last_epoch
 
 -- energies lie from -3V to 3V, overlaps from -V to V, and a replica has the number of a slot
 pub record IsInRange (h : Header) (r : Row) : Type 0 where

@@ -3,6 +3,7 @@ use Rattle.std.specs.Prelude.{ℕ, ◌+◌, ◌*◌, ◌-◌, ℤ, pos, neg_ℤ,
 use Rattle.std.specs.Char.{is_ascii_digit}
 use Rattle.std.specs.List.{prefix_len}
 use Rattle.glass_edges.specs.Decimal.{value_of}
+use Rattle.spin_model.specs.Limits.{last_epoch}
 use Rattle.sample_average.specs.LawfulReport.{sites}
 use Rattle.sample_average.specs.declared.header.Header.{Header}
 use Rattle.sample_average.specs.declared.header.Rule.{Rule}
@@ -64,9 +65,9 @@ span_at bytes = do
   b0 ← after (codes "rule=") bytes
   rule ← rule_at b0
   b1 ← after (codes "from=") rule.1
-  from ← number_at 1000000000 32 b1
+  from ← number_at last_epoch 32 b1
   b2 ← after (codes "to=") from.1
-  to ← number_at 1000000000 10 b2
+  to ← number_at last_epoch 10 b2
   Some ((rule.0, from.0, to.0), to.1)
 
 abbrev pub header_at : List ℕ → Option (Header × List ℕ)

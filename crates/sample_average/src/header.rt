@@ -1,8 +1,5 @@
 //! What the first line of a report says of the run.
 
-/// The last epoch that a run can end at.
-pub(crate) const LAST_EPOCH: u64 = 1000000000;
-
 /// The dynamics by which spins were updated.
 #[derive(Clone, Copy, Debug, PartialEq, Eq)]
 pub enum Rule {

@@ -4,7 +4,8 @@ ghost use Rattle.std.specs.Prelude.{◌≡◌, option_map};
 ghost use Rattle.sample_average.specs.LineReading as reading;
 
 use crate::digits::{after, number_at};
-use crate::header::{Header, LAST_EPOCH, Rule};
+use crate::header::{Header, Rule};
+use spin_model::LAST_EPOCH;
 
 // The word of the dynamics.
 fn rule_at(bytes: &[u8]) -> Option<(Rule, &[u8])>

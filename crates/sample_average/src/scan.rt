@@ -6,11 +6,12 @@ ghost use Rattle.sample_average.specs.Following as following;
 ghost use Rattle.sample_average.specs.LineReading.{header_at};
 ghost use Rattle.sample_average.specs.declared.row.Row.{Row as RowValue};
 
-use crate::header::{Header, LAST_EPOCH};
+use crate::header::Header;
 use crate::header_line::header_at;
 use crate::next_line::next_line;
 use crate::place::Place;
 use crate::row::Row;
+use spin_model::LAST_EPOCH;
 
 /// The header of a report and the number of its rows.
 #[derive(Clone, Copy, Debug, PartialEq, Eq)]
