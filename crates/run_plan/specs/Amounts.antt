@@ -2,6 +2,7 @@
 use Rattle.std.specs.Prelude.{ℕ, ◌-◌, ◌*◌, ◌/◌, ◌&&◌, nat_lt, if◌then◌else◌, Option, Some, None}
 use Rattle.glass_edges.specs.Refusals.{or_else}
 use Rattle.spin_model.specs.Lattice.{volume}
+use Rattle.spin_model.specs.Limits.{most_rows}
 use Rattle.scalar_rule.specs.Plan.{Plan, slots_of}
 use Rattle.run_plan.specs.declared.run_file.Orders.{Orders}
 use Rattle.run_plan.specs.declared.refused.PlanRefused.{PlanRefused}
@@ -27,7 +28,7 @@ spins_refusal plan orders =
 -- rows are refused where they would be more than 2 ^ 22
 abbrev pub rows_refusal : Plan → Orders → ℕ → ℕ → Option PlanRefused
 rows_refusal plan orders from until =
-    if nat_lt 4194304 (row_count plan orders from until) then Some (refused.Rows (row_count plan orders from until)) else None
+    if nat_lt most_rows (row_count plan orders from until) then Some (refused.Rows (row_count plan orders from until)) else None
 
 -- why a run from epoch `from` to epoch `until` is refused: first for its spins, then for its rows
 unfoldable pub amount_refusal : Plan → Orders → ℕ → ℕ → Option PlanRefused

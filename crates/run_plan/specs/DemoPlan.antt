@@ -3,16 +3,13 @@
 use Rattle.std.specs.Prelude.{ℕ, zero, suc, ◌+◌, ◌*◌, ◌/◌, List, false}
 use Rattle.coupling_set.specs.BondsAsWords.{couplings_with}
 use Rattle.spin_model.specs.Couplings.{random}
+use Rattle.spin_model.specs.Limits.{certain}
 use Rattle.spin_model.specs.Steps.{table}
 use Rattle.threshold_table.specs.Tables.{RuleView}
 use Rattle.threshold_table.specs.declared.rule_table.RuleKind.TheVariants.{Metropolis}
 use Rattle.scalar_rule.specs.Plan.{Plan}
 use Rattle.scalar_rule.specs.declared.sample.Start.TheVariants.{Random}
 use Rattle.run_plan.specs.declared.run_file.Orders.{Orders}
-
--- a threshold of probability 1
-abbrev pub certain : ℕ
-certain = 4294967296
 
 -- the threshold that two more unsatisfied bonds are accepted with in a slot: exp (-4 beta) is near (slot + 2) / (slot + 10)
 abbrev pub slot_weight : ℕ → ℕ

@@ -9,6 +9,7 @@ use Rattle.glass_edges.specs.Refusals.{or_else, first_found, unless}
 use Rattle.scalar_rule.specs.declared.sample.Start.{Start}
 use Rattle.scalar_rule.specs.declared.sample.Start.TheVariants as starts
 use Rattle.spin_model.specs.Lattice.{IsLawfulSize}
+use Rattle.spin_model.specs.Limits.{last_epoch, most_sweeps}
 use Rattle.threshold_table.specs.declared.rule_table.RuleKind.{RuleKind}
 use Rattle.threshold_table.specs.declared.rule_table.RuleKind.TheVariants as kinds
 use Rattle.run_plan.specs.declared.key.Key.{Key}
@@ -64,11 +65,11 @@ row_of Rule = word (codes "heat") (codes "metropolis")
 row_of Rules = name
 row_of Swaps = name
 row_of Couplings = source
-row_of Sweeps = integer (pos 1) (pos 1000000)
+row_of Sweeps = integer (pos 1) (pos most_sweeps)
 row_of Seed = integer (pos 0) (pos 9223372036854775807)
 row_of Samples = integer (pos 1) (pos 256)
-row_of Epochs = integer (pos 0) (pos 1000000000)
-row_of Every = integer (pos 1) (pos 1000000000)
+row_of Epochs = integer (pos 0) (pos last_epoch)
+row_of Every = integer (pos 1) (pos last_epoch)
 row_of StartKey = word (codes "up") (codes "random")
 row_of Spins = boolean
 
@@ -217,9 +218,9 @@ run_file bytes = run_file_in (document bytes)
 pub record AreOrdersUpTo (most : ℕ) (orders : Orders) : Type 0 where
   pub some_samples : 1 ≤ orders.samples
   pub few_samples : orders.samples ≤ most
-  pub epochs : orders.epochs ≤ 1000000000
+  pub epochs : orders.epochs ≤ last_epoch
   pub some_every : 1 ≤ orders.every
-  pub every : orders.every ≤ 1000000000
+  pub every : orders.every ≤ last_epoch
 
 -- orders of one bank of 64 samples
 abbrev pub AreLawfulOrders : Orders → Type 0
@@ -233,6 +234,6 @@ AreOrdersOfBanks orders = AreOrdersUpTo 256 orders
 pub record IsLawfulRunFile (file : RunFile) : Type 0 where
   pub size : IsLawfulSize file.lattice
   pub some_sweeps : 1 ≤ file.sweeps
-  pub few_sweeps : file.sweeps ≤ 1000000
+  pub few_sweeps : file.sweeps ≤ most_sweeps
   pub seed : file.seed ≤ 9223372036854775807
   pub orders : AreOrdersOfBanks file.orders

@@ -2,13 +2,15 @@
 
 ghost use Rattle.std.specs.Prelude.{◌≡◌, ◌*◌, ◌≤◌, IfOk};
 ghost use Rattle.glass_edges.specs.Refusals.{unless};
+ghost use Rattle.spin_model.specs.Limits.{last_epoch, most_rows};
 ghost use Rattle.run_plan.specs.Amounts.{amount_refusal, row_count as rows_of_run, spin_bits as bits_of_run};
 ghost use Rattle.scalar_rule.specs.Plan.{slots_of};
 
-use crate::limits::{MOST_ROWS, MOST_SPIN_BITS};
+use crate::limits::MOST_SPIN_BITS;
 use crate::refused::PlanRefused;
 use crate::run_file::Orders;
 use scalar_rule::Plan;
+use spin_model::MOST_ROWS;
 
 /// Tests the amount of what a run from epoch `from` to epoch `until` prints. Takes no memory.
 ///
@@ -20,9 +22,9 @@ pub fn check_amount(plan: &Plan, orders: &Orders, from: u64, until: u64) -> Resu
     requires few_samples { orders.now.samples ≤ 256 }
     requires some_every { 1 ≤ orders.now.every }
     requires window { from ≤ until }
-    requires until { until ≤ 1000000000 }
+    requires until { until ≤ last_epoch }
     ensures exact { result ≡ unless (amount_refusal plan.now orders.now from until) tt }
-    ensures rows { IfOk result (λ _. rows_of_run plan.now orders.now from until ≤ 4194304) }
+    ensures rows { IfOk result (λ _. rows_of_run plan.now orders.now from until ≤ most_rows) }
 {
     let bits = spin_bits(plan, orders);
     if orders.spins && bits > MOST_SPIN_BITS {
@@ -48,7 +50,7 @@ pub fn row_count(plan: &Plan, orders: &Orders, from: u64, until: u64) -> u64
     requires few_samples { orders.now.samples ≤ 256 }
     requires some_every { 1 ≤ orders.now.every }
     requires window { from ≤ until }
-    requires until { until ≤ 1000000000 }
+    requires until { until ≤ last_epoch }
     ensures { result ≡ rows_of_run plan.now orders.now from until }
 {
     printed_slots(plan, orders) * (until / orders.every - from / orders.every)

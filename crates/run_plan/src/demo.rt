@@ -1,6 +1,7 @@
 //! The plan of a large run that is made from a number alone.
 
 ghost use Rattle.std.specs.Prelude.{◌≡◌, ◌<◌, ◌≤◌, length, IfOk};
+ghost use Rattle.spin_model.specs.Limits.{certain, greatest_demo};
 ghost use Rattle.spin_model.specs.Steps.{table};
 ghost use Rattle.threshold_table.specs.Tables.{padded};
 ghost use Rattle.run_plan.specs.DemoPlan as model;
@@ -10,6 +11,7 @@ use coupling_set::{Couplings, couplings_are_their_bonds};
 use glass_edges::NoMemory;
 use lattice_geometry::Lattice;
 use scalar_rule::{Plan, Start};
+use spin_model::CERTAIN;
 use std::alloc::Global;
 use threshold_table::{RuleKind, RuleRow, RuleTable, SwapTable};
 
@@ -20,8 +22,6 @@ const SWEEPS: u32 = 4;
 const SLOTS: usize = 8;
 
 const ENTRIES: usize = 64;
-/// The threshold of probability 1.
-const CERTAIN: u64 = 1 << 32;
 
 const ORDERS: Orders = Orders {
     samples: 64,
@@ -39,7 +39,7 @@ const ORDERS: Orders = Orders {
 ///
 /// Only where memory runs out.
 pub fn demo_plan(alloc: Global, n: u64) -> Result<(Plan, Orders), NoMemory>
-    requires { n ≤ 1000000 }
+    requires { n ≤ greatest_demo }
     ensures plan { IfOk result (λ made. made.0 ≡ model.demo_plan n) }
     ensures orders { IfOk result (λ made. made.1 ≡ model.demo_orders) }
 {
@@ -96,7 +96,7 @@ fn pair_entries(pair: u64) -> [u64; ENTRIES]
 
 // A threshold below that of probability 1, and its powers.
 fn powers<const N: usize>(weight: u64) -> [u64; N]
-    requires { weight < 4294967296 }
+    requires { weight < certain }
     ensures { result ≡ table (model.power weight) N }
 {
     let mut found = [0u64; N];

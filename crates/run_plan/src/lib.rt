@@ -18,7 +18,6 @@ pub use amounts::{check_amount, row_count};
 pub use banks::check_banks;
 pub use demo::demo_plan;
 pub use key::Key;
-pub use limits::LAST_EPOCH;
 pub use plan_digest::{canonical_length, digest, digest_banks};
 pub use reading::read_plan;
 pub use refused::PlanRefused;
