@@ -4,6 +4,7 @@ use Rattle.std.specs.Str.{bytes_eq}
 use Rattle.std.specs.Int.{w32, cast_signed}
 use Rattle.std.specs.Prelude.{ℤ, take}
 use Rattle.glass_edges.specs.Refusals.{or_else, first_of, unless}
+use Rattle.spin_model.specs.Limits.{last_epoch}
 use Rattle.scalar_rule.specs.Plan.{Plan, slots_of}
 use Rattle.scalar_rule.specs.Epoch.{has_turn, has_partner}
 use Rattle.scalar_rule.specs.Positions.{turns, deepest_of, pending_count, AreInStep}
@@ -76,7 +77,7 @@ uneven_in plan bytes = record {
 unfoldable pub is_wrong_place : ℕ → (ℕ → ℕ) → (ℕ → ℕ) → ℕ → Bool
 is_wrong_place n epoch phase t =
     not ((phase t == 0) || (phase t == 2))
-    || (nat_lt 1000000000 (epoch t)
+    || (nat_lt last_epoch (epoch t)
     || (((phase t == 2) && not (has_partner n t (epoch t)))
     || (nat_lt 0 t && (not (turns (t - 1) (epoch (t - 1)) == turns (t - 1) (epoch t))
     || ((phase (t - 1) == 2) && ((phase t == 2) && ((epoch (t - 1) == epoch t) && has_turn (t - 1) (epoch t))))))))
@@ -90,7 +91,7 @@ wrong_place n bytes = first_of (wrong_place_at n (epoch_in bytes) (phase_in byte
 
 -- what is known of positions of which none is wrong
 pub record HasRightPlaces (n : ℕ) (bytes : List ℕ) : Type 0 where
-  pub epochs : (t : ℕ) → t < n → epoch_in bytes t ≤ 1000000000
+  pub epochs : (t : ℕ) → t < n → epoch_in bytes t ≤ last_epoch
   pub phases : (t : ℕ) → t < n → (phase_in bytes t ≡ 0) ⊎ (phase_in bytes t ≡ 2)
   pub in_step : AreInStep n (map position_of (places_in n bytes))
 

@@ -9,7 +9,7 @@ ghost use Rattle.scalar_rule.specs.Positions.{turns, done, position_in, floor_of
 
 use crate::places::{u32_at, u64_at};
 use crate::refused::CheckpointRefused;
-use run_plan::LAST_EPOCH;
+use spin_model::LAST_EPOCH;
 
 // The first slot with a wrong place, in the bytes of the positions.
 #[tactic(auto, unfolding(crate::specs::UnevenDecoding::wrong_place))]

@@ -2,6 +2,7 @@
 
 ghost use Rattle.std.specs.Prelude.{◌≡◌, ℕ, ◌+◌, ◌*◌, ◌<◌, ◌≤◌, [], List, true, length, IfOk, IfErr, IfNone};
 ghost use Rattle.glass_edges.specs.Refusals.{GivesAfterTests};
+ghost use Rattle.spin_model.specs.Limits.{last_epoch};
 ghost use Rattle.plane_sweep.specs.Uneven.{level_stand, uneven_part, RaggedStandFits};
 ghost use Rattle.run_checkpoint.specs.Encoding.{encoding, AreBankStates};
 ghost use Rattle.run_checkpoint.specs.Lengths.{encoding_len, uneven_len};
@@ -49,7 +50,7 @@ pub fn decode_any(
     requires some_samples { 1 ≤ samples }
     requires few_samples { samples ≤ 64 }
     requires every { 1 ≤ every }
-    requires until { until ≤ 1000000000 }
+    requires until { until ≤ last_epoch }
     // What is read is the checkpoint of the states that the answer stands for.
     ensures found { IfOk result (model.IsAnyEncoded plan.now samples every until bytes.now) }
     ensures fits { IfOk result (RaggedStandFits plan.now samples every) }
