@@ -2,6 +2,7 @@
 //! completed epoch.
 
 ghost use Rattle.std.specs.Prelude.{◌≡◌, ℕ, ◌^◌, ◌<◌, ◌≤◌, min, max, map, length};
+ghost use Rattle.spin_model.specs.Limits.{last_epoch};
 ghost use Rattle.plane_sweep.specs.Cells as table;
 ghost use Rattle.plane_sweep.specs.Uneven as uneven;
 ghost use Rattle.scalar_rule.specs.Positions as model;
@@ -23,7 +24,7 @@ pub fn cell_at(index: usize, from: u64, samples: u32, slots: u32) -> Cell
     requires some_samples { 0 < samples }
     requires some_slots { 0 < slots }
     requires index { index < 2 ^ 50 }
-    requires from { from ≤ 1000000000 }
+    requires from { from ≤ last_epoch }
     ensures { table.IsCell from samples slots index result }
 {
     let slots = slots as usize;
@@ -39,7 +40,7 @@ pub fn cell_at(index: usize, from: u64, samples: u32, slots: u32) -> Cell
 pub fn has_record(cell: &Cell, places: &Items<Place>, every: u64) -> bool
     requires slot { cell.now.slot < length places.now }
     requires every { 1 ≤ every }
-    requires short { (t : ℕ) → t < length places.now → (uneven.place_at places.now t).epoch ≤ 1000000000 }
+    requires short { (t : ℕ) → t < length places.now → (uneven.place_at places.now t).epoch ≤ last_epoch }
     ensures { (c samples i : ℕ) → table.IsCell c samples (length (map uneven.position_of places.now)) i cell.now
         → result ≡ table.is_kept places.now c samples every i }
 {
@@ -49,7 +50,7 @@ pub fn has_record(cell: &Cell, places: &Items<Place>, every: u64) -> bool
 /// The greatest number of epochs that a slot has completed, counted from epoch 0.
 pub fn deepest(places: &Items<Place>) -> u64
     requires some { 0 < length places.now }
-    requires short { (t : ℕ) → t < length places.now → (uneven.place_at places.now t).epoch ≤ 1000000000 }
+    requires short { (t : ℕ) → t < length places.now → (uneven.place_at places.now t).epoch ≤ last_epoch }
     ensures { result ≡ model.deepest_of (map uneven.position_of places.now) }
 {
     let mut deepest = places.at(0).done();
@@ -63,7 +64,7 @@ pub fn deepest(places: &Items<Place>) -> u64
 /// epoch.
 pub fn shallowest(places: &Items<Place>) -> u64
     requires some { 0 < length places.now }
-    requires short { (t : ℕ) → t < length places.now → (uneven.place_at places.now t).epoch ≤ 1000000000 }
+    requires short { (t : ℕ) → t < length places.now → (uneven.place_at places.now t).epoch ≤ last_epoch }
     ensures { result ≡ model.floor_of (map uneven.position_of places.now) }
 {
     let mut shallowest = places.at(0).done();

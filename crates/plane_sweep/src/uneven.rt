@@ -1,6 +1,7 @@
 //! The packed state of a run that stopped with its slots at different epochs.
 
 ghost use Rattle.std.specs.Prelude.{◌≡◌, ℕ, ◌<◌, ◌≤◌, false, length, replicate, IfOk};
+ghost use Rattle.spin_model.specs.Limits.{last_epoch};
 ghost use Rattle.plane_sweep.specs.Packed.{part, StandFits};
 ghost use Rattle.plane_sweep.specs.Uneven.{place_at, position_of, positions_of, uneven_part, level_stand, FitsRecord, RaggedStandFits};
 ghost use Rattle.scalar_rule.specs.Laws.{level_start};
@@ -40,7 +41,7 @@ pub struct RaggedStand {
 impl Place {
     /// How many epochs a slot has completed there, counted from epoch 0: also that in which it waits.
     pub fn done(&self) -> u64
-        requires { self.now.epoch ≤ 1000000000 }
+        requires { self.now.epoch ≤ last_epoch }
         ensures { result ≡ model.done (position_of self.now) }
     {
         self.epoch + if self.arrived { 1 } else { 0 }
@@ -72,7 +73,7 @@ impl RaggedStand {
     /// The least completed epoch: how many epochs every slot has completed, counted from epoch 0.
     pub fn floor(&self) -> u64
         requires some { 0 < length self.now.places }
-        requires short { (t : ℕ) → t < length self.now.places → (place_at self.now.places t).epoch ≤ 1000000000 }
+        requires short { (t : ℕ) → t < length self.now.places → (place_at self.now.places t).epoch ≤ last_epoch }
         ensures { result ≡ model.floor_of (positions_of self.now) }
     {
         shallowest(&self.places)
