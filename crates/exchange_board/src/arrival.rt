@@ -2,6 +2,7 @@
 
 ghost use Rattle.std.specs.Prelude.{◌≡◌, ℕ, ◌+◌, ◌*◌, ◌<◌, ◌≤◌, true, false, ◌==◌, ◌&&◌, if◌then◌else◌, length, slice_set, IfSome, IfNone};
 ghost use Rattle.std.specs.Arc.{arc_value};
+ghost use Rattle.spin_model.specs.Limits.{last_epoch};
 ghost use Rattle.scalar_rule.specs.Epoch.{has_turn, has_partner, partner};
 ghost use Rattle.exchange_board.specs.Machine.{epochs, phases, met, after, IsPhased, IsBehind};
 ghost use Rattle.exchange_board.specs.Views.{place_at, out_at, ready_at, arrived_at, placed, progress};
@@ -26,7 +27,7 @@ pub enum Arrival {
 // Whether a slot is the colder one of its pair at an epoch.
 fn is_colder(slot: u32, epoch: u64) -> bool
     requires few { slot < 32 }
-    requires short { epoch < 1000000000 }
+    requires short { epoch < last_epoch }
     ensures { result ≡ has_turn slot epoch }
 {
     (slot as u64 + epoch) % 2 == 0
@@ -78,7 +79,7 @@ impl Board {
     // Whether a slot waits at an epoch.
     fn waits(&self, slot: u32, epoch: u64) -> bool
         requires known { slot < length self.now.places }
-        requires short { epoch < 1000000000 }
+        requires short { epoch < last_epoch }
         ensures waits { result ≡ true → place_at self.now.places slot ≡ arrived_at epoch }
         ensures others { result ≡ false → ((phases self.now.places slot == 2) && (epochs self.now.places slot == epoch)) ≡ false }
     {
@@ -91,7 +92,7 @@ impl Board {
         requires out { progress (place_at self.now.places slot) ≡ 4 * epoch + 1 }
         ensures some { IfSome result (λ p. (has_partner (length self.now.places) slot epoch ≡ true) × (p ≡ partner slot epoch) × (p < length self.now.places)) }
         ensures none { IfNone result (has_partner (length self.now.places) slot epoch ≡ false) }
-        ensures short { epoch < 1000000000 }
+        ensures short { epoch < last_epoch }
         ensures out { place_at self.now.places slot ≡ out_at epoch }
         ensures phased { IsPhased self.now.places }
         ensures behind { IsBehind self.now.places slot epoch }

@@ -2,6 +2,7 @@
 
 ghost use Rattle.std.specs.Prelude.{◌≡◌, ℕ, ◌+◌, ◌-◌, ◌*◌, ◌/◌, ◌%◌, ◌<◌, ◌≤◌, true, false, length, replicate, IfOk, IsSomeAnd, slice_set, slice_index_or};
 ghost use Rattle.std.specs.Arc.{arc_value};
+ghost use Rattle.spin_model.specs.Limits.{last_epoch, most_rows};
 ghost use Rattle.plane_sweep.specs.Packed.{FitsDuo, StandFits};
 ghost use Rattle.plane_sweep.specs.Uneven.{positions_of, level_stand, RaggedStandFits};
 ghost use Rattle.scalar_rule.specs.Plan.{slots_of};
@@ -180,12 +181,12 @@ impl Board {
         window: Window,
     ) -> Result<Board, NoMemory>
         requires base { RaggedStandFits (arc_value plan.now) window.samples window.every base }
-        requires until { window.until ≤ 1000000000 }
-        requires every { window.every ≤ 1000000000 }
+        requires until { window.until ≤ last_epoch }
+        requires every { window.every ≤ last_epoch }
         requires takes { window.takes ≤ 32000000000 }
         requires reach { deepest_of (positions_of base) ≤ window.until }
         requires rows { (window.until / window.every - floor_of (positions_of base) / window.every) * window.samples
-            * slots_of (arc_value plan.now) ≤ 4194304 }
+            * slots_of (arc_value plan.now) ≤ most_rows }
         ensures { IfOk result (Opened (arc_value plan.now) base window) }
     {
         let slots = plan.slots() as usize;
@@ -233,14 +234,14 @@ impl Board {
     ) -> Result<Board, NoMemory>
         requires stand { StandFits (arc_value plan.now) stand }
         requires epoch { stand.epoch ≤ window.until }
-        requires until { window.until ≤ 1000000000 }
+        requires until { window.until ≤ last_epoch }
         requires some_every { 1 ≤ window.every }
-        requires every { window.every ≤ 1000000000 }
+        requires every { window.every ≤ last_epoch }
         requires some_samples { 1 ≤ window.samples }
         requires samples { window.samples ≤ 64 }
         requires takes { window.takes ≤ 32000000000 }
         requires rows { (window.until / window.every - stand.epoch / window.every) * window.samples
-            * slots_of (arc_value plan.now) ≤ 4194304 }
+            * slots_of (arc_value plan.now) ≤ most_rows }
         ensures { IfOk result (Opened (arc_value plan.now) (level_stand stand) window) }
     {
         let _ = plan.slots();

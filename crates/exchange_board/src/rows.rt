@@ -1,6 +1,7 @@
 //! The places of a slot's records at an epoch.
 
 ghost use Rattle.std.specs.Prelude.{◌≡◌, ℕ, ◌+◌, ◌*◌, ◌<◌, ◌≤◌, true, length};
+ghost use Rattle.spin_model.specs.Limits.{most_rows};
 ghost use Rattle.plane_sweep.specs.Packed.{part_slot, FitsDuo};
 ghost use Rattle.scalar_rule.specs.Epoch as model;
 ghost use Rattle.scalar_rule.specs.Records as rule;
@@ -30,7 +31,7 @@ impl Rows {
     pub(crate) fn place(&self, sample: u32) -> usize
         requires sample { sample < self.now.samples }
         requires slot { self.now.slot < self.now.slots }
-        requires few { (self.now.at + self.now.samples) * self.now.slots ≤ 4194304 }
+        requires few { (self.now.at + self.now.samples) * self.now.slots ≤ most_rows }
         ensures { result ≡ (self.now.at + sample) * self.now.slots + self.now.slot }
     {
         (self.at + sample as usize) * self.slots + self.slot
@@ -71,7 +72,7 @@ fn write_rows(records: &mut Items<Record>, duo: &Duo, totals: &Totals, plan: &Pl
     requires totals { AreTotals plan.now duo.now totals.now }
     requires samples { rows.now.samples ≤ 64 }
     requires slot { rows.now.slot < rows.now.slots }
-    requires few { length records.old ≤ 4194304 }
+    requires few { length records.old ≤ most_rows }
     requires room { rows.now.is_recorded ≡ true → (rows.now.at + rows.now.samples) * rows.now.slots ≤ length records.old }
     ensures { RowsAfter rows.now (λ i. model.record_of plan.now i (part_slot plan.now.size i duo.now)) records.old records.new }
 {
