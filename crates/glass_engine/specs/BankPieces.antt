@@ -1,5 +1,6 @@
 -- What banks that were driven hold: their records, epoch by epoch and sample by sample, and the states that they ended with.
 use Rattle.std.specs.Prelude.{◌≡◌, ℕ, ◌-◌, ◌*◌, ◌<◌, ◌≤◌, nat_lt, if◌then◌else◌, List, [], ◌∷◌, length, map, drop, All}
+use Rattle.spin_model.specs.Limits.{last_epoch}
 use Rattle.run_checkpoint.specs.Encoding.{flattened}
 use Rattle.run_plan.specs.declared.run_file.Orders.{Orders}
 use Rattle.scalar_rule.specs.Plan.{Plan, slots_of, IsLawfulPlan}
@@ -33,7 +34,7 @@ pub record AreRowsFrom (ds : List DoneView) (orders : Orders) (slots f to passed
   pub some_slots : 1 ≤ slots
   pub few_slots : slots ≤ 32
   pub from : f ≤ to
-  pub short : to ≤ 1000000000
+  pub short : to ≤ last_epoch
   pub counted : passed ≤ f
   pub each : All (HasRowsFrom slots orders.every f to passed) ds
   pub samples : HaveSamples orders.samples (runs_of ds)

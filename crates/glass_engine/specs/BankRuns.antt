@@ -1,5 +1,6 @@
 -- The runs of several banks before and after they are driven: one run for each bank, from states at one epoch.
 use Rattle.std.specs.Prelude.{ℕ, ◌+◌, ◌-◌, ◌*◌, ◌<◌, ◌≤◌, min, Bool, if◌then◌else◌, List, [], ◌∷◌, map}
+use Rattle.spin_model.specs.Limits.{last_epoch, most_rows}
 use Rattle.run_plan.specs.declared.run_file.Orders.{Orders}
 use Rattle.run_checkpoint.specs.BankEncoding.{HaveShape, BanksFit}
 use Rattle.run_checkpoint.specs.Encoding.{flattened}
@@ -43,7 +44,7 @@ pub record AreBankOrders (banks : ℕ) (orders : Orders) : Type 0 where
   pub some_samples : 64 * (banks - 1) < orders.samples
   pub few_samples : orders.samples ≤ 64 * banks
   pub some_every : 1 ≤ orders.every
-  pub every : orders.every ≤ 1000000000
+  pub every : orders.every ≤ last_epoch
 
 -- the plans have one size and one number of slots; the states of the banks fit them and are at one epoch, in time; and the
 -- rows are not too many
@@ -54,7 +55,7 @@ pub record AreBankStarts (plans : List Plan) (stands : List Stand) (orders : Ord
   pub shape : HaveShape size slots plans
   pub fit : BanksFit epoch plans stands
   pub in_time : epoch ≤ until
-  pub rows : orders.samples * slots * recorded_epochs orders.every epoch until ≤ 4194304
+  pub rows : orders.samples * slots * recorded_epochs orders.every epoch until ≤ most_rows
 
 -- ---- what it means
 

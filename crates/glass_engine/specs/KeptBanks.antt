@@ -1,5 +1,6 @@
 -- What the runs of banks keep.
 use Rattle.std.specs.Prelude.{◌≡◌, ℕ, ◌-◌, ◌≤◌, min, List, [], ◌∷◌, length, map, All, Option, Some, None, vec_capacity}
+use Rattle.spin_model.specs.Limits.{last_epoch}
 use Rattle.run_checkpoint.specs.Encoding.{flattened}
 use Rattle.run_checkpoint.specs.BankEncoding.{banks_len}
 use Rattle.run_checkpoint.specs.Rooms.{RoomView}
@@ -44,7 +45,7 @@ pub record AreBankRuns (orders : Orders) (runs : List RunView) : Type 0 where
   pub orders_are : AreBankOrders (length runs) orders
   pub shared : Shared
   pub in_time : shared.from ≤ shared.until
-  pub short : shared.until ≤ 1000000000
+  pub short : shared.until ≤ last_epoch
   pub each : All (IsBankRun shared orders) runs
   pub samples : HaveSamples orders.samples runs
 

@@ -1,5 +1,6 @@
 -- A run before and after it is driven.
 use Rattle.std.specs.Prelude.{◌≡◌, ℕ, ◌+◌, ◌≤◌, ◌⊎◌}
+use Rattle.spin_model.specs.Limits.{last_epoch}
 use Rattle.scalar_rule.specs.Plan.{Plan}
 use Rattle.scalar_rule.specs.Ragged.{UnevenState}
 use Rattle.run_plan.specs.declared.run_file.Orders.{Orders}
@@ -29,7 +30,7 @@ pub record AreRunOrders (orders : Orders) : Type 0 where
   pub some_samples : 1 ≤ orders.samples
   pub few_samples : orders.samples ≤ 64
   pub some_every : 1 ≤ orders.every
-  pub every : orders.every ≤ 1000000000
+  pub every : orders.every ≤ last_epoch
 
 -- the states that the samples start with
 abbrev pub starts : RunView → ℕ → UnevenState

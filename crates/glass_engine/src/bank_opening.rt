@@ -2,6 +2,7 @@
 
 ghost use Rattle.std.specs.Prelude.{◌≡◌, ◌≤◌, length, map, IfOk};
 ghost use Rattle.std.specs.Arc.{arc_value};
+ghost use Rattle.spin_model.specs.Limits.{last_epoch, most_rows};
 ghost use Rattle.plane_sweep.specs.Packed.{StandFits};
 ghost use Rattle.run_plan.specs.Amounts as amounts;
 ghost use Rattle.glass_engine.specs.BankRuns.{bank_run, bank_runs, bank_kind, for_samples, AreBankOrders, AreBankStarts};
@@ -42,7 +43,7 @@ pub fn open_banks(
 ) -> Result<Banks, NoMemory>
     requires orders { AreBankOrders (length plans.now) orders.now }
     requires starts { AreBankStarts (map arc_value plans.now) stands.items orders.now until }
-    requires until { until ≤ 1000000000 }
+    requires until { until ≤ last_epoch }
     requires some_workers { 1 ≤ workers }
     requires few_workers { workers ≤ 64 }
     ensures { IfOk result (λ banks. banks
@@ -72,7 +73,7 @@ fn open_runs(
 ) -> Result<Vec<Run>, NoMemory>
     requires orders { AreBankOrders (length plans.now) orders.now }
     requires starts { AreBankStarts (map arc_value plans.now) stands.items orders.now until }
-    requires until { until ≤ 1000000000 }
+    requires until { until ≤ last_epoch }
     requires some_workers { 1 ≤ workers }
     requires few_workers { workers ≤ 64 }
     ensures { IfOk result (λ runs. runs.items
@@ -100,9 +101,9 @@ fn open_bank(
     requires orders { AreRunOrders orders.now }
     requires stand { StandFits (arc_value plan.now) stand }
     requires window { stand.epoch ≤ until }
-    requires until { until ≤ 1000000000 }
+    requires until { until ≤ last_epoch }
     requires workers { (1 ≤ workers) × (workers ≤ 64) }
-    requires rows { amounts.row_count (arc_value plan.now) orders.now stand.epoch until ≤ 4194304 }
+    requires rows { amounts.row_count (arc_value plan.now) orders.now stand.epoch until ≤ most_rows }
     ensures { IfOk result (λ run. run ≡ bank_run (arc_value plan.now) stand orders.now until saves.Never) }
 {
     // A plan has a slot.

@@ -3,6 +3,7 @@
 ghost use Rattle.std.specs.Prelude.{◌≡◌, ◌+◌, ◌-◌, ◌*◌, ◌^◌, ◌<◌, ◌≤◌, ◌++◌, [], if◌then◌else◌, length, IfOk, OnOk, OnErr};
 ghost use Rattle.glass_edges.specs.Causes.{HasCause};
 ghost use Rattle.glass_edges.specs.Contents.{appended, AppendsPrefix, PutsFront};
+ghost use Rattle.spin_model.specs.Limits.{last_epoch};
 ghost use Rattle.exchange_board.specs.Content as board;
 ghost use Rattle.scalar_rule.specs.Records.{in_order, is_recorded};
 ghost use Rattle.glass_engine.specs.RecordPieces.{piece_rows, measured};
@@ -25,7 +26,7 @@ pub(crate) fn write_rows<O: Sink>(
     requires lawful { board.IsLawfulOrigin origin.now }
     requires slots { slots ≡ board.slots_in origin.now }
     requires window { from ≤ to }
-    requires to { to ≤ 1000000000 }
+    requires to { to ≤ last_epoch }
     requires records { records.now ≡ in_order (measured origin.now)
         origin.now.window.samples origin.now.window.every from to }
     ensures whole { OnOk result (O.taken out.new ≡ appended (O.taken out.old)
@@ -52,7 +53,7 @@ fn add_rows<O: Sink>(
     requires lawful { board.IsLawfulOrigin origin.now }
     requires slots { slots ≡ board.slots_in origin.now }
     requires window { from ≤ to }
-    requires to { to ≤ 1000000000 }
+    requires to { to ≤ last_epoch }
     requires records { records.now ≡ in_order (measured origin.now)
         origin.now.window.samples origin.now.window.every from to }
     ensures front { OnOk result (PutsFront (O.taken out.old) (O.taken out.new) (line.old

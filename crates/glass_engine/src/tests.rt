@@ -6,6 +6,7 @@ ghost use Rattle.plane_sweep.specs.Packed.{StandFits};
 ghost use Rattle.run_plan.specs.Amounts.{row_count};
 ghost use Rattle.run_plan.specs.RunFile.{AreLawfulOrders};
 ghost use Rattle.scalar_rule.specs.Plan.{slots_of};
+ghost use Rattle.spin_model.specs.Limits.{last_epoch, most_rows};
 
 use super::*;
 use coupling_set::Couplings;
@@ -62,10 +63,10 @@ fn begun(
     requires some { 1 ≤ slots_of (arc_value plan.now) }
     requires stand { StandFits (arc_value plan.now) stand }
     requires window { stand.epoch ≤ until }
-    requires until { until ≤ 1000000000 }
+    requires until { until ≤ last_epoch }
     requires takes { takes ≤ 32000000000 }
     requires workers { (1 ≤ workers) × (workers ≤ 64) }
-    requires rows { row_count (arc_value plan.now) orders.now stand.epoch until ≤ 4194304 }
+    requires rows { row_count (arc_value plan.now) orders.now stand.epoch until ≤ most_rows }
     requires whole { save ≡ saves.Level → takes ≡ 32000000000 }
     ensures plan { IfOk result (λ run. run.plan ≡ arc_value plan.now) }
     ensures saves { IfOk result (λ run. run.saves ≡ save) }
@@ -103,7 +104,7 @@ fn reported<R: Threads + Wait + Sync, G: Gate + Sync>(
 ) -> Result<MemorySink, NoMemory>
     requires pairs { length swaps + 1 ≡ length rules.rows }
     requires orders { AreLawfulOrders orders.now }
-    requires until { until ≤ 1000000000 }
+    requires until { until ≤ last_epoch }
     requires takes { takes ≤ 32000000000 }
     requires workers { (1 ≤ workers) × (workers ≤ 64) }
 {
@@ -142,7 +143,7 @@ fn two_slots<R: Threads + Wait + Sync, G: Gate + Sync>(
     takes: u64,
     workers: u32,
 ) -> Result<MemorySink, Fail>
-    requires until { until ≤ 1000000000 }
+    requires until { until ≤ last_epoch }
     requires takes { takes ≤ 32000000000 }
     requires workers { (1 ≤ workers) × (workers ≤ 64) }
 {

@@ -2,6 +2,7 @@
 
 ghost use Rattle.std.specs.Prelude.{◌≡◌, ◌≢◌, ◌*◌, ◌≤◌, [], ◌∷◌, map, All, IfOk};
 ghost use Rattle.std.specs.Arc.{arc_value};
+ghost use Rattle.spin_model.specs.Limits.{most_rows};
 ghost use Rattle.run_checkpoint.specs.BankEncoding.{BanksFit};
 ghost use Rattle.scalar_rule.specs.Plan.{slots_of};
 ghost use Rattle.glass_engine.specs.BankRuns.{plans_of};
@@ -80,7 +81,7 @@ fn opened(
 ) -> Result<Banks, NoMemory>
     requires plans { map arc_value plans.now ≡ arc_value plan.now ∷ arc_value plan.now ∷ [] }
     requires stands { BanksFit 0 (arc_value plan.now ∷ arc_value plan.now ∷ []) stands.items }
-    requires rows { 65 * slots_of (arc_value plan.now) ≤ 4194304 }
+    requires rows { 65 * slots_of (arc_value plan.now) ≤ most_rows }
     requires workers { (1 ≤ workers) × (workers ≤ 64) }
     ensures plans { IfOk result (λ banks. map arc_value plans.now ≡ plans_of banks) }
     ensures saves { IfOk result (λ banks. All (λ (run : RunView). run.saves ≢ saves.Never) banks) }

@@ -1,6 +1,7 @@
 //! The checkpoints that a run places.
 
 ghost use Rattle.std.specs.Prelude.{◌≡◌, ◌≢◌, ◌≤◌};
+ghost use Rattle.spin_model.specs.Limits.{last_epoch};
 ghost use Rattle.glass_engine.specs.declared.run.SaveKind.TheVariants as saves;
 
 use super::{AGAINST, ALL, ORDERS, UP, begun};
@@ -47,7 +48,7 @@ fn placed_twice<R: Threads + Wait + Sync>(
     takes: u64,
     kind: SaveKind,
 ) -> Result<MemoryShelf, NoMemory>
-    requires until { until ≤ 1000000000 }
+    requires until { until ≤ last_epoch }
     requires takes { takes ≤ 32000000000 }
     requires whole { kind ≡ saves.Level → takes ≡ 32000000000 }
     requires some { kind ≢ saves.Never }
