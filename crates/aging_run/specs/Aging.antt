@@ -2,6 +2,7 @@
 -- (docs/specification/aging.md).
 use Rattle.std.specs.Prelude.{ℕ, ℤ, ◌+◌, ◌<◌, ◌≤◌, Bool, List, ◌++◌, codes, decimal, length, flat_map, slice_index, All}
 use Rattle.std.specs.Fmt.{signed_decimal}
+use Rattle.spin_model.specs.Limits.{most_sweeps}
 use Rattle.spin_model.specs.Steps.{table}
 use Rattle.scalar_rule.specs.Epoch.{slot_at}
 use Rattle.scalar_rule.specs.Plan.{Plan, slots_of, dynamics_of}
@@ -27,7 +28,7 @@ two_time_overlap d wait t replica = overlap d.size (spins_after d wait replica) 
 pub record AreTimes (times : List ℕ) : Type 0 where
   pub some : 1 ≤ length times
   pub few : length times ≤ 32
-  pub each : All (λ t. t ≤ 1000000) times
+  pub each : All (λ t. t ≤ most_sweeps) times
   pub rising : (k : ℕ) → k + 1 < length times → slice_index times k < slice_index times (k + 1)
 
 -- ---- the lines

@@ -3,6 +3,7 @@
 ghost use Rattle.std.specs.Prelude.{◌≡◌, ◌+◌, ◌<◌, ◌≤◌, length, IfOk};
 ghost use Rattle.scalar_rule.specs.Plan.{slots_of};
 ghost use Rattle.scalar_rule.specs.Shape.{FitsCopy};
+ghost use Rattle.spin_model.specs.Limits.{most_sweeps};
 
 use super::*;
 use coupling_set::Couplings;
@@ -70,8 +71,8 @@ fn aged<R: Threads + Sync>(
     fails: Vec<u64>,
 ) -> Result<MemorySink, Fail>
     requires samples { (1 ≤ samples) × (samples ≤ 64) }
-    requires wait { wait ≤ 1000000 }
-    requires later { (1 ≤ later) × (later ≤ 1000000) }
+    requires wait { wait ≤ most_sweeps }
+    requires later { (1 ≤ later) × (later ≤ most_sweeps) }
 {
     let mut out = MemorySink::new(alloc, 5000, 100, fails)?;
     let aging = open_aging(alloc, plan, start)?;

@@ -5,6 +5,7 @@ ghost use Rattle.aging_run.specs.Aging as text;
 ghost use Rattle.aging_run.specs.Measuring.{overlap_in};
 ghost use Rattle.glass_edges.specs.Causes.{HasCause};
 ghost use Rattle.glass_edges.specs.Contents.{appended, AppendsPrefix, PutsFront};
+ghost use Rattle.spin_model.specs.Limits.{most_sweeps};
 ghost use Rattle.plane_sweep.specs.Packed.{part, part_copy, part_slot, StandFits, FitsDuo, FitsReplica};
 ghost use Rattle.scalar_rule.specs.Plan.{slots_of};
 
@@ -41,7 +42,7 @@ pub fn write_aging<R: Threads + Sync, O: Sink>(
     requires stand { StandFits plan.now aging }
     requires some_samples { 1 ≤ samples }
     requires few_samples { samples ≤ 64 }
-    requires wait { wait ≤ 1000000 }
+    requires wait { wait ≤ most_sweeps }
     requires times { text.AreTimes times.now }
     ensures whole { OnOk result (O.taken out.new ≡ appended (O.taken out.old)
         (text.aging_text plan.now samples wait times.now (λ b. part plan.now.size b aging))) }
@@ -72,7 +73,7 @@ fn write_slots<R: Threads + Sync, O: Sink>(
     requires stand { StandFits plan.now stand.old }
     requires kept { FitsReplica plan.now.size kept.old }
     requires samples { samples ≤ 64 }
-    requires wait { wait ≤ 1000000 }
+    requires wait { wait ≤ most_sweeps }
     requires times { text.AreTimes times.now }
     ensures whole { OnOk result (O.taken out.new ≡ appended (O.taken out.old)
         (text.all_lines plan.now samples wait times.now (λ b. part plan.now.size b stand.old) (slots_of plan.now))) }
@@ -112,7 +113,7 @@ fn write_slot<R: Threads + Sync, O: Sink>(
     requires kept { FitsReplica plan.now.size kept.old }
     requires slot { slot < slots_of plan.now }
     requires samples { samples ≤ 64 }
-    requires wait { wait ≤ 1000000 }
+    requires wait { wait ≤ most_sweeps }
     requires times { text.AreTimes times.now }
     ensures whole { OnOk result (O.taken out.new ≡ appended (O.taken out.old)
         (text.slot_lines plan.now samples wait times.now slot (λ b. part_slot plan.now.size b duo.old))) }
@@ -164,7 +165,7 @@ fn write_replica<R: Threads + Sync, O: Sink>(
     requires kept { FitsReplica plan.now.size kept.old }
     requires slot { slot < slots_of plan.now }
     requires samples { samples ≤ 64 }
-    requires wait { wait ≤ 1000000 }
+    requires wait { wait ≤ most_sweeps }
     requires times { text.AreTimes times.now }
     ensures whole { OnOk result (O.taken out.new ≡ appended (O.taken out.old)
         (text.replica_lines plan.now samples wait times.now slot copy (λ b. part_copy plan.now.size b replica.old))) }
