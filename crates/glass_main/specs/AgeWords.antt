@@ -1,5 +1,6 @@
 -- What `age` asks for, and the words that are its times.
 use Rattle.std.specs.Prelude.{ℕ, zero, suc, ◌+◌, ◌-◌, Bool, true, ◌&&◌, nat_lt, if◌then◌else◌, List, length, slice_index, Option, Some, None}
+use Rattle.spin_model.specs.Limits.{most_sweeps}
 use Rattle.glass_main.specs.Words.{given, number_words}
 
 -- an aging run: the name of its run file, the waiting time, and the times behind it, in sweeps
@@ -22,4 +23,4 @@ rising times = if rises times then Some times else None
 
 -- so many times from word 4 on, each up to a million
 abbrev pub times_of : ℕ → List (List ℕ) → Option (List ℕ)
-times_of count words = given (number_words 0 1000000 words 4 count) rising
+times_of count words = given (number_words 0 most_sweeps words 4 count) rising

@@ -2,6 +2,7 @@
 use Rattle.std.specs.Prelude.{ℕ, ◌^◌, ◌+◌, ◌-◌, Bool, true, false, not, ◌&&◌, ◌==◌, nat_le, nat_lt, if◌then◌else◌, List, length, take, drop, codes, Option, Some, None, option_map, unwrap_or}
 use Rattle.std.specs.List.{fold, position_or_len, before_first, after_first}
 use Rattle.std.specs.Str.{bytes_eq}
+use Rattle.spin_model.specs.Limits.{certain, greatest_demo, last_epoch, most_sweeps}
 use Rattle.glass_main.specs.PottsWords.{PottsOrder, potts_order}
 use Rattle.glass_main.specs.AgeWords.{AgeOrder, times_of}
 use Rattle.glass_main.specs.Words.{given, word_at, size_word, number_word, number_words}
@@ -52,9 +53,9 @@ unfoldable pub plain_order : List (List ℕ) → Option PlainOrder
 plain_order words =
     if length words == 11 then
     given (size_word (word_at words 1)) (λ size.
-    given (number_word 0 1000000 (word_at words 2)) (λ sweeps.
+    given (number_word 0 most_sweeps (word_at words 2)) (λ sweeps.
     given (number_word 0 (2 ^ 63 - 1) (word_at words 3)) (λ seed.
-    given (number_words 0 (2 ^ 32) words 4 7) (λ thresholds.
+    given (number_words 0 certain words 4 7) (λ thresholds.
     Some (record { size = size; sweeps = sweeps; seed = seed; thresholds = thresholds })))))
     else None
 
@@ -87,7 +88,7 @@ average_order words =
 unfoldable pub age_order : List (List ℕ) → Option AgeOrder
 age_order words =
     given (name_word (word_at words 1)) (λ run.
-    given (number_word 0 1000000 (word_at words 2)) (λ wait.
+    given (number_word 0 most_sweeps (word_at words 2)) (λ wait.
     given (number_word 1 32 (word_at words 3)) (λ count.
     if length words == 4 + count then
     given (times_of count words) (λ times. Some (record { run = run; wait = wait; times = times }))
@@ -95,7 +96,7 @@ age_order words =
 
 -- `demo N`, N up to a million
 unfoldable pub demo_number : List (List ℕ) → Option ℕ
-demo_number words = if length words == 2 then number_word 0 1000000 (word_at words 1) else None
+demo_number words = if length words == 2 then number_word 0 greatest_demo (word_at words 1) else None
 
 -- `lines RUN CHECKPOINT`
 unfoldable pub lines_order : List (List ℕ) → Option LinesOrder
@@ -145,7 +146,7 @@ abbrev pub with_pieces : RunWords → List ℕ → Option RunWords
 with_pieces said value = once said.pieces (option_map (λ n. record said { waiting = None; pieces = Some n }) (number_word 1 16 value))
 
 abbrev pub with_until : RunWords → List ℕ → Option RunWords
-with_until said value = once said.until (option_map (λ n. record said { waiting = None; until = Some n }) (number_word 0 1000000000 value))
+with_until said value = once said.until (option_map (λ n. record said { waiting = None; until = Some n }) (number_word 0 last_epoch value))
 
 -- the name of a file
 abbrev pub file_word : List ℕ → Option (List ℕ)

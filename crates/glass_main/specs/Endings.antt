@@ -1,6 +1,7 @@
 -- Which endings words may have, over any store: what holds also where no file is observable.
 use Rattle.std.specs.Prelude.{◌≡◌, ◌≢◌, ◌⊎◌, ℕ, ◌<◌, Bool, true, false, List, Option, Some, None, option_map, IfSome, Err}
 use Rattle.glass_edges.specs.Contents.{Files}
+use Rattle.spin_model.specs.Limits.{last_epoch, most_rows}
 use Rattle.coupling_set.specs.CouplingsFile.{couplings_in}
 use Rattle.coupling_set.specs.declared.refused.CouplingsRefused.{CouplingsRefused}
 use Rattle.coupling_set.specs.declared.refused.CouplingsRefused.TheVariants as couplings
@@ -84,7 +85,7 @@ IsOfAverages blocks told = ⊥
 
 -- of a checkpoint that is refused at one epoch, which is at most 1000000000: some bytes are, for some plan
 abbrev pub IsOfOneEpoch : Refusal → Type 0
-IsOfOneEpoch (refused.Checkpoint e) = (plan : rule.Plan) × (bytes : List ℕ) × (level_refusal plan 1000000000 bytes ≡ Some e)
+IsOfOneEpoch (refused.Checkpoint e) = (plan : rule.Plan) × (bytes : List ℕ) × (level_refusal plan last_epoch bytes ≡ Some e)
 IsOfOneEpoch told = Unit {0}
 
 -- a length that is told of a file is the one that a fetch of it answers, where the store says that beforehand
@@ -94,7 +95,7 @@ TellsLength lengths told = Unit {0}
 
 -- a refusal of what a run prints; the amount that is told is above its limit
 abbrev pub IsOfAmount : Refusal → Type 0
-IsOfAmount (refused.Plan (plan.Rows count)) = 4194304 < count
+IsOfAmount (refused.Plan (plan.Rows count)) = most_rows < count
 IsOfAmount (refused.Plan (plan.Spins bits)) = 268435456 < bits
 IsOfAmount told = ⊥
 

@@ -1,6 +1,7 @@
 -- The report of a run, as a report that can be read.
 use Rattle.std.specs.Prelude.{ℕ, ◌*◌, ◌<◌, ◌≤◌, unsigned_abs, List, All}
 use Rattle.spin_model.specs.Lattice.{volume}
+use Rattle.spin_model.specs.Limits.{last_epoch}
 use Rattle.scalar_rule.specs.Plan.{Plan, IsLawfulPlan, slots_of}
 use Rattle.scalar_rule.specs.declared.sample.Record.{Record}
 use Rattle.plane_sweep.specs.Uneven.{positions_of}
@@ -18,7 +19,7 @@ IsLawfulText bytes = (r : Report) × Spells bytes r
 
 -- a run from its opening states, of any lawful plan and to any epoch, prints a lawful report
 abbrev pub RunReportsAreLawful : Type 0
-RunReportsAreLawful = (planned : Planned) (until : ℕ) → IsLawfulPlan planned.plan → AreLawfulOrders planned.orders → until ≤ 1000000000 → IsLawfulText (run_text planned (opened_by planned) until)
+RunReportsAreLawful = (planned : Planned) (until : ℕ) → IsLawfulPlan planned.plan → AreLawfulOrders planned.orders → until ≤ last_epoch → IsLawfulText (run_text planned (opened_by planned) until)
 
 -- energies from -3V to 3V, an overlap from -V to V, and labels that are slots' numbers
 pub record IsWithin (plan : Plan) (values : Record) : Type 0 where

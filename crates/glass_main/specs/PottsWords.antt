@@ -1,6 +1,7 @@
 -- The words of `potts`.
 use Rattle.std.specs.Prelude.{ℕ, ◌^◌, ◌-◌, ◌==◌, if◌then◌else◌, List, length, codes, Option, Some, None}
 use Rattle.std.specs.Str.{bytes_eq}
+use Rattle.spin_model.specs.Limits.{certain, most_sweeps}
 use Rattle.potts_glass.specs.declared.start.PottsStart.{PottsStart}
 use Rattle.potts_glass.specs.declared.start.PottsStart.TheVariants as starts
 use Rattle.glass_main.specs.Words.{given, word_at, size_word, number_word, number_words}
@@ -37,11 +38,11 @@ unfoldable pub potts_order : List (List ℕ) → Option PottsOrder
 potts_order words =
     if length words == 13 then
     given (size_word (word_at words 1)) (λ size.
-    given (number_word 0 1000000 (word_at words 2)) (λ sweeps.
+    given (number_word 0 most_sweeps (word_at words 2)) (λ sweeps.
     given (number_word 0 (2 ^ 63 - 1) (word_at words 3)) (λ seed.
     given (number_word 1 64 (word_at words 4)) (λ samples.
     given (couplings_word (word_at words 5)) (λ couplings.
     given (start_word (word_at words 6)) (λ start.
-    given (number_words 0 (2 ^ 32) words 7 6) (λ thresholds.
+    given (number_words 0 certain words 7 6) (λ thresholds.
     Some (record { size = size; sweeps = sweeps; seed = seed; samples = samples; couplings = couplings; start = start; thresholds = thresholds }))))))))
     else None

@@ -1,6 +1,7 @@
 -- A command of the program as a command of the definitions, and the limits of its numbers.
 use Rattle.std.specs.Borrow.{Bor}
 use Rattle.std.specs.Prelude.{ℕ, ◌≤◌, List, Option, option_map, IfSome}
+use Rattle.spin_model.specs.Limits.{greatest_demo, last_epoch}
 use Rattle.glass_main.specs.CommandLine as model
 use Rattle.glass_main.specs.ReadPotts.{read_potts_order, IsLawfulPotts}
 use Rattle.glass_main.specs.ReadAge.{read_age_order, IsLawfulAge}
@@ -70,14 +71,14 @@ pub record IsLawfulOrder (order : RunOrder) : Type 0 where
   pub few_workers : order.workers ≤ 64
   pub some_pieces : 1 ≤ order.pieces
   pub few_pieces : order.pieces ≤ 16
-  pub until : IfSome order.until (λ e. e ≤ 1000000000)
+  pub until : IfSome order.until (λ e. e ≤ last_epoch)
   pub stop_after : IfSome order.stop_after (λ n. n ≤ 32000000000)
 
 -- the same of what the words have said
 pub record AreLawfulWords (said : RunWords) : Type 0 where
   pub workers : IfSome said.workers (λ n. (1 ≤ n) × (n ≤ 64))
   pub pieces : IfSome said.pieces (λ n. (1 ≤ n) × (n ≤ 16))
-  pub until : IfSome said.until (λ e. e ≤ 1000000000)
+  pub until : IfSome said.until (λ e. e ≤ last_epoch)
   pub stop_after : IfSome said.stop_after (λ n. n ≤ 32000000000)
 
 -- 1 to 256 blocks
@@ -91,7 +92,7 @@ IsLawfulCommand (Plain order) = Unit {0}
 IsLawfulCommand (Check name) = Unit {0}
 IsLawfulCommand (Run order) = IsLawfulOrder order
 IsLawfulCommand (Average order) = IsLawfulAverage order
-IsLawfulCommand (Demo n) = n ≤ 1000000
+IsLawfulCommand (Demo n) = n ≤ greatest_demo
 IsLawfulCommand (Lines order) = Unit {0}
 IsLawfulCommand (Potts order) = IsLawfulPotts order
 IsLawfulCommand (Age order) = IsLawfulAge order

@@ -5,6 +5,7 @@ use Rattle.glass_edges.specs.Contents.{Files}
 use Rattle.glass_edges.specs.Refusals.{unless}
 use Rattle.threshold_table.specs.Tables.{RuleView, rule_table, swap_table}
 use Rattle.spin_model.specs.Couplings.{Bonds, plus, random}
+use Rattle.spin_model.specs.Limits.{last_epoch}
 use Rattle.coupling_set.specs.BondsAsWords.{couplings_with}
 use Rattle.coupling_set.specs.CouplingWords.{CouplingsView}
 use Rattle.coupling_set.specs.CouplingsFile.{couplings_in, file_refusal, of_file}
@@ -266,7 +267,7 @@ averages_at order files = and_then (bytes_at roles.Report order.report files) (�
 -- the packed state that the checkpoint of a name is, whose slots are all at one epoch
 unfoldable pub stand_at : Plan → List ℕ → Files → Result Stand Refusal
 stand_at plan name files =
-    and_then (bytes_at roles.Checkpoint name files) (λ bytes. told_as refused.Checkpoint (decoded plan 1000000000 bytes))
+    and_then (bytes_at roles.Checkpoint name files) (λ bytes. told_as refused.Checkpoint (decoded plan last_epoch bytes))
 
 -- the plan and the orders of a run, and then the state of a checkpoint of it
 unfoldable pub saved_at : LinesOrder → Files → Result SavedState Refusal

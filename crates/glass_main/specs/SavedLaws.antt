@@ -1,5 +1,6 @@
 -- What holds of the checkpoints whose link overlaps and correlation lines are printed.
 use Rattle.std.specs.Prelude.{◌≡◌, ℕ, ◌<◌, ◌≤◌, List, slice_index, Ok}
+use Rattle.spin_model.specs.Limits.{last_epoch}
 use Rattle.run_checkpoint.specs.Decoding.{decoded, IsEncoded}
 use Rattle.run_checkpoint.specs.Encoding.{encoding, AreBankStates}
 use Rattle.scalar_rule.specs.Plan.{Plan, IsLawfulPlan}
@@ -10,15 +11,15 @@ use Rattle.plane_sweep.specs.declared.stand.Stand.{Stand}
 -- bytes that are read are the encoding of the states that their packed state stands for, which fit and are in time
 abbrev pub ReadStatesAreEncoded : Type 0
 ReadStatesAreEncoded = (plan : Plan) (bytes : List ℕ) (base : Stand) → IsLawfulPlan plan → ((i : ℕ) → slice_index bytes i < 256)
-    → decoded plan 1000000000 bytes ≡ Ok base → IsEncoded plan 1000000000 bytes base
+    → decoded plan last_epoch bytes ≡ Ok base → IsEncoded plan last_epoch bytes base
 
 -- a packed state is read of the bytes that stands for the states
 pub record IsRead (plan : Plan) (states : ℕ → Sample) (bytes : List ℕ) : Type 0 where
   pub base : Stand
-  pub read : decoded plan 1000000000 bytes ≡ Ok base
+  pub read : decoded plan last_epoch bytes ≡ Ok base
   pub stands : StandsFor plan states base
 
 -- the encoding of states that fit at an epoch in time is read as them
 abbrev pub EncodedStatesAreRead : Type 0
-EncodedStatesAreRead = (plan : Plan) (states : ℕ → Sample) → IsLawfulPlan plan → AreBankStates plan states → (states 0).epoch ≤ 1000000000
+EncodedStatesAreRead = (plan : Plan) (states : ℕ → Sample) → IsLawfulPlan plan → AreBankStates plan states → (states 0).epoch ≤ last_epoch
     → IsRead plan states (encoding plan states)

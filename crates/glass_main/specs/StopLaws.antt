@@ -1,5 +1,6 @@
 -- What holds of runs that stop and are gone on with: they add up to one run.
 use Rattle.std.specs.Prelude.{◌≡◌, ◌⊎◌, ℕ, ◌<◌, ◌≤◌, if◌then◌else◌, List, [], ◌∷◌, ◌++◌, slice_index, Ok}
+use Rattle.spin_model.specs.Limits.{last_epoch}
 use Rattle.report_text.specs.Lines.{header_line, end_line}
 use Rattle.run_checkpoint.specs.Encoding.{encoding, AreBankStates}
 use Rattle.run_plan.specs.RunFile.{AreLawfulOrders}
@@ -30,7 +31,7 @@ AcceptedCheckpointsAreEncodings = (planned : Planned) (until : ℕ) (bytes : Lis
 
 -- what a run saved that stopped is what the next one goes on from
 abbrev pub SavedStopsAreRead : Type 0
-SavedStopsAreRead = (planned : Planned) (until : ℕ) (came : RaggedStand) → IsLawfulPlan planned.plan → AreLawfulOrders planned.orders → until ≤ 1000000000
+SavedStopsAreRead = (planned : Planned) (until : ℕ) (came : RaggedStand) → IsLawfulPlan planned.plan → AreLawfulOrders planned.orders → until ≤ last_epoch
     → RaggedStandFits planned.plan planned.orders.samples planned.orders.every came → deepest_of (positions_of came) ≤ until
     → resumed_by planned until (stopped_checkpoint planned came) ≡ Ok (Uneven came)
 

@@ -9,6 +9,7 @@ ghost use Rattle.glass_main.specs.Words.{texts};
 
 use crate::command_line::read_numbers;
 use crate::words::{name_word, number_word, word_at};
+use spin_model::MOST_SWEEPS;
 
 /// What `age` asks for: the name of the run file, the sweeps after which the spins are kept, and the
 /// times, in sweeps from there on, at which they are compared with what they are then.
@@ -28,7 +29,7 @@ pub(crate) fn read_age(words: &[String]) -> Option<AgeOrder<'_>>
     ensures lawful { IfSome result IsLawfulAge }
 {
     let run = name_word(word_at(words, 1))?;
-    let wait = number_word(word_at(words, 2), 0, 1000000)?;
+    let wait = number_word(word_at(words, 2), 0, MOST_SWEEPS)?;
     let count = number_word(word_at(words, 3), 1, 32)? as usize;
     if words.len() != 4 + count {
         return None;
@@ -62,7 +63,7 @@ fn fill_times(words: &[String], times: &mut [u64]) -> bool
     ensures value { times_of (length times.old) (texts words.now) ≡ (if result then Some times.new else None) }
     ensures lawful { result ≡ true → AreTimes times.new }
 {
-    if !read_numbers(words, 4, 1000000, times) {
+    if !read_numbers(words, 4, MOST_SWEEPS, times) {
         return false;
     }
     rises(times)

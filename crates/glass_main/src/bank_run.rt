@@ -3,6 +3,7 @@
 ghost use Rattle.std.specs.Prelude.{◌≡◌, ℕ, ◌*◌, ◌<◌, ◌≤◌, List, length, map, None, Some, Ok, IfSome, IfOk, IfErr, option_map};
 ghost use Rattle.std.specs.Arc.{arc_value};
 ghost use Rattle.glass_edges.specs.Refusals.{unless};
+ghost use Rattle.spin_model.specs.Limits.{last_epoch, most_rows};
 ghost use Rattle.glass_engine.specs.BankLaws.{BanksReportIsSerial, BanksCheckpointIsSerial};
 ghost use Rattle.run_checkpoint.specs.BankEncoding.{BanksStand, HaveShape};
 ghost use Rattle.run_plan.specs.Amounts.{recorded_epochs};
@@ -76,7 +77,7 @@ fn open_run(
     order: &RunOrder<'_>,
 ) -> Result<OpenedBanks, Ending>
     requires stands { AreResumable planned.plans until stands }
-    requires until { until ≤ 1000000000 }
+    requires until { until ≤ last_epoch }
     requires order { IsLawfulOrder order.now }
     ensures accepted { IfOk result (λ opened.
         banks_amount_refusal planned.plans planned.orders (stands_at stands) until ≡ None) }
@@ -112,10 +113,10 @@ fn check_banks_amount(
     requires few_samples { orders.now.samples ≤ 256 }
     requires some_every { 1 ≤ orders.now.every }
     requires window { from ≤ until }
-    requires until { until ≤ 1000000000 }
+    requires until { until ≤ last_epoch }
     ensures exact { result ≡ unless (banks_amount_refusal (map arc_value plans.now) orders.now from until) tt }
     ensures rows { (size slots : ℕ) → HaveShape size slots (map arc_value plans.now) → IfOk result (λ _.
-        orders.now.samples * slots * recorded_epochs orders.now.every from until ≤ 4194304) }
+        orders.now.samples * slots * recorded_epochs orders.now.every from until ≤ most_rows) }
     ensures slots { (size slots : ℕ) → HaveShape size slots (map arc_value plans.now) → 1 ≤ slots }
 {
     let plan: &Plan = &plans[0];

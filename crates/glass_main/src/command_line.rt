@@ -1,6 +1,7 @@
 //! The command that the words after the program's name ask for.
 
 ghost use Rattle.std.specs.Prelude.{◌≡◌, ℕ, ◌+◌, ◌<◌, ◌≤◌, ◌^◌, length, take, option_map, Some, None, IfSome, if◌then◌else◌};
+ghost use Rattle.spin_model.specs.Limits.{certain, greatest_demo};
 ghost use Rattle.glass_main.specs.CommandLine.{command_of, plain_order, check_name, demo_number};
 ghost use Rattle.glass_main.specs.ReadCommand.{read_command, read_order, IsLawfulCommand};
 ghost use Rattle.glass_main.specs.Words as model;
@@ -13,6 +14,7 @@ use crate::potts_words::{PottsOrder, read_potts};
 use crate::run_words::{RunOrder, read_run};
 use crate::words::{name_word, number_word, word_at};
 use lattice_geometry::Lattice;
+use spin_model::{CERTAIN, GREATEST_DEMO, MOST_SWEEPS};
 
 /// What `plain` asks for: the lattice, the number of sweeps, the seed, and the seven thresholds,
 /// each a probability times 2^32.
@@ -94,12 +96,12 @@ fn read_check(words: &[String]) -> Option<&str>
 #[tactic(auto, unfolding(crate::specs::CommandLine::demo_number))]
 fn read_demo(words: &[String]) -> Option<u64>
     ensures value { result ≡ demo_number (texts words.now) }
-    ensures lawful { IfSome result (λ n. n ≤ 1000000) }
+    ensures lawful { IfSome result (λ n. n ≤ greatest_demo) }
 {
     if words.len() != 2 {
         return None;
     }
-    number_word(word_at(words, 1), 0, 1000000)
+    number_word(word_at(words, 1), 0, GREATEST_DEMO)
 }
 
 // The words of `plain`.
@@ -111,7 +113,7 @@ fn read_plain(words: &[String]) -> Option<PlainOrder>
         return None;
     }
     let lattice = size_word(word_at(words, 1))?;
-    let sweeps = number_word(word_at(words, 2), 0, 1000000)? as u32;
+    let sweeps = number_word(word_at(words, 2), 0, MOST_SWEEPS)? as u32;
     let seed = number_word(word_at(words, 3), 0, 9223372036854775807)?;
     let thresholds = threshold_words(words)?;
     Some(PlainOrder {
@@ -132,10 +134,10 @@ pub(crate) fn size_word(text: &str) -> Option<Lattice>
 
 // The seven thresholds.
 fn threshold_words(words: &[String]) -> Option<[u64; 7]>
-    ensures { result ≡ model.number_words 0 (2 ^ 32) (texts words.now) 4 7 }
+    ensures { result ≡ model.number_words 0 certain (texts words.now) 4 7 }
 {
     let mut values = [0u64; 7];
-    if read_numbers(words, 4, 4294967296, &mut values) {
+    if read_numbers(words, 4, CERTAIN, &mut values) {
         Some(values)
     } else {
         None

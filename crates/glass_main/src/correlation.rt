@@ -23,10 +23,8 @@ use plain_list::Items;
 use plane_sweep::Stand;
 use run_checkpoint::{CheckpointRefused, decode};
 use scalar_rule::Plan;
+use spin_model::LAST_EPOCH;
 use std::alloc::Global;
-
-/// No checkpoint that is read may be past it.
-const LAST_EPOCH: u64 = 1000000000;
 
 /// Reads the run file and the checkpoint of an order, and prints the sums of its state.
 pub(crate) fn correlation_lines<H: Shelf, O: Sink>(

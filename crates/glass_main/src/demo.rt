@@ -4,6 +4,7 @@ ghost use Rattle.std.specs.Prelude.{◌≡◌, ◌≤◌, Some, IfOk, OnOk, OnEr
 ghost use Rattle.std.specs.Arc.{arc_value};
 ghost use Rattle.glass_edges.specs.Causes.{HasCause};
 ghost use Rattle.glass_edges.specs.Contents.{appended, AppendsPrefix};
+ghost use Rattle.spin_model.specs.Limits.{greatest_demo};
 ghost use Rattle.glass_main.specs.CommandLine as commands;
 ghost use Rattle.glass_main.specs.DemoRun.{IsDemoRun};
 ghost use Rattle.glass_main.specs.Outside.{output, store};
@@ -35,7 +36,7 @@ pub(crate) fn demo<R: Threads + Wait + Sync, H: Shelf, O: Sink, G: Gate + Sync>(
     gate: &G,
     n: u64,
 ) -> Ending
-    requires { n ≤ 1000000 }
+    requires { n ≤ greatest_demo }
     ensures ends { Ends (Some (commands.Demo n)) result
         (store H.holds H.faults H.lengths _shelf.old) (store H.holds H.faults H.lengths _shelf.new)
         (output O.taken O.faults out.old) (output O.taken O.faults out.new) }
@@ -53,7 +54,7 @@ pub(crate) fn demo<R: Threads + Wait + Sync, H: Shelf, O: Sink, G: Gate + Sync>(
 
 // Opens the run of a number, from random spins; no checkpoint of it is saved.
 fn open_demo(alloc: Global, n: u64) -> Result<Opened, NoMemory>
-    requires { n ≤ 1000000 }
+    requires { n ≤ greatest_demo }
     ensures share { IfOk result (λ opened. arc_value opened.plan ≡ opened.run.plan) }
     ensures run { IfOk result (λ opened. IsDemoRun n opened.run) }
 {

@@ -1,6 +1,7 @@
 //! The words of `potts`.
 
 ghost use Rattle.std.specs.Prelude.{◌≡◌, ◌^◌, option_map, IfSome};
+ghost use Rattle.spin_model.specs.Limits.{certain};
 ghost use Rattle.glass_main.specs.PottsWords as potts;
 ghost use Rattle.glass_main.specs.PottsWords.{potts_order};
 ghost use Rattle.glass_main.specs.ReadPotts.{read_potts_order, IsLawfulPotts};
@@ -11,6 +12,7 @@ use crate::command_line::{read_numbers, size_word};
 use crate::words::{number_word, word_at};
 use lattice_geometry::Lattice;
 use potts_glass::{PottsRow, PottsStart};
+use spin_model::{CERTAIN, MOST_SWEEPS};
 
 /// The couplings of a Potts glass.
 #[derive(Clone, Copy, Debug, PartialEq, Eq)]
@@ -44,7 +46,7 @@ pub(crate) fn read_potts(words: &[String]) -> Option<PottsOrder>
         return None;
     }
     let lattice = size_word(word_at(words, 1))?;
-    let sweeps = number_word(word_at(words, 2), 0, 1000000)? as u32;
+    let sweeps = number_word(word_at(words, 2), 0, MOST_SWEEPS)? as u32;
     let seed = number_word(word_at(words, 3), 0, 9223372036854775807)?;
     let samples = number_word(word_at(words, 4), 1, 64)? as u32;
     let couplings = couplings_word(word_at(words, 5))?;
@@ -89,10 +91,10 @@ fn start_word(word: &str) -> Option<PottsStart>
 
 // The six thresholds.
 fn row_words(words: &[String]) -> Option<PottsRow>
-    ensures { option_map (λ row. row.values) result ≡ model.number_words 0 (2 ^ 32) (texts words.now) 7 6 }
+    ensures { option_map (λ row. row.values) result ≡ model.number_words 0 certain (texts words.now) 7 6 }
 {
     let mut values = [0u64; 6];
-    if read_numbers(words, 7, 4294967296, &mut values) {
+    if read_numbers(words, 7, CERTAIN, &mut values) {
         Some(PottsRow { values })
     } else {
         None

@@ -1,6 +1,7 @@
 //! What a run starts from: the opening states of its samples, or those of a checkpoint.
 
 ghost use Rattle.std.specs.Prelude.{◌≡◌, ◌≤◌, option_map, Some, IfOk};
+ghost use Rattle.spin_model.specs.Limits.{last_epoch};
 ghost use Rattle.plane_sweep.specs.Packed.{StandFits, StandsFor};
 ghost use Rattle.run_plan.specs.RunFile.{AreLawfulOrders};
 ghost use Rattle.scalar_rule.specs.Opening.{opening};
@@ -30,7 +31,7 @@ pub(crate) fn gather_base<H: Shelf>(
     name: Option<&str>,
 ) -> Result<RaggedStand, Ending>
     requires orders { AreLawfulOrders planned.now.orders }
-    requires until { until ≤ 1000000000 }
+    requires until { until ≤ last_epoch }
     ensures asked { Begins (name_bytes name.entry) (IsBaseOf planned.now.plan)
         (option_map (model.beginning_at (name_bytes name.entry) planned.now until) (H.holds shelf.old))
         result (store H.holds H.faults H.lengths shelf.old) (store H.holds H.faults H.lengths shelf.new) }
@@ -75,7 +76,7 @@ fn gather_checkpoint<H: Shelf>(
     name: &str,
 ) -> Result<RaggedStand, Ending>
     requires orders { AreLawfulOrders planned.now.orders }
-    requires until { until ≤ 1000000000 }
+    requires until { until ≤ last_epoch }
     ensures asked { Begins (Some name.now) (IsBaseOf planned.now.plan)
         (option_map (model.checkpoint_at planned.now until name.now) (H.holds shelf.old))
         result (store H.holds H.faults H.lengths shelf.old) (store H.holds H.faults H.lengths shelf.new) }
@@ -91,7 +92,7 @@ fn gather_checkpoint<H: Shelf>(
 // The state that the bytes of a checkpoint are, or why they are refused.
 fn decode(alloc: Global, planned: &Planned, until: u64, bytes: &[u8]) -> Result<RaggedStand, Ending>
     requires orders { AreLawfulOrders planned.now.orders }
-    requires until { until ≤ 1000000000 }
+    requires until { until ≤ last_epoch }
     ensures read { Resumes (IsBaseOf planned.now.plan) (resumed_by planned.now until bytes.now) result }
     ensures resumable { IfOk result (IsResumable planned.now until) }
 {

@@ -3,6 +3,7 @@
 
 ghost use Rattle.std.specs.Prelude.{◌≡◌, ℕ, ◌≤◌, None, Some, Ok, IfSome, IfOk, IfErr, option_map, unwrap_or};
 ghost use Rattle.std.specs.Arc.{arc_value};
+ghost use Rattle.spin_model.specs.Limits.{last_epoch, most_rows};
 ghost use Rattle.plane_sweep.specs.Uneven.{positions_of};
 ghost use Rattle.run_plan.specs.Amounts.{amount_refusal, row_count};
 ghost use Rattle.run_plan.specs.RunFile.{AreLawfulOrders};
@@ -103,9 +104,9 @@ fn run_one<R: Threads + Wait + Sync, H: Shelf, O: Sink, G: Gate + Sync>(
 /// The epoch at which a run ends.
 pub(crate) fn until_of(order: &RunOrder<'_>, orders: &Orders) -> u64
     requires order { IsLawfulOrder order.now }
-    requires epochs { orders.now.epochs ≤ 1000000000 }
+    requires epochs { orders.now.epochs ≤ last_epoch }
     ensures value { result ≡ unwrap_or order.now.until orders.now.epochs }
-    ensures within { result ≤ 1000000000 }
+    ensures within { result ≤ last_epoch }
 {
     order.until.unwrap_or(orders.epochs)
 }
@@ -120,7 +121,7 @@ fn open_run(
 ) -> Result<Opened, Ending>
     requires orders { AreLawfulOrders planned.orders }
     requires base { IsResumable planned until base }
-    requires until { until ≤ 1000000000 }
+    requires until { until ≤ last_epoch }
     requires order { IsLawfulOrder order.now }
     ensures accepted { IfOk result (λ opened. amount_refusal planned.plan planned.orders (floor_of (positions_of base)) until ≡ None) }
     ensures opened { IfOk result (IsOpened planned base until order.now.stop_after (name_bytes order.now.save)) }
@@ -140,7 +141,7 @@ fn open_run(
 // The least epoch that all slots have completed.
 fn floor_of(planned: &Planned, base: &RaggedStand, until: u64) -> u64
     requires base { IsResumable planned.now until base.now }
-    requires until { until ≤ 1000000000 }
+    requires until { until ≤ last_epoch }
     ensures value { result ≡ floor_of (positions_of base.now) }
     ensures within { result ≤ until }
 {
@@ -159,8 +160,8 @@ fn open_planned(
 ) -> Result<Opened, NoMemory>
     requires orders { AreLawfulOrders planned.orders }
     requires base { IsResumable planned until base }
-    requires until { until ≤ 1000000000 }
-    requires rows { row_count planned.plan planned.orders (floor_of (positions_of base)) until ≤ 4194304 }
+    requires until { until ≤ last_epoch }
+    requires rows { row_count planned.plan planned.orders (floor_of (positions_of base)) until ≤ most_rows }
     requires order { IsLawfulOrder order.now }
     ensures { IfOk result (IsOpened planned base until order.now.stop_after (name_bytes order.now.save)) }
 {

@@ -6,6 +6,7 @@ ghost use Rattle.glass_main.specs.ReadCommand.{name_bytes, read_run_order, read_
 ghost use Rattle.glass_main.specs.Words.{texts};
 
 use crate::words::{is_file_name, number_word, word_at};
+use spin_model::LAST_EPOCH;
 
 /// What `run` asks for.
 #[derive(Clone, Copy)]
@@ -209,7 +210,7 @@ fn with_until<'a>(said: RunWords<'a>, value: &str) -> Option<RunWords<'a>>
     if said.until.is_some() {
         return None;
     }
-    let until = number_word(value, 0, 1000000000)?;
+    let until = number_word(value, 0, LAST_EPOCH)?;
     Some(RunWords {
         waiting: None,
         until: Some(until),
