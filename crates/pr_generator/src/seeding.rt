@@ -1,13 +1,11 @@
 //! The words of a labelled generator, by SHA-256 of the seed and the label.
 
-ghost use Rattle.std.specs.Prelude.{◌≡◌, ℕ, ◌++◌, List, length, take, flat_map};
-ghost use Rattle.byteorder.specs.Endian.{big_bytes};
-ghost use Rattle.sha2.specs.Hashers.{Holds256};
+ghost use Rattle.std.specs.Prelude.{◌≡◌, length, take, flat_map};
 ghost use Rattle.sha2.specs.Sha256.{sha256};
 ghost use Rattle.spin_model.specs.Seeding.{block_message, digest_words, seeded};
 ghost use Rattle.spin_model.specs.Steps.{table};
 
-use byteorder::{BigEndian, ByteOrder};
+use crate::hashing::{add_u32, add_u64};
 use sha2::{Digest, Sha256};
 
 /// The 61 words that the generator with this seed and label begins with.
@@ -39,24 +37,13 @@ fn block_digest(seed: u64, kind: u32, a: u32, b: u32, c: u32, j: u32) -> [u8; 32
     ensures { result ≡ sha256 (block_message seed kind a b c j) }
 {
     let mut hasher = Sha256::new();
-    let mut bytes = [0u8; 8];
-    BigEndian::write_u64(&mut bytes, seed);
-    hasher.update(&bytes);
-    update_with(&mut hasher, kind);
-    update_with(&mut hasher, a);
-    update_with(&mut hasher, b);
-    update_with(&mut hasher, c);
-    update_with(&mut hasher, j);
+    add_u64(&mut hasher, seed);
+    add_u32(&mut hasher, kind);
+    add_u32(&mut hasher, a);
+    add_u32(&mut hasher, b);
+    add_u32(&mut hasher, c);
+    add_u32(&mut hasher, j);
     hasher.finalize()
-}
-
-// Adds a number as its four big-endian bytes.
-fn update_with(hasher: &mut Sha256, number: u32)
-    ensures { (m : List ℕ) → Holds256 hasher.old m → Holds256 hasher.new (m ++ big_bytes 4 number) }
-{
-    let mut bytes = [0u8; 4];
-    BigEndian::write_u32(&mut bytes, number);
-    hasher.update(&bytes);
 }
 
 // The eight big-endian words of a digest.

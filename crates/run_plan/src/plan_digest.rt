@@ -2,15 +2,14 @@
 
 ghost use Rattle.std.specs.Prelude.{◌≡◌, ℕ, ◌<◌, ◌≤◌, ◌++◌, List, length, map, flat_map};
 ghost use Rattle.std.specs.Arc.{arc_value};
-ghost use Rattle.byteorder.specs.Endian.{big_bytes};
 ghost use Rattle.sha2.specs.Hashers.{Holds256};
 ghost use Rattle.sha2.specs.Sha256.{sha256};
 ghost use Rattle.threshold_table.specs.Tables.{cases_of, thresholds_of, entries_of};
 ghost use Rattle.scalar_rule.specs.Plan.{slots_of};
 ghost use Rattle.run_plan.specs.CanonicalPlan as model;
 
-use byteorder::{BigEndian, ByteOrder};
 use coupling_set::Couplings;
+use pr_generator::{add_u32, add_u64};
 use scalar_rule::Plan;
 use sha2::{Digest, Sha256};
 use std::alloc::Global;
@@ -87,24 +86,6 @@ fn cases(kind: RuleKind) -> usize
         RuleKind::Heat => 7,
         RuleKind::Metropolis => 3,
     }
-}
-
-// Adds a number as four bytes to the message that a hasher holds.
-fn add_u32(hasher: &mut Sha256, number: u32)
-    ensures { (m : List ℕ) → Holds256 hasher.old m → Holds256 hasher.new (m ++ big_bytes 4 number) }
-{
-    let mut bytes = [0u8; 4];
-    BigEndian::write_u32(&mut bytes, number);
-    hasher.update(&bytes);
-}
-
-// Adds a number as eight bytes.
-fn add_u64(hasher: &mut Sha256, number: u64)
-    ensures { (m : List ℕ) → Holds256 hasher.old m → Holds256 hasher.new (m ++ big_bytes 8 number) }
-{
-    let mut bytes = [0u8; 8];
-    BigEndian::write_u64(&mut bytes, number);
-    hasher.update(&bytes);
 }
 
 // Adds the header.
