@@ -1,13 +1,13 @@
 //! The spin rules on one word: the count of the six bits picks for each sample one of the cases, each
 //! of which has been compared with the draw once for all samples.
 
-ghost use Rattle.std.specs.Prelude.{◌≡◌, ℕ, ◌<◌, ◌||◌, not, nat_lt, if◌then◌else◌};
+ghost use Rattle.std.specs.Prelude.{◌≡◌, ℕ, ◌<◌, ◌||◌, not, if◌then◌else◌};
 ghost use Rattle.multispin_word.specs.Planes.{is_set};
 ghost use Rattle.spin_model.specs.SiteRule as rule;
 ghost use Rattle.local_rule.specs.SiteBits.{set_count};
 
 use bit_compare::count6;
-use multispin_word::{broadcast, choose};
+use multispin_word::{below, choose};
 use threshold_table::RuleRow;
 
 /// The new spins of a site by heat bath, one bit a sample, 1 for +1.
@@ -48,14 +48,6 @@ pub fn metropolis(draw: u32, row: &RuleRow, satisfied: &[u64; 6], spin: u64) -> 
     let four_five = choose(ones, below(draw, cases[1]), below(draw, cases[0]));
     let accepted = choose(twos, below(draw, cases[2]), four_five);
     flipped(spin, fours, accepted)
-}
-
-/// All samples where the draw is below the threshold, else none.
-#[inline]
-fn below(draw: u32, threshold: u64) -> u64
-    ensures { (b : ℕ) → b < 64 → is_set result b ≡ nat_lt draw threshold }
-{
-    broadcast((draw as u64) < threshold)
 }
 
 /// The other spin, but the old one where the flip costs energy and is not accepted.

@@ -1,6 +1,6 @@
 //! One bit of each of 64 samples in a word.
 
-ghost use Rattle.std.specs.Prelude.{◌≡◌, ℕ, ◌<◌, ◌==◌, if◌then◌else◌};
+ghost use Rattle.std.specs.Prelude.{◌≡◌, ℕ, ◌/◌, ◌%◌, ◌<◌, ◌==◌, nat_lt, if◌then◌else◌, [], ◌∷◌, slice_index};
 ghost use Rattle.multispin_word.specs.Planes.{is_set};
 
 /// The bit of one sample, below 64.
@@ -27,6 +27,23 @@ pub fn broadcast(value: bool) -> u64
     ensures { (b : ℕ) → b < 64 → is_set result b ≡ value }
 {
     if value { u64::MAX } else { 0 }
+}
+
+/// All samples where the draw is below the threshold, else none.
+#[inline]
+pub fn below(draw: u32, threshold: u64) -> u64
+    ensures { (b : ℕ) → b < 64 → is_set result b ≡ nat_lt draw threshold }
+{
+    broadcast((draw as u64) < threshold)
+}
+
+/// The word of 64 bits with these low and high halves.
+#[inline]
+pub fn joined(low: u32, high: u32) -> u64
+    ensures { (b : ℕ) → b < 64
+        → is_set result b ≡ is_set (slice_index (low ∷ high ∷ []) (b / 32)) (b % 32) }
+{
+    ((high as u64) << 32) + low as u64
 }
 
 /// Swaps the bits of the samples in the mask, and keeps the others.

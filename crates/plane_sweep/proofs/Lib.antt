@@ -1,7 +1,6 @@
 pub mod Empties
 pub mod Gathering
 pub mod PlaneSites
-pub mod Halves
 pub mod PartSpins
 pub mod Labels
 pub mod SampleParts

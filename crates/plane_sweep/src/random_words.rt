@@ -1,6 +1,6 @@
 //! The words of a plane at a random start.
 
-ghost use Rattle.std.specs.Prelude.{◌≡◌, ℕ, ◌+◌, ◌*◌, ◌/◌, ◌%◌, ◌<◌, IfOk, [], ◌∷◌, length, slice_index};
+ghost use Rattle.std.specs.Prelude.{◌≡◌, ℕ, ◌+◌, ◌*◌, ◌/◌, ◌%◌, ◌<◌, IfOk, length, slice_index};
 ghost use Rattle.plane_sweep.specs.Beginnings.{site_of, ArePlaneWords, HasDraws};
 ghost use Rattle.spin_model.specs.Lattice.{half_plane};
 ghost use Rattle.spin_model.specs.Stream.{advanced, draws};
@@ -8,6 +8,7 @@ ghost use Rattle.spin_model.specs.Words.{is_set};
 
 use glass_edges::NoMemory;
 use lattice_geometry::Lattice;
+use multispin_word::joined;
 use plain_list::Items;
 use pr_generator::Wheel;
 use std::alloc::Global;
@@ -71,11 +72,4 @@ fn word_by(lattice: &Lattice, draws: &[u32], colour: u32, z: u32, k: u32) -> u64
     let site = lattice.from_compact(colour * (size * half_plane) + z * half_plane + k);
     let first = 2 * (site % (size * size)) as usize;
     joined(draws[first], draws[first + 1])
-}
-
-// The word of 64 bits with these low and high halves.
-fn joined(low: u32, high: u32) -> u64
-    ensures { (b : ℕ) → b < 64 → is_set result b ≡ is_set (slice_index (low ∷ high ∷ []) (b / 32)) (b % 32) }
-{
-    ((high as u64) << 32) + low as u64
 }

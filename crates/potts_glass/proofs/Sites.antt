@@ -1,9 +1,8 @@
 -- The colours of a sample, site by site.
-use Rattle.std.proofs.Common.{inl, inr, ◌≡◌, ℕ, zero, suc, ◌+◌, ◌-◌, ◌*◌, ◌/◌, ◌%◌, ◌^◌, ◌<◌, ◌≤◌, ◌==◌, Bool, true, false, List, [], ◌∷◌, ◌++◌, length, get_or, set, subst, refl, sym, ap, ◌∙◌, arith}
+use Rattle.std.proofs.Common.{inl, inr, ◌≡◌, ℕ, zero, suc, ◌+◌, ◌-◌, ◌*◌, ◌/◌, ◌%◌, ◌<◌, ◌≤◌, ◌==◌, Bool, true, false, List, [], ◌∷◌, ◌++◌, length, get_or, set, subst, refl, sym, ap, ◌∙◌, arith}
 use Rattle.std.proofs.lemmas.Bool.{cases_lt, cases_eq}
 use Rattle.std.proofs.lemmas.List.{get_or_append_left, get_or_at, get_or-set_same, get_or-set_other, length-set}
-use Rattle.std.proofs.lemmas.Nat.{shl_whole}
-use Rattle.std.proofs.lemmas.Nat.Bits.{bit_at-zero, bit_at_cat_low, bit_at_cat_high}
+use Rattle.std.proofs.lemmas.Nat.Bits.{bit_at-zero}
 use Rattle.spin_model.specs.Lattice.{volume, bond, forward}
 use Rattle.spin_model.specs.Steps.{table, count_below}
 use Rattle.spin_model.specs.Words.{is_set, one_if}
@@ -66,34 +65,6 @@ pub count-most : (t : ℕ → Bool) (n : ℕ) → count_below t n ≤ n
 unfolding count_below
 count-most t zero = omega arith
 count-most t (suc n) = omega (arith, count-most t n, one_if-most (t n))
-
--- a word of 64 bits from two of 32
-pub is_set-joined : (low high b : ℕ) → low < 2 ^ 32 → high < 2 ^ 32 → b < 64
-    → is_set (high * 2 ^ 32 % 2 ^ 64 + low) b ≡ is_set (get_or (low ∷ high ∷ []) (b / 32) 0) (b % 32)
-is_set-joined low high b low_fits high_fits below =
-    let whole = shl_whole high 32 32 64 high_fits (omega arith) in
-    ap (λ w. is_set (w + low) b) whole ∙ elim (cases_lt b 32) [
-      | inl less ↦
-          let word : b / 32 ≡ 0 = omega arith in
-          let place : b % 32 ≡ b = omega arith in
-          ap (λ n. n == 1) (bit_at_cat_low high 32 low b less) ∙ rw (word, place) refl
-      | inr more ↦
-          let word : b / 32 ≡ 1 = omega arith in
-          let place : b % 32 ≡ b - 32 = omega arith in
-          ap (λ n. n == 1) (bit_at_cat_high high 32 low b low_fits (omega arith)) ∙ rw (word, place) refl
-    ]
-
--- one of two neighbours in a list
-pub half-of_pair : (xs : List ℕ) (n b : ℕ) → b < 64 → get_or (get_or xs n 0 ∷ get_or xs (n + 1) 0 ∷ []) (b / 32) 0 ≡ get_or xs (n + b / 32) 0
-half-of_pair xs n b below = elim (cases_lt b 32) [
-  | inl less ↦
-      let word : b / 32 ≡ 0 = omega arith in
-      let place : n + 0 ≡ n = omega arith in
-      rw (word, place) refl
-  | inr more ↦
-      let word : b / 32 ≡ 1 = omega arith in
-      rw word refl
-]
 
 -- the first colour of a generator that has given n times four draws is the colour of site n
 pub random_colour-advanced : (w v : List ℕ) (b n : ℕ) → v ≡ advanced w (4 * n) → random_colour v b 0 ≡ random_colour w b n

@@ -1,15 +1,15 @@
 //! The colours and the generators at the start.
 
-ghost use Rattle.std.specs.Prelude.{◌≡◌, ℕ, ◌*◌, ◌/◌, ◌%◌, ◌<◌, IfOk, [], ◌∷◌, length, slice_index};
+ghost use Rattle.std.specs.Prelude.{◌≡◌, ℕ, ◌*◌, ◌<◌, IfOk, length};
 ghost use Rattle.spin_model.specs.Lattice.{volume};
 ghost use Rattle.spin_model.specs.Steps.{table};
 ghost use Rattle.spin_model.specs.Stream.{advanced};
-ghost use Rattle.spin_model.specs.Words.{is_set};
 ghost use Rattle.potts_glass.specs.PackedColours.{colour_in, colours_of};
 ghost use Rattle.potts_glass.specs.PottsStates as model;
 
 use glass_edges::NoMemory;
 use lattice_geometry::Lattice;
+use multispin_word::joined;
 use plain_list::Items;
 use pr_generator::Wheel;
 use std::alloc::Global;
@@ -88,14 +88,6 @@ fn random_site(wheel: &mut Wheel) -> [u64; 2]
     let mut draws = [0u32; 4];
     wheel.fill(&mut draws);
     [joined(draws[0], draws[1]), joined(draws[2], draws[3])]
-}
-
-// The word of 64 bits with these low and high halves.
-fn joined(low: u32, high: u32) -> u64
-    ensures { (b : ℕ) → b < 64
-        → is_set result b ≡ is_set (slice_index (low ∷ high ∷ []) (b / 32)) (b % 32) }
-{
-    ((high as u64) << 32) + low as u64
 }
 
 /// The generators of the sweeps: the one at `class * L + z` serves that checkerboard class in plane

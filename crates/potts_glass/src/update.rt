@@ -1,13 +1,13 @@
 //! The update of one site in all samples.
 
-ghost use Rattle.std.specs.Prelude.{◌≡◌, ℕ, ◌<◌, ◌≤◌, ◌==◌, not, nat_lt, if◌then◌else◌};
+ghost use Rattle.std.specs.Prelude.{◌≡◌, ℕ, ◌<◌, ◌≤◌, ◌==◌, not, if◌then◌else◌};
 ghost use Rattle.bit_compare.specs.Counting.{difference_modulo};
 ghost use Rattle.multispin_word.specs.Planes.{number, is_set};
 ghost use Rattle.potts_glass.specs.Potts as model;
 ghost use Rattle.potts_glass.specs.PackedColours.{colour_in, seen};
 
 use bit_compare::{count6, subtract};
-use multispin_word::{Planes, broadcast, choose};
+use multispin_word::{Planes, below, broadcast, choose};
 
 /// The thresholds of the update at one temperature: `values[g - 1]` is the probability of a change
 /// that costs the energy g, times 2^32.
@@ -131,12 +131,4 @@ fn made(draw: u32, row: &PottsRow, gap: &[u64; 4]) -> u64
     let costs = &row.values;
     case_of!(gap: broadcast(true), below(draw, costs[0]), below(draw, costs[1]),
         below(draw, costs[2]), below(draw, costs[3]), below(draw, costs[4]), below(draw, costs[5]))
-}
-
-/// All samples where the draw is below the threshold, else none.
-#[inline]
-fn below(draw: u32, threshold: u64) -> u64
-    ensures { (b : ℕ) → b < 64 → is_set result b ≡ nat_lt draw threshold }
-{
-    broadcast((draw as u64) < threshold)
 }

@@ -1,7 +1,7 @@
 use Rattle.std.proofs.Common.{◌≡◌, ◌+◌, ◌*◌, ◌/◌, ◌%◌, get_or, ap, refl, ◌∙◌}
 use Rattle.spin_model.specs.Words.{is_set}
 use Rattle.plane_sweep.specs.Beginnings.{site_of}
-use Rattle.plane_sweep.proofs.Halves.{half-of_pair}
+use Rattle.multispin_word.proofs.Halves.{half-of_pair}
 use Rattle.plane_sweep.proofs.PlaneSites.{place-within}
 use Rattle.plane_sweep.proofs.random_words.word_by.Goals as goal
 

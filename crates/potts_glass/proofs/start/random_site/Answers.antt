@@ -3,7 +3,7 @@ use Rattle.multispin_word.proofs.Bits.{same-bit}
 use Rattle.spin_model.specs.Stream.{draw}
 use Rattle.spin_model.specs.Words.{is_set}
 use Rattle.spin_model.proofs.Tables.{get_or-table}
-use Rattle.potts_glass.proofs.Sites.{half-of_pair}
+use Rattle.multispin_word.proofs.Halves.{half-of_pair}
 use Rattle.potts_glass.proofs.start.random_site.Goals as goal
 
 pub returns-clause-colours : goal.returns-clause-colours
