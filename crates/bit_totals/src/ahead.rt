@@ -64,8 +64,10 @@ fn turn_row(out: &mut [u64], words: &[u64], start: usize, row: usize, step: usiz
     }
 }
 
+/// One row of the words, from a place on, turned by so many places. What is before it in `out`, which is
+/// as long as the words, stays.
 #[inline(always)]
-fn turn_from(out: &mut [u64], words: &[u64], start: usize, row: usize, step: usize)
+pub fn turn_from(out: &mut [u64], words: &[u64], start: usize, row: usize, step: usize)
     requires sized { length out.old ≡ length words.now }
     requires within { start + row ≤ length words.now }
     requires step { step ≤ row }

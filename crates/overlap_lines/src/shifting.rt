@@ -4,7 +4,7 @@ ghost use Rattle.std.specs.Prelude.{◌≡◌, ℕ, ◌+◌, ◌*◌, ◌/◌, �
 ghost use Rattle.overlap_lines.specs.Counted.{place_on, plane_on};
 ghost use Rattle.spin_model.specs.Lattice.{half_plane, IsLawfulSize};
 
-use bit_totals::turn;
+use bit_totals::{turn, turn_from};
 
 /// How many steps sites lie apart, and in which direction: 0 is x, 1 is y, 2 is z.
 #[derive(Clone, Copy)]
@@ -71,23 +71,6 @@ fn turn_rows(out: &mut [u64], words: &[u64], row: usize, distance: usize, parity
         ≡ slice_index words.now (y * row + (k + (distance + (parity + y) % 2) / 2) % row) }
 {
     'rows: for y in 0..2 * row {
-        turn_row(out, words, y * row, row, (distance + (parity + y) % 2) / 2);
+        turn_from(out, words, y * row, row, (distance + (parity + y) % 2) / 2);
     }
-}
-
-// One row, from a place on.
-#[inline]
-fn turn_row(out: &mut [u64], words: &[u64], start: usize, row: usize, step: usize)
-    requires sized { length out.old ≡ length words.now }
-    requires within { start + row ≤ length words.now }
-    requires step { step ≤ row }
-    ensures turned { (k : ℕ) → k < row
-        → slice_index out.new (start + k) ≡ slice_index words.now (start + (k + step) % row) }
-    ensures before { (j : ℕ) → j < start → slice_index out.new j ≡ slice_index out.old j }
-{
-    turn(
-        &mut out[start..start + row],
-        &words[start..start + row],
-        step,
-    );
 }
