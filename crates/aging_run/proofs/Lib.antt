@@ -1,6 +1,5 @@
 mod Kept
-mod Joined
-mod Putting
+mod Listed
 mod Times
 mod Slots
 mod SameTexts

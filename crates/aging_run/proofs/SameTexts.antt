@@ -9,7 +9,7 @@ use Rattle.scalar_rule.specs.declared.sample.PlainSlot.{PlainSlot}
 use Rattle.scalar_rule.specs.declared.sample.Sample.{Sample}
 use Rattle.aging_run.specs.Aging.{two_time_overlap, overlaps_at, header_line, end_line, replica_lines, slot_lines, aging_text}
 use Rattle.aging_run.specs.Laws.{TextIsOfTheStates}
-use Rattle.aging_run.proofs.Joined.{joined-same}
+use Rattle.spin_model.proofs.Joined.{joined-same}
 use Rattle.aging_run.proofs.Times.{lines-are}
 
 replica-lines-same : (plan : Plan) (samples wait : ℕ) (times : List ℕ) (slot copy : ℕ) (r s : ℕ → PlainCopy) → ((b : ℕ) → b < samples → r b ≡ s b)

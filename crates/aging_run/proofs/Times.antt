@@ -14,7 +14,7 @@ use Rattle.scalar_rule.specs.declared.plain_copy.PlainCopy.{PlainCopy}
 use Rattle.multispin_word.specs.Planes.{number}
 use Rattle.aging_run.specs.Aging.{AreTimes, spins_after, two_time_overlap, overlap_line, time_lines, overlaps_at}
 use Rattle.aging_run.specs.Measuring.{overlap_in}
-use Rattle.aging_run.proofs.Joined.{joined-same}
+use Rattle.spin_model.proofs.Joined.{joined-same}
 
 -- the time before number k, which is the quench's end for the first
 unfoldable pub time_before : List ℕ → ℕ → ℕ

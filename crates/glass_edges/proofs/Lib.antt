@@ -5,3 +5,4 @@ pub mod KnownBytes
 pub mod Maps
 pub mod Numerals
 pub mod Puts
+pub mod Putting

@@ -12,7 +12,7 @@ use Rattle.plane_sweep.specs.declared.replica.Duo.{Duo}
 use Rattle.plane_sweep.specs.declared.stand.Stand.{Stand}
 use Rattle.overlap_lines.specs.LineText.{header_line, link_line, line_line, direction_lines, slot_lines, sample_lines, lines_text}
 use Rattle.overlap_lines.specs.CountedText.{AreCounts, HaveCounts, counted_direction, counted_slot, counted_sample, counted_text}
-use Rattle.overlap_lines.proofs.Joined.{joined-same}
+use Rattle.spin_model.proofs.Joined.{joined-same}
 
 direction-is : (l b t d : ℕ) (duo : Duo) (counts : List (List ℕ)) → AreCounts l duo counts → b < 64 → d < 3
     → counted_direction l b t counts d ≡ direction_lines l b t (part_slot l b duo) d

@@ -1,5 +1,6 @@
 pub mod Stepping
 pub mod Tables
+pub mod Joined
 pub mod Streams
 pub mod Sites
 pub mod Colours

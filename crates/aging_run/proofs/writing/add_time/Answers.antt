@@ -1,7 +1,7 @@
 use Rattle.std.proofs.Common.{refl, ◌∙◌}
 use Rattle.glass_edges.proofs.Puts.{OnErr_of}
-use Rattle.aging_run.proofs.Joined.{joined-zero, joined-more, joined-at}
-use Rattle.aging_run.proofs.Putting.{add-none, add-more, add-failed}
+use Rattle.spin_model.proofs.Joined.{joined-zero, joined-more, joined-at}
+use Rattle.glass_edges.proofs.Putting.{add-none, add-more, add-failed}
 use Rattle.aging_run.proofs.writing.add_time.Goals as goal
 
 pub samples-init : goal.samples-init

@@ -1,7 +1,7 @@
 -- The three parts of the text, and where each fails.
 use Rattle.std.proofs.lemmas.Result.{on_ok_weaker, on_err_weaker}
 use Rattle.glass_edges.proofs.Puts.{OnErr_of}
-use Rattle.aging_run.proofs.Putting.{failed-first, failed-second, failed-third, put-three}
+use Rattle.glass_edges.proofs.Putting.{failed-first, failed-second, failed-third, put-three}
 use Rattle.aging_run.proofs.Slots.{text-is}
 use Rattle.aging_run.proofs.writing.write_aging.Goals as goal
 

@@ -3,8 +3,8 @@ use Rattle.glass_edges.specs.Contents.{appended, AppendsPrefix}
 use Rattle.glass_edges.proofs.Puts.{OnErr_of}
 use Rattle.scalar_rule.specs.declared.plain_copy.PlainCopy.{PlainCopy}
 use Rattle.spin_model.specs.Lattice.{volume}
-use Rattle.aging_run.proofs.Joined.{listed-more, listed-at}
-use Rattle.aging_run.proofs.Putting.{put-none, put-more, put-failed}
+use Rattle.aging_run.proofs.Listed.{listed-more, listed-at}
+use Rattle.glass_edges.proofs.Putting.{put-none, put-more, put-failed}
 use Rattle.aging_run.proofs.Times.{before-first, before-next, before-earlier, swept-same, swept-on, measured, HasSwept}
 use Rattle.aging_run.proofs.writing.write_replica.Goals as goal
 

@@ -2,8 +2,8 @@ use Rattle.std.proofs.Common.{◌<◌, length, refl, ◌∙◌, ap, subst, arith
 use Rattle.glass_edges.specs.Contents.{appended, AppendsPrefix}
 use Rattle.glass_edges.proofs.Puts.{OnErr_of}
 use Rattle.plane_sweep.proofs.Gathering.{changed-none, changed-more}
-use Rattle.aging_run.proofs.Joined.{joined-zero, joined-more, joined-at}
-use Rattle.aging_run.proofs.Putting.{put-none, put-more, put-failed}
+use Rattle.spin_model.proofs.Joined.{joined-zero, joined-more, joined-at}
+use Rattle.glass_edges.proofs.Putting.{put-none, put-more, put-failed}
 use Rattle.aging_run.proofs.Slots.{slot-read, slot-fits, slot-lines}
 use Rattle.aging_run.proofs.writing.write_slots.Goals as goal
 

@@ -7,8 +7,8 @@ use Rattle.glass_edges.proofs.Puts.{OnErr_of}
 use Rattle.spin_model.specs.Lattice.{volume}
 use Rattle.overlap_lines.specs.LineText.{line_line}
 use Rattle.overlap_lines.specs.CountedText.{sum_at}
-use Rattle.overlap_lines.proofs.Joined.{joined-zero, joined-more, joined-at}
-use Rattle.overlap_lines.proofs.Adding.{add-none, add-more, add-failed}
+use Rattle.spin_model.proofs.Joined.{joined-zero, joined-more, joined-at}
+use Rattle.glass_edges.proofs.Putting.{add-none, add-more, add-failed}
 use Rattle.overlap_lines.proofs.printing.add_direction.Goals as goal
 
 pub distances-init : goal.distances-init

@@ -4,8 +4,8 @@ use Rattle.glass_edges.specs.Contents.{AppendsPrefix, PutsFront}
 use Rattle.glass_edges.proofs.Puts.{OnErr_of}
 use Rattle.scalar_rule.specs.Plan.{slots_of}
 use Rattle.overlap_lines.specs.CountedText.{counted_slot}
-use Rattle.overlap_lines.proofs.Joined.{joined-zero, joined-more, joined-at}
-use Rattle.overlap_lines.proofs.Adding.{add-none, add-more, add-failed}
+use Rattle.spin_model.proofs.Joined.{joined-zero, joined-more, joined-at}
+use Rattle.glass_edges.proofs.Putting.{add-none, add-more, add-failed}
 use Rattle.overlap_lines.proofs.printing.add_sample.Goals as goal
 
 pub slots-init : goal.slots-init

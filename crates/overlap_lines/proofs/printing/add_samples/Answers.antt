@@ -1,7 +1,7 @@
 use Rattle.std.proofs.Common.{refl, ◌∙◌}
 use Rattle.glass_edges.proofs.Puts.{OnErr_of}
-use Rattle.overlap_lines.proofs.Joined.{joined-zero, joined-more, joined-at}
-use Rattle.overlap_lines.proofs.Adding.{add-none, add-more, add-failed}
+use Rattle.spin_model.proofs.Joined.{joined-zero, joined-more, joined-at}
+use Rattle.glass_edges.proofs.Putting.{add-none, add-more, add-failed}
 use Rattle.overlap_lines.proofs.printing.add_samples.Goals as goal
 
 pub samples-init : goal.samples-init

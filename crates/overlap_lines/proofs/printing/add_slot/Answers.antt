@@ -8,8 +8,8 @@ use Rattle.spin_model.specs.Steps.{table}
 use Rattle.spin_model.specs.Lattice.{bond_count}
 use Rattle.overlap_lines.specs.LineText.{link_line}
 use Rattle.overlap_lines.specs.CountedText.{counted_direction, sum_at}
-use Rattle.overlap_lines.proofs.Joined.{joined-zero, joined-more, joined-at}
-use Rattle.overlap_lines.proofs.Adding.{add-more, add-failed, add-first-failed}
+use Rattle.spin_model.proofs.Joined.{joined-zero, joined-more, joined-at}
+use Rattle.glass_edges.proofs.Putting.{add-more, add-failed, add-first-failed}
 use Rattle.overlap_lines.proofs.printing.add_slot.Goals as goal
 
 pub returns-in_err-add_link-clause-prefix : goal.returns-in_err-add_link-clause-prefix
