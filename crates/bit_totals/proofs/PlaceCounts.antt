@@ -7,6 +7,7 @@ use Rattle.spin_model.specs.Steps.{count_below}
 use Rattle.spin_model.specs.Couplings.{Bonds}
 use Rattle.spin_model.specs.Lattice.{IsLawfulSize, volume, bond, bond_count, forward, half_plane, half_volume, compact, from_compact}
 use Rattle.spin_model.proofs.Sites.{volume-bound}
+use Rattle.spin_model.proofs.Counts.{count-same, count-most}
 use Rattle.spin_model.proofs.Tables.{get_or-table, count_below-more}
 use Rattle.spin_model.proofs.CompactOrder.{compact-below, from_compact-compact, from_compact-below, compact-from_compact}
 use Rattle.coupling_set.specs.CouplingWords.{CouplingsView, bond_word, bonds_of}
@@ -31,26 +32,6 @@ count-add t n (suc m) =
     let before = count-add t n m in
     let place : n + suc m ≡ n + m + 1 = omega arith in
     ap (count_below t) place ∙ count_below-more t (n + m) ∙ omega arith
-
-pub count-same : (s t : ℕ → Bool) (n : ℕ) → ((j : ℕ) → j < n → s j ≡ t j) → count_below s n ≡ count_below t n
-unfolding count_below
-count-same s t zero same = refl
-count-same s t (suc n) same =
-    let before = count-same s t n (λ j h. same j (omega arith)) in
-    let last = ap one_if (same n (omega arith)) in
-    omega arith
-
-pub count-le : (t : ℕ → Bool) (n : ℕ) → count_below t n ≤ n
-unfolding count_below
-count-le t zero = omega arith
-count-le t (suc n) =
-    let before = count-le t n in
-    let one = at-most (t n) in
-    omega arith
-  where
-    at-most : (b : Bool) → one_if b ≤ 1
-    at-most true = omega arith
-    at-most false = omega arith
 
 -- on truth values: J s s' = -1
 against : (j own ahead : Bool) → differs (differs j own) ahead ≡ not (agree (coupled j ahead) own)
@@ -127,7 +108,7 @@ plane-counted l q d b couplings planes negative own ahead lawful below h size lo
 
 pub along-le : (l : ℕ) (bonds : Bonds) (spins : List Bool) (d n : ℕ) → unsatisfied_along l bonds spins d n ≤ n
 unfolding unsatisfied_along
-along-le l bonds spins d n = count-le _ n
+along-le l bonds spins d n = count-most _ n
 
 pub from-zero : (l : ℕ) (bonds : Bonds) (spins : List Bool) → unsatisfied_from l bonds spins 0 ≡ 0
 unfolding unsatisfied_along count_below
@@ -235,7 +216,7 @@ plane-agreeing l q s a b ones own other lawful below h long all o p =
 
 pub agreeing-le : (l : ℕ) (a b : List Bool) (n : ℕ) → agreeing_from l a b n ≤ n
 unfolding agreeing_from
-agreeing-le l a b n = count-le _ n
+agreeing-le l a b n = count-most _ n
 
 pub agreeing-zero : (l : ℕ) (a b : List Bool) → agreeing_from l a b 0 ≡ 0
 unfolding agreeing_from count_below

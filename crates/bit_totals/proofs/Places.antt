@@ -6,6 +6,7 @@ use Rattle.std.proofs.lemmas.Bool.{cases_lt}
 use Rattle.spin_model.specs.Lattice.{IsLawfulSize, volume, site_at, next, forward, colour, half_plane, half_volume, from_compact}
 use Rattle.spin_model.proofs.Sites.{x_of-site_at, y_of-site_at, z_of-site_at}
 use Rattle.spin_model.proofs.Colours.{colour-site_at, colour-forward}
+use Rattle.spin_model.proofs.Neighbours.{forward-x, forward-y, forward-z}
 use Rattle.spin_model.proofs.CompactOrder.{from_compact-place_at, from_compact-below}
 use Rattle.plane_sweep.specs.Packed.{plane_at, word_at}
 use Rattle.plane_sweep.specs.declared.replica.Plane.{Plane}
@@ -102,19 +103,6 @@ other-colour l q j d w h =
     let both = colour-forward l (site_at l (column_at l q j) (row_at l j) (q % l)) d w.lawful below in
     let own = site-colour l q j w in
     omega arith
-
--- one step along each axis
-pub forward-x : (l x y z : ℕ) → x < l → y < l → forward l (site_at l x y z) 0 ≡ site_at l (next l x) y z
-unfolding forward
-forward-x l x y z h k = rw (x_of-site_at l x y z h, y_of-site_at l x y z h k, z_of-site_at l x y z h k) refl
-
-pub forward-y : (l x y z : ℕ) → x < l → y < l → forward l (site_at l x y z) 1 ≡ site_at l x (next l y) z
-unfolding forward
-forward-y l x y z h k = rw (x_of-site_at l x y z h, y_of-site_at l x y z h k, z_of-site_at l x y z h k) refl
-
-pub forward-z : (l x y z : ℕ) → x < l → y < l → forward l (site_at l x y z) 2 ≡ site_at l x y (next l z)
-unfolding forward
-forward-z l x y z h k = rw (x_of-site_at l x y z h, y_of-site_at l x y z h k, z_of-site_at l x y z h k) refl
 
 -- half a step along a row
 half-step : (l k p : ℕ) → l % 2 ≡ 0 → k < l / 2 → p < 2 → (2 * k + p + 1) % l / 2 ≡ (k + p) % (l / 2)

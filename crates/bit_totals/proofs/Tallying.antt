@@ -8,7 +8,8 @@ use Rattle.multispin_word.specs.Planes.{is_set}
 use Rattle.multispin_word.proofs.Bits.{one_if-is_set}
 use Rattle.bit_totals.specs.Tallies.{lane_number, in_lanes, tallied, mixed, set_below, set_lanes}
 use Rattle.bit_totals.proofs.LaneNumbers.{none-set}
-use Rattle.bit_totals.proofs.PlaceCounts.{count-add, count-same, count-le}
+use Rattle.spin_model.proofs.Counts.{count-same, count-most}
+use Rattle.bit_totals.proofs.PlaceCounts.{count-add}
 
 pub in_lanes-none : (rows : List (List ℕ)) (b : ℕ) → in_lanes rows b 0 ≡ 0
 unfolding in_lanes
@@ -113,12 +114,12 @@ set-row row word b n m e same =
 
 -- no more words are set than there are
 pub set-le : (word : ℕ → ℕ) (b n : ℕ) → set_below word b n ≤ n
-set-le word b n = count-le (λ j. is_set (word j) b) n
+set-le word b n = count-most (λ j. is_set (word j) b) n
 
 pub set-more-le : (word : ℕ → ℕ) (b n m : ℕ) → set_below word b (n + m) ≤ set_below word b n + m
 set-more-le word b n m =
     let more = count-add (λ j. is_set (word j) b) n m in
-    let most = count-le (λ j. is_set (word (n + j)) b) m in
+    let most = count-most (λ j. is_set (word (n + j)) b) m in
     omega arith
 
 mixed-past : (f s t : List ℕ) (j : ℕ) → length f ≤ j → length s ≡ length f → length t ≡ length f → mixed f s t j ≡ 0

@@ -32,7 +32,7 @@ places-apart l m n lawful m_within n_within other = λ same. other (same-bond l 
 pub half_plane-positive : (l : ℕ) → IsLawfulSize l → 0 < half_plane l
 half_plane-positive l lawful = mul-lt 0 0 l (l / 2) (omega arith) (omega arith)
 
-in_plane-below : (l c z k : ℕ) → IsLawfulSize l → c < 2 → z < l → k < half_plane l → c * half_volume l + z * half_plane l + k < volume l
+pub in_plane-below : (l c z k : ℕ) → IsLawfulSize l → c < 2 → z < l → k < half_plane l → c * half_volume l + z * half_plane l + k < volume l
 in_plane-below l c z k lawful chosen plane within =
     let row : k / (l / 2) < l = div_below k (l / 2) l (omega arith) within in
     let column : k % (l / 2) < l / 2 = mod_below k (l / 2) (omega arith) in

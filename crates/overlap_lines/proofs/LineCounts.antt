@@ -13,7 +13,8 @@ use Rattle.plane_sweep.specs.Packed.{plane_at, word_at, spins_of}
 use Rattle.plane_sweep.specs.declared.replica.Plane.{Plane}
 use Rattle.bit_totals.specs.Tallies.{mixed, set_below}
 use Rattle.bit_totals.proofs.Places.{Within, site-below, own-word}
-use Rattle.bit_totals.proofs.PlaceCounts.{count-add, count-same, count-le, forward-below, compact-order, places-all}
+use Rattle.spin_model.proofs.Counts.{count-same, count-most}
+use Rattle.bit_totals.proofs.PlaceCounts.{count-add, forward-below, compact-order, places-all}
 use Rattle.overlap_lines.specs.Overlaps.{steps_on, term, agreeing_bonds, agreeing_line}
 use Rattle.overlap_lines.specs.Counted.{line_from, plane_on, place_on}
 use Rattle.overlap_lines.proofs.StepPlaces.{word-on}
@@ -80,7 +81,7 @@ plane-counted l q d r b first second own other ahead lawful below h far o p on =
 
 pub line-le : (l : ℕ) (f s : List Bool) (d r n : ℕ) → line_from l f s d r n ≤ n
 unfolding line_from
-line-le l f s d r n = count-le _ n
+line-le l f s d r n = count-most _ n
 
 pub line-zero : (l : ℕ) (f s : List Bool) (d r : ℕ) → line_from l f s d r 0 ≡ 0
 unfolding line_from count_below
@@ -99,7 +100,7 @@ all-sites l f s d r lawful =
     ∙ sym (count-sum test (volume l)))
 
 pub sites-le : (l : ℕ) (f s : List Bool) (d r : ℕ) → agreeing_line l f s d r ≤ volume l
-sites-le l f s d r = count-le _ (volume l)
+sites-le l f s d r = count-most _ (volume l)
 
 -- ---- all bonds
 

@@ -5,9 +5,10 @@ use Rattle.std.proofs.lemmas.Nat.{mul-add-lt, mod-mul-add, div-add-mod', mod_bel
 use Rattle.std.proofs.lemmas.Bool.{cases_lt}
 use Rattle.spin_model.specs.Lattice.{IsLawfulSize, site_at, next, forward, colour, half_plane, from_compact}
 use Rattle.spin_model.proofs.Colours.{colour-site_at}
+use Rattle.spin_model.proofs.Neighbours.{forward-x, forward-y, forward-z}
 use Rattle.plane_sweep.specs.Packed.{plane_at, word_at}
 use Rattle.plane_sweep.specs.declared.replica.Plane.{Plane}
-use Rattle.bit_totals.proofs.Places.{Within, bounds, row_at, column_at, site-is, forward-x, forward-y, forward-z, word-at}
+use Rattle.bit_totals.proofs.Places.{Within, bounds, row_at, column_at, site-is, word-at}
 use Rattle.overlap_lines.specs.Overlaps.{steps_on}
 use Rattle.overlap_lines.specs.Counted.{plane_on, place_on}
 

@@ -1,15 +1,15 @@
 -- The packed state that a run begins with stands for the states that its samples begin with.
-use Rattle.std.proofs.Common.{◌≡◌, ℕ, ◌*◌, ◌<◌, true, List, [], map, length, get_or, replicate, sym, ap, subst, ◌∙◌, arith}
+use Rattle.std.proofs.Common.{◌≡◌, ℕ, ◌*◌, ◌<◌, List, [], map, length, get_or, replicate, sym, ap, subst, ◌∙◌, arith}
 use Rattle.std.proofs.lemmas.List.{length-replicate, get_or-replicate}
-use Rattle.spin_model.specs.Lattice.{IsLawfulSize, volume}
+use Rattle.spin_model.specs.Lattice.{IsLawfulSize}
 use Rattle.spin_model.specs.Steps.{table}
-use Rattle.spin_model.proofs.Tables.{get_or-table, length-table}
+use Rattle.spin_model.proofs.Tables.{get_or-table}
 use Rattle.scalar_rule.specs.Opening.{start_spins, seeded_words, opening_copy, opening_slot, opening_pair, opening}
 use Rattle.scalar_rule.specs.Plan.{Plan, slots_of, pairs_of}
 use Rattle.scalar_rule.specs.declared.sample.Start.{Start}
-use Rattle.scalar_rule.specs.declared.sample.Start.TheVariants.{Up, Random}
 use Rattle.scalar_rule.specs.declared.sample.PlainSlot.{PlainSlot}
 use Rattle.scalar_rule.specs.declared.sample.Sample.{Sample}
+use Rattle.scalar_rule.proofs.OpeningShapes.{length-start_spins}
 use Rattle.plane_sweep.specs.Packed.{generators_of, spins_of, part_copy, part_slot, part_pair, part, StandsFor, PermutesLabels, FitsPlane, FitsDuo, ArePairGenerators, StandFits}
 use Rattle.plane_sweep.specs.Beginnings.{Each, BeginsPlane, BeginsReplica, BeginsDuo, BeginsPair}
 use Rattle.plane_sweep.specs.declared.replica.Plane.{Plane}
@@ -20,11 +20,6 @@ use Rattle.plane_sweep.proofs.Empties.{no_plane, no_duo, no_slot, no_wheels, no_
 use Rattle.plane_sweep.proofs.Gathering.{all-each, map-each}
 use Rattle.plane_sweep.proofs.PartSpins.{spins_of-planes}
 use Rattle.plane_sweep.proofs.Labels.{permutes-same}
-
-length-start_spins : (plan : Plan) (start : Start) (bank b slot r : ℕ) → length (start_spins plan start bank b slot r) ≡ volume plan.size
-unfolding start_spins
-length-start_spins plan Up bank b slot r = length-replicate (volume plan.size) true
-length-start_spins plan Random bank b slot r = length-table _ (volume plan.size)
 
 part_copy-begins : (plan : Plan) (start : Start) (bank slot r b : ℕ) (planes : List Plane) (labels : List ℕ) → IsLawfulSize plan.size → b < 64
     → Each (BeginsPlane plan start bank slot r) (2 * plan.size) planes → labels ≡ replicate 64 slot

@@ -5,11 +5,12 @@ use Rattle.spin_model.specs.Lattice.{IsLawfulSize, volume, colour, z_of, place_i
 use Rattle.spin_model.specs.Words.{is_set}
 use Rattle.spin_model.proofs.Sites.{z_of-below}
 use Rattle.spin_model.proofs.Tables.{table-same, table-of_items}
+use Rattle.spin_model.proofs.CompactOrder.{place_in_plane-below}
 use Rattle.scalar_rule.specs.Neighbours.{spin}
 use Rattle.plane_sweep.specs.Packed.{word_at, spins_of, plane_at, FitsPlane}
 use Rattle.plane_sweep.specs.Beginnings.{site_of}
 use Rattle.plane_sweep.specs.declared.replica.Plane.{Plane}
-use Rattle.plane_sweep.proofs.PlaneSites.{plane-below, plane-colour, plane-z, place-below, site_of-place}
+use Rattle.plane_sweep.proofs.PlaneSites.{plane-below, plane-colour, plane-z, site_of-place}
 
 -- what holds at each place of each plane holds at each site
 pub at_sites : (l : ℕ) (P : ℕ → ℕ → ℕ → Type 0) → IsLawfulSize l
@@ -23,7 +24,7 @@ at_sites l P lawful holds i within =
     ∙ ap (λ p. site_of l (colour l i) p (place_in_plane l i)) (plane-z l (colour l i) (z_of l i) z)
     ∙ site_of-place l i lawful within in
     let Q : ℕ → Type 0 = λ s. P k (place_in_plane l i) s in
-    subst Q site (holds k (place_in_plane l i) (plane-below l i lawful within) (place-below l i lawful))
+    subst Q site (holds k (place_in_plane l i) (plane-below l i lawful within) (place_in_plane-below l i lawful))
 
 -- the spins are these where each plane has them
 pub spins_of-planes : (l b : ℕ) (planes : List Plane) (spins : List Bool) → IsLawfulSize l → length spins ≡ volume l
@@ -55,7 +56,7 @@ pub read-word : (l i k j word : ℕ) (planes : List Plane) (plane : Plane) → I
     → k ≡ colour l i * l + z_of l i → j ≡ place_in_plane l i → plane ≡ get_or planes k plane → word ≡ get_or plane.words j word → word ≡ word_at l planes i
 read-word l i k j word planes plane lawful fit within chosen place read found =
     let sized = (read-plane l k planes plane fit within read).sized in
-    let room = place-below l i lawful in
+    let room = place_in_plane-below l i lawful in
     let at : plane ≡ plane_at planes k = get_or_read planes k plane within read _ in
     get_or_read plane.words j word (omega arith) found 0
     ∙ ap (λ (p : Plane). get_or p.words j 0) at

@@ -2,16 +2,10 @@
 use Rattle.std.proofs.Common.{◌≡◌, ℕ, ◌+◌, ◌*◌, ◌/◌, ◌%◌, ◌<◌, ap, sym, ◌∙◌, arith}
 use Rattle.std.proofs.lemmas.Nat.{mul-add-lt, div-mul-add, mod-mul-add, div-add-mod', mod_below, div_below}
 use Rattle.std.proofs.Math.Nat.{mul_comm}
-use Rattle.spin_model.specs.Lattice.{IsLawfulSize, volume, x_of, y_of, z_of, colour, place_in_plane, half_plane, half_volume, compact, from_compact}
+use Rattle.spin_model.specs.Lattice.{IsLawfulSize, volume, z_of, colour, place_in_plane, half_plane, half_volume, compact, from_compact}
 use Rattle.spin_model.proofs.CompactOrder.{from_compact-compact, from_compact-place_at, from_compact-below, chosen-below}
-use Rattle.spin_model.proofs.Sites.{site_at-planes, y_of-below, z_of-below}
-use Rattle.coupling_set.proofs.Places.{plane-within}
+use Rattle.spin_model.proofs.Sites.{site_at-planes, z_of-below}
 use Rattle.plane_sweep.specs.Beginnings.{site_of}
-
-pub place-within : (l c z k : ℕ) → IsLawfulSize l → c < 2 → z < l → k < half_plane l → c * half_volume l + z * half_plane l + k < volume l
-place-within l c z k lawful chosen plane within =
-    let room = plane-within l c z lawful chosen plane in
-    omega arith
 
 pub site_of-below : (l c z k : ℕ) → IsLawfulSize l → site_of l c z k < volume l
 site_of-below l c z k lawful = from_compact-below l (c * half_volume l + z * half_plane l + k) lawful
@@ -29,14 +23,6 @@ plane-colour l c z below = div-mul-add c l z below
 
 pub plane-z : (l c z : ℕ) → z < l → (c * l + z) % l ≡ z
 plane-z l c z below = mod-mul-add c l z below
-
-pub place-below : (l i : ℕ) → IsLawfulSize l → place_in_plane l i < half_plane l
-place-below l i lawful =
-    let row = y_of-below l i (omega arith) in
-    let column : x_of l i / 2 < l / 2 = div_below (x_of l i) 2 (l / 2) (omega arith) (omega (arith, mod_below i l (omega arith))) in
-    let bound = mul-add-lt (y_of l i) (l / 2) (x_of l i / 2) l row column in
-    let turned = mul_comm (l / 2) l in
-    omega arith
 
 -- the site at a site's place is the site
 pub site_of-place : (l i : ℕ) → IsLawfulSize l → i < volume l → site_of l (colour l i) (z_of l i) (place_in_plane l i) ≡ i

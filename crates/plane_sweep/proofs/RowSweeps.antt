@@ -10,6 +10,7 @@ use Rattle.local_rule.specs.SiteBits.{lane_words, set_count}
 use Rattle.spin_model.specs.Lattice.{IsLawfulSize, half_plane}
 use Rattle.spin_model.specs.SiteRule.{new_spin}
 use Rattle.spin_model.specs.Words.{is_set}
+use Rattle.spin_model.proofs.CompactOrder.{in_plane}
 use Rattle.threshold_table.specs.Tables.{rule_of}
 use Rattle.plane_sweep.specs.Neighbourhood.{pulls, Surrounds}
 use Rattle.plane_sweep.specs.PlaneSweep.{agreeing_count, SweepsWord, SweepsWords, SweepsFour, SweepsRow, IsRow, pulls_lent}
@@ -18,7 +19,7 @@ use Rattle.plane_sweep.specs.declared.rows.Row.{Row}
 use Rattle.threshold_table.specs.declared.rule_table.SlotRule.{SlotRule}
 use Rattle.plane_sweep.specs.declared.surroundings.Surroundings.{Surroundings}
 use Rattle.plane_sweep.proofs.FourLanes.{mid-below, mid-at, mid-above, mid-sized}
-use Rattle.plane_sweep.proofs.SixWords.{row-within, pulls-lent}
+use Rattle.plane_sweep.proofs.SixWords.{pulls-lent}
 
 -- a row of a lattice of an equal side
 pub row-same : (m l c z y : ℕ) (row : Row) → m ≡ l → IsRow m c z y row → IsRow l c z y row
@@ -116,14 +117,14 @@ row-swept couplings other rule draws c z y s row old xs ys lawful within sized a
       done = λ k d below. elim (cases_lt k (y * half)) [
         | inl less ↦
             let P : ℕ → Type 0 = λ w. Becomes k (get_or old k d) w in
-            let room : k < length xs = omega (arith, row-within couplings.size y 0 within (omega arith)) in
+            let room : k < length xs = omega (arith, in_plane couplings.size y 0 within (omega arith)) in
             let same : get_or xs k d ≡ get_or ys k d =
             get_or_default xs k d 0 room ∙ sym (swept.before k (omega arith)) ∙ get_or_default ys k 0 d (omega arith) in
             subst P same (rows.done k d less)
         | inr not ↦
             let i = k - y * half in
             let column : i < half = omega arith in
-            let room : k < length xs = omega (arith, row-within couplings.size y i within column) in
+            let room : k < length xs = omega (arith, in_plane couplings.size y i within column) in
             let place : row.here + i ≡ k = omega arith in
             let turned : y * half + i ≡ k = omega arith in
             let read : pulls_lent s row i ≡ pulls couplings other c z (k / half) (k % half) =

@@ -9,6 +9,7 @@ use Rattle.scalar_rule.specs.Neighbours.{spin, coupled, aligned, satisfied}
 use Rattle.spin_model.specs.Lattice.{IsLawfulSize, volume, bond, forward, backward, half_plane, next, previous}
 use Rattle.spin_model.specs.Words.{is_set}
 use Rattle.spin_model.proofs.Tables.{get_or-table}
+use Rattle.spin_model.proofs.CompactOrder.{in_plane}
 use Rattle.plane_sweep.specs.Packed.{plane_at, word_at, spins_of}
 use Rattle.plane_sweep.specs.Beginnings.{site_of}
 use Rattle.plane_sweep.specs.Neighbourhood.{pulls}
@@ -16,7 +17,7 @@ use Rattle.plane_sweep.specs.PlaneSweep.{agreeing_count}
 use Rattle.plane_sweep.specs.declared.replica.Plane.{Plane}
 use Rattle.plane_sweep.proofs.PlaneSites.{site_of-below}
 use Rattle.plane_sweep.proofs.PlaneNeighbours.{right-neighbour, left-neighbour, up-neighbour, down-neighbour, above-neighbour, below-neighbour, site_of-at}
-use Rattle.plane_sweep.proofs.SixWords.{row-within, right-within, left-within}
+use Rattle.plane_sweep.proofs.SixWords.{right-within, left-within}
 
 -- the planes of the other colour among all planes
 abbrev pub AreOthers : ℕ → ℕ → List Plane → List Plane → Type 0
@@ -90,11 +91,11 @@ has-counts couplings planes other b c z y k word lawful chosen plane row column 
     let on_z : next l z < l = mod_below (z + 1) l (omega arith) in
     let back_z : previous l z < l = mod_below (z + l - 1) l (omega arith) in
     let e₀ = ahead-word couplings planes other b c z _ 0 i lawful chosen plane (right-within l p y k lawful row column) (omega arith) others (right-neighbour l c z y k lawful chosen plane row column) in
-    let e₁ = ahead-word couplings planes other b c z _ 1 i lawful chosen plane (row-within l (next l y) k on column) (omega arith) others (up-neighbour l c z y k lawful chosen plane row column) in
-    let e₂ = ahead-word couplings planes other b c (next l z) _ 2 i lawful chosen on_z (row-within l y k row column) (omega arith) others (above-neighbour l c z y k lawful chosen plane row column) in
+    let e₁ = ahead-word couplings planes other b c z _ 1 i lawful chosen plane (in_plane l (next l y) k on column) (omega arith) others (up-neighbour l c z y k lawful chosen plane row column) in
+    let e₂ = ahead-word couplings planes other b c (next l z) _ 2 i lawful chosen on_z (in_plane l y k row column) (omega arith) others (above-neighbour l c z y k lawful chosen plane row column) in
     let e₃ = behind-word couplings planes other b c z _ 0 i lawful chosen plane (left-within l p y k lawful row column) (omega arith) others (left-neighbour l c z y k lawful chosen plane row column) in
-    let e₄ = behind-word couplings planes other b c z _ 1 i lawful chosen plane (row-within l (previous l y) k back column) (omega arith) others (down-neighbour l c z y k lawful chosen plane row column) in
-    let e₅ = behind-word couplings planes other b c (previous l z) _ 2 i lawful chosen back_z (row-within l y k row column) (omega arith) others (below-neighbour l c z y k lawful chosen plane row column) in
+    let e₄ = behind-word couplings planes other b c z _ 1 i lawful chosen plane (in_plane l (previous l y) k back column) (omega arith) others (down-neighbour l c z y k lawful chosen plane row column) in
+    let e₅ = behind-word couplings planes other b c (previous l z) _ 2 i lawful chosen back_z (in_plane l y k row column) (omega arith) others (below-neighbour l c z y k lawful chosen plane row column) in
     record {
       aligned_count = rw (e₀, e₁, e₂, e₃, e₄, e₅) refl;
       satisfied_count = rw (e₀, e₁, e₂, e₃, e₄, e₅, here) refl;

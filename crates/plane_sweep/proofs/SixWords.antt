@@ -1,7 +1,6 @@
 -- Six words of 64 samples: their agreement with a spin, and what they are of the words lent.
 use Rattle.std.proofs.Common.{◌≡◌, ℕ, ◌+◌, ◌-◌, ◌*◌, ◌/◌, ◌%◌, ◌^◌, ◌<◌, ◌≤◌, ◌==◌, Bool, true, false, not, cond, bit_xor, List, [], ◌∷◌, length, get_or, refl, sym, ap, ◌∙◌, arith}
-use Rattle.std.proofs.lemmas.Nat.{xor_lt, mul-le, mul-add-lt, mod_below, row_fits}
-use Rattle.std.proofs.Math.Nat.{mul_comm}
+use Rattle.std.proofs.lemmas.Nat.{xor_lt, mul-le, mod_below, row_fits}
 use Rattle.std.specs.Int.{bit_not, w64}
 use Rattle.std.specs.Prelude.{count_by}
 use Rattle.coupling_set.specs.CouplingWords.{CouplingsView, bond_word}
@@ -11,6 +10,7 @@ use Rattle.multispin_word.proofs.Bits.{is_set-xor, is_set-not}
 use Rattle.scalar_rule.specs.Neighbours.{agree}
 use Rattle.spin_model.specs.Lattice.{IsLawfulSize, half_plane, next, previous}
 use Rattle.spin_model.specs.Words.{is_set}
+use Rattle.spin_model.proofs.CompactOrder.{in_plane}
 use Rattle.plane_sweep.specs.Beginnings.{site_of}
 use Rattle.plane_sweep.specs.Neighbourhood.{pulls, Surrounds, IsLent, right_place, left_place}
 use Rattle.plane_sweep.specs.PlaneSweep.{agreeing_count, IsRow, HasRows, pulls_lent}
@@ -49,13 +49,6 @@ agreeing-six (x₀ ∷ x₁ ∷ x₂ ∷ []) w b p q r s t u sized e₀ e₁ e�
 agreeing-six (x₀ ∷ x₁ ∷ x₂ ∷ x₃ ∷ []) w b p q r s t u sized e₀ e₁ e₂ e₃ e₄ e₅ = absurd (omega (arith, sized))
 agreeing-six (x₀ ∷ x₁ ∷ x₂ ∷ x₃ ∷ x₄ ∷ []) w b p q r s t u sized e₀ e₁ e₂ e₃ e₄ e₅ = absurd (omega (arith, sized))
 agreeing-six (x₀ ∷ x₁ ∷ x₂ ∷ x₃ ∷ x₄ ∷ x₅ ∷ x₆ ∷ xs) w b p q r s t u sized e₀ e₁ e₂ e₃ e₄ e₅ = absurd (omega (arith, sized))
-
--- a place of a row lies in its plane
-pub row-within : (l y k : ℕ) → y < l → k < l / 2 → y * (l / 2) + k < half_plane l
-row-within l y k row column =
-    let bound = mul-add-lt y (l / 2) k l row column in
-    let turned = mul_comm (l / 2) l in
-    omega arith
 
 pub row-whole : (l y : ℕ) → y < l → y * (l / 2) + l / 2 ≤ half_plane l
 row-whole l y row = row_fits y (l / 2) l (l / 2) row (omega arith)
@@ -103,14 +96,14 @@ left-is half p y k even same = ap (λ t. y * half + cond t (previous half k) k) 
 
 pub right-within : (l p y k : ℕ) → IsLawfulSize l → y < l → k < l / 2 → right_place (l / 2) p y k < half_plane l
 right-within l p y k lawful row column = elim (p == 0) as (λ t. y * (l / 2) + cond t k (next (l / 2) k) < half_plane l) [
-  | true ↦ row-within l y k row column
-  | false ↦ row-within l y (next (l / 2) k) row (mod_below (k + 1) (l / 2) (omega arith))
+  | true ↦ in_plane l y k row column
+  | false ↦ in_plane l y (next (l / 2) k) row (mod_below (k + 1) (l / 2) (omega arith))
 ]
 
 pub left-within : (l p y k : ℕ) → IsLawfulSize l → y < l → k < l / 2 → left_place (l / 2) p y k < half_plane l
 left-within l p y k lawful row column = elim (p == 0) as (λ t. y * (l / 2) + cond t (previous (l / 2) k) k < half_plane l) [
-  | true ↦ row-within l y (previous (l / 2) k) row (mod_below (k + l / 2 - 1) (l / 2) (omega arith))
-  | false ↦ row-within l y k row column
+  | true ↦ in_plane l y (previous (l / 2) k) row (mod_below (k + l / 2 - 1) (l / 2) (omega arith))
+  | false ↦ in_plane l y k row column
 ]
 
 -- a word lent and a bond lent
@@ -137,10 +130,10 @@ pulls-lent couplings other c z y k s row lawful within column around at =
     ap (λ n. n + cond row.even k (next row.half k)) at.here ∙ ap (λ h. y * (l / 2) + cond row.even k (next h k)) at.half ∙ right-is (l / 2) p y k row.even at.even in
     let left : row.here + cond row.even (previous row.half k) k ≡ left_place (l / 2) p y k =
     ap (λ n. n + cond row.even (previous row.half k) k) at.here ∙ ap (λ h. y * (l / 2) + cond row.even (previous h k) k) at.half ∙ left-is (l / 2) p y k row.even at.even in
-    let e₀ = both-lent couplings c z 0 _ s.here.now s.ahead_x.now _ _ _ _ around.here around.ahead_x (row-within l y k within column) right here in
-    let e₁ = both-lent couplings c z 1 _ s.here.now s.ahead_y.now _ _ _ _ around.here around.ahead_y (row-within l y k within column) up here in
-    let e₂ = both-lent couplings c z 2 _ s.above.now s.ahead_z.now _ _ _ _ around.above around.ahead_z (row-within l y k within column) here here in
+    let e₀ = both-lent couplings c z 0 _ s.here.now s.ahead_x.now _ _ _ _ around.here around.ahead_x (in_plane l y k within column) right here in
+    let e₁ = both-lent couplings c z 1 _ s.here.now s.ahead_y.now _ _ _ _ around.here around.ahead_y (in_plane l y k within column) up here in
+    let e₂ = both-lent couplings c z 2 _ s.above.now s.ahead_z.now _ _ _ _ around.above around.ahead_z (in_plane l y k within column) here here in
     let e₃ = both-lent couplings (1 - c) z 0 _ s.here.now s.here_x.now _ _ _ _ around.here around.here_x (left-within l p y k lawful within column) left left in
-    let e₄ = both-lent couplings (1 - c) z 1 _ s.here.now s.here_y.now _ _ _ _ around.here around.here_y (row-within l (previous l y) k back column) down down in
-    let e₅ = both-lent couplings (1 - c) (previous l z) 2 _ s.below.now s.below_z.now _ _ _ _ around.below around.below_z (row-within l y k within column) here here in
+    let e₄ = both-lent couplings (1 - c) z 1 _ s.here.now s.here_y.now _ _ _ _ around.here around.here_y (in_plane l (previous l y) k back column) down down in
+    let e₅ = both-lent couplings (1 - c) (previous l z) 2 _ s.below.now s.below_z.now _ _ _ _ around.below around.below_z (in_plane l y k within column) here here in
     cc

@@ -4,6 +4,7 @@ use Rattle.std.proofs.lemmas.Nat.Bits.{bit_at-zero}
 use Rattle.multispin_word.specs.Planes.{one_if, is_set, first, number}
 use Rattle.multispin_word.proofs.Bits.{one_if-is_set, same-bit}
 use Rattle.spin_model.specs.Steps.{count_below}
+use Rattle.spin_model.proofs.Counts.{one_if-most}
 use Rattle.potts_glass.specs.Potts.{Surroundings, favours, votes}
 use Rattle.potts_glass.specs.PackedColours.{colour_in}
 
@@ -32,10 +33,6 @@ number-four ws b e =
 pub number-widened : (ws : List ℕ) (b : ℕ) → length ws ≡ 3 → number (get_or ws 0 0 ∷ get_or ws 1 0 ∷ get_or ws 2 0 ∷ 0 ∷ []) b ≡ number ws b
 unfolding first
 number-widened ws b e = rw (bit_at-zero b, e) (omega arith)
-
-one_if-most : (t : Bool) → one_if t ≤ 1
-one_if-most true = omega arith
-one_if-most false = omega arith
 
 -- there are at most six votes
 pub votes-most : (around : Surroundings) (c other : ℕ) → votes around c other ≤ 6

@@ -1,41 +1,10 @@
 -- The neighbours of a site and their places, by the site's coordinates.
 use Rattle.std.proofs.Common.{◌≡◌, ℕ, ◌+◌, ◌-◌, ◌*◌, ◌/◌, ◌%◌, ◌<◌, refl, ap, ◌∙◌, arith}
-use Rattle.std.proofs.lemmas.Nat.{mul-add-lt, mod_below}
-use Rattle.spin_model.specs.Lattice.{IsLawfulSize, volume, site_at, z_of, next, previous, forward, backward, colour as class, place_in_plane, half_plane, half_volume, compact, from_compact}
-use Rattle.spin_model.proofs.Colours.{colour-site_at, colour-backward}
+use Rattle.spin_model.specs.Lattice.{IsLawfulSize, volume, site_at, z_of, previous, backward, colour as class, place_in_plane, half_plane, half_volume, compact, from_compact}
+use Rattle.spin_model.proofs.Colours.{colour-site_at, colour-backward, previous-below}
 use Rattle.spin_model.proofs.CompactOrder.{from_compact-compact}
-use Rattle.spin_model.proofs.Sites.{x_of-site_at, y_of-site_at, z_of-site_at, site_at-planes}
-
-pub forward-x : (l x y z : ℕ) → x < l → y < l → forward l (site_at l x y z) 0 ≡ site_at l (next l x) y z
-unfolding forward
-forward-x l x y z h k = rw (x_of-site_at l x y z h, y_of-site_at l x y z h k, z_of-site_at l x y z h k) refl
-
-pub forward-y : (l x y z : ℕ) → x < l → y < l → forward l (site_at l x y z) 1 ≡ site_at l x (next l y) z
-unfolding forward
-forward-y l x y z h k = rw (x_of-site_at l x y z h, y_of-site_at l x y z h k, z_of-site_at l x y z h k) refl
-
-pub forward-z : (l x y z : ℕ) → x < l → y < l → forward l (site_at l x y z) 2 ≡ site_at l x y (next l z)
-unfolding forward
-forward-z l x y z h k = rw (x_of-site_at l x y z h, y_of-site_at l x y z h k, z_of-site_at l x y z h k) refl
-
-pub backward-x : (l x y z : ℕ) → x < l → y < l → backward l (site_at l x y z) 0 ≡ site_at l (previous l x) y z
-unfolding backward
-backward-x l x y z h k = rw (x_of-site_at l x y z h, y_of-site_at l x y z h k, z_of-site_at l x y z h k) refl
-
-pub backward-y : (l x y z : ℕ) → x < l → y < l → backward l (site_at l x y z) 1 ≡ site_at l x (previous l y) z
-unfolding backward
-backward-y l x y z h k = rw (x_of-site_at l x y z h, y_of-site_at l x y z h k, z_of-site_at l x y z h k) refl
-
-pub backward-z : (l x y z : ℕ) → x < l → y < l → backward l (site_at l x y z) 2 ≡ site_at l x y (previous l z)
-unfolding backward
-backward-z l x y z h k = rw (x_of-site_at l x y z h, y_of-site_at l x y z h k, z_of-site_at l x y z h k) refl
-
--- the site at three coordinates lies in the lattice
-pub site_at-below : (l x y z : ℕ) → x < l → y < l → z < l → site_at l x y z < volume l
-site_at-below l x y z h k m =
-    let row = mul-add-lt y l x l k h in
-    let plane = mul-add-lt z (l * l) (y * l + x) l m row in
-    rw (site_at-planes l x y z) plane
+use Rattle.spin_model.proofs.Neighbours.{backward-x, backward-y, backward-z}
+use Rattle.spin_model.proofs.Sites.{x_of-site_at, y_of-site_at, z_of-site_at, site_at-below}
 
 -- its place among those of its class in its plane
 pub place-site_at : (l x y z : ℕ) → x < l → y < l → place_in_plane l (site_at l x y z) ≡ y * (l / 2) + x / 2
@@ -52,9 +21,6 @@ pub record StandsAt (l j c z n : ℕ) : Type 0 where
   pub of_class : class l j ≡ c
   pub in_plane : z_of l j ≡ z
   pub at_place : place_in_plane l j ≡ n
-
-previous-below : (l c : ℕ) → c < l → previous l c < l
-previous-below l c h = mod_below (c + l - 1) l (omega arith)
 
 -- a site by its coordinates
 pub stands : (l c x y z : ℕ) → x < l → y < l → z < l → (x + y + z) % 2 ≡ c → StandsAt l (site_at l x y z) c z (y * (l / 2) + x / 2)

@@ -1,5 +1,5 @@
 -- The colours of a sample, site by site.
-use Rattle.std.proofs.Common.{inl, inr, ◌≡◌, ℕ, zero, suc, ◌+◌, ◌-◌, ◌*◌, ◌/◌, ◌%◌, ◌<◌, ◌≤◌, ◌==◌, Bool, true, false, List, [], ◌∷◌, ◌++◌, length, get_or, set, subst, refl, sym, ap, ◌∙◌, arith}
+use Rattle.std.proofs.Common.{inl, inr, ◌≡◌, ℕ, zero, suc, ◌+◌, ◌-◌, ◌*◌, ◌/◌, ◌%◌, ◌<◌, ◌==◌, Bool, List, [], ◌∷◌, ◌++◌, length, get_or, set, subst, refl, sym, ap, ◌∙◌, arith}
 use Rattle.std.proofs.lemmas.Bool.{cases_lt, cases_eq}
 use Rattle.std.proofs.lemmas.List.{get_or_append_left, get_or_at, get_or-set_same, get_or-set_other, length-set}
 use Rattle.std.proofs.lemmas.Nat.Bits.{bit_at-zero}
@@ -56,15 +56,6 @@ count-site t i =
     let two : count_below t (3 * i + 2) ≡ count_below t (3 * i) + one_if (t (3 * i + 0)) + one_if (t (3 * i + 1)) =
     ap (count_below t) second ∙ count_below-more t (3 * i + 1) ∙ ap (λ n. n + one_if (t (3 * i + 1))) one in
     ap (count_below t) third ∙ count_below-more t (3 * i + 2) ∙ ap (λ n. n + one_if (t (3 * i + 2))) two
-
-one_if-most : (t : Bool) → one_if t ≤ 1
-one_if-most true = omega arith
-one_if-most false = omega arith
-
-pub count-most : (t : ℕ → Bool) (n : ℕ) → count_below t n ≤ n
-unfolding count_below
-count-most t zero = omega arith
-count-most t (suc n) = omega (arith, count-most t n, one_if-most (t n))
 
 -- the first colour of a generator that has given n times four draws is the colour of site n
 pub random_colour-advanced : (w v : List ℕ) (b n : ℕ) → v ≡ advanced w (4 * n) → random_colour v b 0 ≡ random_colour w b n

@@ -6,24 +6,16 @@ use Rattle.std.proofs.lemmas.List.{get_or-set_other}
 use Rattle.std.proofs.Math.Nat.{mul_assoc, mul_comm}
 use native.Mathlib.Nat.{mod-lt, suc-mul}
 use Rattle.spin_model.specs.Lattice.{IsLawfulSize, site_at, x_of, y_of, z_of, colour as class, place_in_plane}
-use Rattle.spin_model.specs.Steps.{steps, count_below}
+use Rattle.spin_model.specs.Steps.{steps}
 use Rattle.spin_model.specs.Stream.{draw, draws}
 use Rattle.spin_model.proofs.Colours.{colour-site_at}
+use Rattle.spin_model.proofs.Counts.{count-same}
 use Rattle.spin_model.proofs.Sites.{x_of-site_at, y_of-site_at, site_at-planes}
 use Rattle.spin_model.proofs.Stepping.{steps-same, steps-add, steps-more}
 use Rattle.spin_model.proofs.Tables.{get_or-table}
 use Rattle.potts_glass.specs.Potts.{Dynamics, Surroundings, favours, votes, is_made, proposed, new_colour, step_of, around, updated, visit, site_draw, plane_drawn}
 
 -- ---- what a site sees
-
--- two counts whose tests agree
-count-same : (f g : ℕ → Bool) (n : ℕ) → ((k : ℕ) → k < n → f k ≡ g k) → count_below f n ≡ count_below g n
-unfolding count_below
-count-same f g zero same = refl
-count-same f g (suc n) same =
-    let before = count-same f g n (λ k h. same k (omega arith)) in
-    let last = same n (omega arith) in
-    rw (before, last) refl
 
 -- two surroundings that agree at the six neighbours
 pub record AgreeAround (s t : Surroundings) : Type 0 where

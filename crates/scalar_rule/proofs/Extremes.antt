@@ -143,11 +143,6 @@ count-missed test n missed = rw (add-one, missed) (omega arith)
 pub count-past : (test : ℕ → Bool) (i j : ℕ) → test i ≡ true → i < j → count_below test i < count_below test j
 count-past test i j hit h = let z = count-hit test i hit in let y = count-upto test (i + 1) j (omega arith) in omega arith
 
-pub count-same : (f g : ℕ → Bool) (n : ℕ) → ((i : ℕ) → i < n → f i ≡ g i) → count_below f n ≡ count_below g n
-unfolding count_below
-count-same f g zero same = refl
-count-same f g (suc n) same = ap₂ (λ a b. a + one_if b) (count-same f g n (λ t h. same t (omega arith))) (same n (omega arith))
-
 -- equal numbers
 pub flat : (f : ℕ → ℕ) (n c : ℕ) → ((t : ℕ) → t < n → f t ≡ c) → greatest f n - least f n ≡ 0
 unfolding greatest least

@@ -11,7 +11,7 @@ use Rattle.scalar_rule.specs.declared.sample.Start.{Start}
 use Rattle.scalar_rule.specs.declared.sample.Start.TheVariants.{Up, Random}
 use Rattle.scalar_rule.specs.declared.sample.PlainSlot.{PlainSlot}
 
-length-start_spins : (plan : Plan) (start : Start) (bank b slot replica : ℕ) → length (start_spins plan start bank b slot replica) ≡ volume plan.size
+pub length-start_spins : (plan : Plan) (start : Start) (bank b slot replica : ℕ) → length (start_spins plan start bank b slot replica) ≡ volume plan.size
 unfolding start_spins
 length-start_spins plan Up bank b slot replica = length-replicate (volume plan.size) true
 length-start_spins plan Random bank b slot replica = length-table _ (volume plan.size)

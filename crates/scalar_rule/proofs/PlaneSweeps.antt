@@ -1,16 +1,16 @@
 -- A plane swept from the list of its draws is swept by the rule, and the planes of a colour make up its half sweep.
-use Rattle.std.proofs.Common.{◌≡◌, ℕ, zero, suc, ◌+◌, ◌*◌, ◌/◌, ◌<◌, ◌≤◌, Bool, true, false, cond, ◌==◌, List, [], ◌++◌, length, get_or, set, take, drop, refl, sym, ap, ◌∙◌, subst, arith, zero-add, add-one}
+use Rattle.std.proofs.Common.{◌≡◌, ℕ, zero, suc, ◌+◌, ◌*◌, ◌≤◌, Bool, true, false, cond, ◌==◌, List, [], ◌++◌, length, get_or, set, take, drop, refl, sym, ap, ◌∙◌, subst, arith, zero-add, add-one}
 use Rattle.std.proofs.lemmas.Bool.{eqb-true}
 use Rattle.std.proofs.lemmas.Nat.{div-mul-add}
-use Rattle.std.proofs.lemmas.Grind.{common_steps}
 use Rattle.std.proofs.lemmas.List.{take_all, drop_all, append-nil, get_or-set_other}
-use native.Mathlib.Nat.{mod-lt, suc-mul}
-use Rattle.spin_model.specs.Lattice.{x_of, y_of, z_of, colour, place_in_plane, half_plane, IsLawfulSize}
+use native.Mathlib.Nat.{suc-mul}
+use Rattle.spin_model.specs.Lattice.{z_of, colour, place_in_plane, half_plane, IsLawfulSize}
 use Rattle.spin_model.specs.SiteRule.{new_spin}
 use Rattle.spin_model.specs.Steps.{steps}
 use Rattle.spin_model.specs.Stream.{draw, draws}
 use Rattle.spin_model.proofs.Stepping.{steps-same, steps-add}
 use Rattle.spin_model.proofs.Tables.{get_or-table}
+use Rattle.spin_model.proofs.CompactOrder.{place_in_plane-below}
 use Rattle.scalar_rule.specs.Neighbours.{spin, aligned, satisfied}
 use Rattle.scalar_rule.specs.Sweep.{Dynamics, Configuration, visit, site_draw, plane_drawn}
 use Rattle.scalar_rule.specs.declared.plain_copy.PlainCopy.{PlainCopy}
@@ -20,13 +20,6 @@ use Rattle.scalar_rule.specs.Replica.{configuration_of}
 cond-same : {A : Type 0} (b : Bool) (x y z : A) → (b ≡ true → x ≡ y) → cond b x z ≡ cond b y z
 cond-same true x y z h = h refl
 cond-same false x y z h = refl
-
--- a site's place lies in its plane
-place_in_plane-below : (l i : ℕ) → IsLawfulSize l → place_in_plane l i < half_plane l
-place_in_plane-below l i lawful =
-    let x : x_of l i < l = mod-lt i (omega arith) in
-    let y : y_of l i < l = mod-lt (i / l) (omega arith) in
-    grind (arith, common_steps)
 
 -- the draw of a site of colour c in plane z, read from the list of the plane's draws
 draw-listed : (l : ℕ) (words : List (List ℕ)) (c z i : ℕ) → IsLawfulSize l → colour l i ≡ c → z_of l i ≡ z

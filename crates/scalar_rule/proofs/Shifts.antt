@@ -1,10 +1,10 @@
 -- One step on and one step back undo each other on the periodic cube, in each direction.
 use Rattle.std.proofs.Common.{inl, inr, ◌≡◌, ℕ, ◌+◌, ◌-◌, ◌*◌, ◌%◌, ◌<◌, ap, sym, ◌∙◌, arith}
 use Rattle.std.proofs.lemmas.Bool.{cases_lt, cases_eq}
-use Rattle.std.proofs.lemmas.Nat.{mod-mul-add, mul-add-lt, mod_below}
+use Rattle.std.proofs.lemmas.Nat.{mod-mul-add, mod_below}
 use Rattle.std.proofs.Math.Nat.{mod-eq_of_lt, mod_self}
 use Rattle.spin_model.specs.Lattice.{volume, site_at, x_of, y_of, z_of, next, previous, forward, backward}
-use Rattle.spin_model.proofs.Sites.{site_at-planes, x_of-site_at, y_of-site_at, z_of-site_at, x_of-below, y_of-below, z_of-below, site_at-coordinates}
+use Rattle.spin_model.proofs.Sites.{x_of-site_at, y_of-site_at, z_of-site_at, x_of-below, y_of-below, z_of-below, site_at-coordinates, site_at-below}
 use Rattle.scalar_rule.proofs.FiniteSums.{ArePermutation}
 
 previous-next : (l x : ℕ) → x < l → previous l (next l x) ≡ x
@@ -33,13 +33,6 @@ next-previous l x below = elim (cases_eq x 0) [
 
 site_at-same : (l x y z a b c : ℕ) → x ≡ a → y ≡ b → z ≡ c → site_at l x y z ≡ site_at l a b c
 site_at-same l x y z a b c ex ey ez = ap (λ n. site_at l n y z) ex ∙ ap (λ n. site_at l a n z) ey ∙ ap (λ n. site_at l a b n) ez
-
-site_at-below : (l x y z : ℕ) → x < l → y < l → z < l → site_at l x y z < volume l
-site_at-below l x y z hx hy hz =
-    let planes = site_at-planes l x y z in
-    let row : y * l + x < l * l = mul-add-lt y l x l hy hx in
-    let plane : z * (l * l) + (y * l + x) < volume l = mul-add-lt z (l * l) (y * l + x) l hz row in
-    omega arith
 
 -- f of the coordinates of a site, and then g of those of the site that this gives
 pub record Undo (f g : ℕ → ℕ) (l : ℕ) : Type 0 where

@@ -14,10 +14,10 @@ colour-site_at l x y z x_within y_within =
     let at_z = z_of-site_at l x y z x_within y_within in
     rw (at_x, at_y, at_z) refl
 
-next-below : (l c : ℕ) → c < l → next l c < l
+pub next-below : (l c : ℕ) → c < l → next l c < l
 next-below l c within = mod_below (c + 1) l (omega arith)
 
-previous-below : (l c : ℕ) → c < l → previous l c < l
+pub previous-below : (l c : ℕ) → c < l → previous l c < l
 previous-below l c within = mod_below (c + l - 1) l (omega arith)
 
 -- around an edge of even length a step forward changes the parity

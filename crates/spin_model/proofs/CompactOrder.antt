@@ -2,8 +2,8 @@
 use Rattle.std.proofs.Common.{◌≡◌, ℕ, ◌+◌, ◌*◌, ◌/◌, ◌%◌, ◌<◌, ap, refl, sym, ◌∙◌, arith}
 use Rattle.std.proofs.Math.Nat.{add-mul, mul_assoc, mul_comm}
 use Rattle.std.proofs.lemmas.Nat.{mul-lt, mul-add-lt, div-mul-add, mod-mul-add, div-add-mod', mod_below, div_below}
-use Rattle.spin_model.specs.Lattice.{IsLawfulSize, volume, site_at, x_of, y_of, z_of, colour, half_plane, half_volume, compact, from_compact}
-use Rattle.spin_model.proofs.Sites.{x_of-site_at, y_of-site_at, z_of-site_at, x_of-below, y_of-below, z_of-below, site_at-coordinates, site_at-planes}
+use Rattle.spin_model.specs.Lattice.{IsLawfulSize, volume, site_at, x_of, y_of, z_of, colour, half_plane, half_volume, place_in_plane, compact, from_compact}
+use Rattle.spin_model.proofs.Sites.{x_of-site_at, y_of-site_at, z_of-site_at, x_of-below, y_of-below, z_of-below, site_at-coordinates, site_at-below}
 
 -- the place of colour c, plane z, row y and column k
 abbrev place_at : ℕ → ℕ → ℕ → ℕ → ℕ → ℕ
@@ -25,11 +25,18 @@ place_at-rows l c z y k =
     omega arith
 
 -- what lies within a plane
-in_plane : (l y k : ℕ) → y < l → k < l / 2 → y * (l / 2) + k < half_plane l
+pub in_plane : (l y k : ℕ) → y < l → k < l / 2 → y * (l / 2) + k < half_plane l
 in_plane l y k row column =
     let bound = mul-add-lt y (l / 2) k l row column in
     let turned = mul_comm (l / 2) l in
     omega arith
+
+-- a site's place lies in its plane
+pub place_in_plane-below : (l i : ℕ) → IsLawfulSize l → place_in_plane l i < half_plane l
+place_in_plane-below l i lawful =
+    let row = y_of-below l i (omega arith) in
+    let column : x_of l i / 2 < l / 2 = div_below (x_of l i) 2 (l / 2) (omega arith) (omega (arith, mod_below i l (omega arith))) in
+    in_plane l (y_of l i) (x_of l i / 2) row column
 
 -- and within the planes of a colour
 in_colour : (l z y k : ℕ) → z < l → y < l → k < l / 2 → z * half_plane l + (y * (l / 2) + k) < half_volume l
@@ -189,13 +196,6 @@ site-of_parts l place lawful =
     let column = mod_below place (l / 2) (omega arith) in
     ap (from_compact l) (sym (place_at-parts l place))
     ∙ from_compact-place_at l (place_colour l place) (place_plane l place) (place_row l place) (place_column l place) plane row column
-
-site_at-below : (l x y z : ℕ) → x < l → y < l → z < l → site_at l x y z < volume l
-site_at-below l x y z x_within y_within z_within =
-    let column = mul-add-lt y l x l y_within x_within in
-    let bound = mul-add-lt z (l * l) (y * l + x) l z_within column in
-    let planes = site_at-planes l x y z in
-    omega arith
 
 pub from_compact-below : (l place : ℕ) → IsLawfulSize l → from_compact l place < volume l
 from_compact-below l place lawful =

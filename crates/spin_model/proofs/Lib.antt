@@ -1,8 +1,10 @@
 pub mod Stepping
 pub mod Tables
+pub mod Counts
 pub mod Joined
 pub mod Streams
 pub mod Sites
+pub mod Neighbours
 pub mod Colours
 pub mod CompactOrder
 pub mod KnownValues

@@ -51,6 +51,14 @@ site_at-coordinates l i positive =
     let place = div-add-mod' i l in
     rows ∙ ap (λ r. r * l + i % l) (ap (λ z. z * l + i / l % l) (sym plane) ∙ column) ∙ place
 
+-- the site at three coordinates lies in the lattice
+pub site_at-below : (l x y z : ℕ) → x < l → y < l → z < l → site_at l x y z < volume l
+site_at-below l x y z x_within y_within z_within =
+    let column = mul-add-lt y l x l y_within x_within in
+    let bound = mul-add-lt z (l * l) (y * l + x) l z_within column in
+    let planes = site_at-planes l x y z in
+    omega arith
+
 -- the greatest lattice has 64 ^ 3 sites
 pub volume-bound : (l : ℕ) → IsLawfulSize l → volume l ≤ 262144
 volume-bound l lawful = mul-le (l * l) l 4096 64 (mul-le l l 64 64 (omega arith) (omega arith)) (omega arith)

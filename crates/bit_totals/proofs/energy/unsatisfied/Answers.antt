@@ -5,7 +5,8 @@ use Rattle.plane_sweep.specs.Packed.{spins_of}
 use Rattle.scalar_rule.specs.Sums.{is_unsatisfied}
 use Rattle.spin_model.specs.Lattice.{bond_count}
 use Rattle.spin_model.proofs.Sites.{volume-bound}
-use Rattle.bit_totals.proofs.PlaceCounts.{all-bonds, count-le}
+use Rattle.spin_model.proofs.Counts.{count-most}
+use Rattle.bit_totals.proofs.PlaceCounts.{all-bonds}
 use Rattle.bit_totals.proofs.energy.unsatisfied.Goals as goal
 
 pub total-requires : goal.total-requires
@@ -14,7 +15,7 @@ total-requires c = λ b h.
     let bonds = bonds_of c.args.plan.now.couplings b in
     let spins = spins_of l b c.args.replica.now.planes in
     let lawful = c.count_planes.ensures.lawful in
-    omega (arith, c.count_planes.ensures.counted b h, all-bonds l bonds spins lawful, count-le (is_unsatisfied l bonds spins) (bond_count l), volume-bound l lawful)
+    omega (arith, c.count_planes.ensures.counted b h, all-bonds l bonds spins lawful, count-most (is_unsatisfied l bonds spins) (bond_count l), volume-bound l lawful)
 
 pub returns-clause-value : goal.returns-clause-value
 returns-clause-value c = λ b h.
@@ -28,4 +29,4 @@ returns-clause-within c = λ b h.
     let l = c.args.plan.now.size in
     let bonds = bonds_of c.args.plan.now.couplings b in
     let spins = spins_of l b c.args.replica.now.planes in
-    omega (arith, c.total.ensures b h, c.count_planes.ensures.counted b h, all-bonds l bonds spins c.count_planes.ensures.lawful, count-le (is_unsatisfied l bonds spins) (bond_count l))
+    omega (arith, c.total.ensures b h, c.count_planes.ensures.counted b h, all-bonds l bonds spins c.count_planes.ensures.lawful, count-most (is_unsatisfied l bonds spins) (bond_count l))

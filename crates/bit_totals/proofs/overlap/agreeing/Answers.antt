@@ -4,7 +4,8 @@ use Rattle.plane_sweep.specs.Packed.{spins_of}
 use Rattle.scalar_rule.specs.Neighbours.{spin, agree}
 use Rattle.spin_model.specs.Lattice.{volume}
 use Rattle.spin_model.proofs.Sites.{volume-bound}
-use Rattle.bit_totals.proofs.PlaceCounts.{all-agreeing, count-le, size-lawful}
+use Rattle.spin_model.proofs.Counts.{count-most}
+use Rattle.bit_totals.proofs.PlaceCounts.{all-agreeing, size-lawful}
 use Rattle.bit_totals.proofs.overlap.agreeing.Goals as goal
 
 pub total-requires : goal.total-requires
@@ -13,7 +14,7 @@ total-requires c = λ s h.
     let l = one.size in
     let a = spins_of l s c.args.a.now.planes in
     let b = spins_of l s c.args.b.now.planes in
-    omega (arith, c.count_planes.ensures l s one.first h, all-agreeing l a b one.lawful, count-le (λ i. agree (spin a i) (spin b i)) (volume l), volume-bound l one.lawful)
+    omega (arith, c.count_planes.ensures l s one.first h, all-agreeing l a b one.lawful, count-most (λ i. agree (spin a i) (spin b i)) (volume l), volume-bound l one.lawful)
 
 pub returns-clause-value : goal.returns-clause-value
 returns-clause-value c = λ l s f h.
@@ -26,4 +27,4 @@ returns-clause-within c = λ l s f h.
     let a = spins_of l s c.args.a.now.planes in
     let b = spins_of l s c.args.b.now.planes in
     let all = all-agreeing l a b (size-lawful l c.args.a.now c.args.b.now f c.requires) in
-    omega (arith, c.total.ensures s h, c.count_planes.ensures l s f h, all, count-le (λ i. agree (spin a i) (spin b i)) (volume l))
+    omega (arith, c.total.ensures s h, c.count_planes.ensures l s f h, all, count-most (λ i. agree (spin a i) (spin b i)) (volume l))

@@ -1,7 +1,8 @@
 use Rattle.std.proofs.Common.{◌≡◌, ◌+◌, ◌*◌, ◌/◌, arith}
 use Rattle.spin_model.specs.Lattice.{colour, z_of, place_in_plane}
+use Rattle.spin_model.proofs.CompactOrder.{place_in_plane-below}
 use Rattle.plane_sweep.proofs.PartSpins.{read-plane, read-word}
-use Rattle.plane_sweep.proofs.PlaneSites.{plane-below, place-below}
+use Rattle.plane_sweep.proofs.PlaneSites.{plane-below}
 use Rattle.plane_sweep.proofs.parts.site_word.Goals as goal
 
 pub at-requires : goal.at-requires
@@ -14,7 +15,7 @@ at-requires c =
     let plane = plane-below l i c.size-size.ensures.lawful c.requires.site in
     let count = c.requires.count in
     let sized = (read-plane l k c.args.planes.now c.at-plane.result.now c.requires.planes (omega arith) c.at-plane.ensures).sized in
-    let room = place-below l i c.size-size.ensures.lawful in
+    let room = place_in_plane-below l i c.size-size.ensures.lawful in
     omega arith
 
 pub returns : goal.returns

@@ -1,14 +1,14 @@
 use Rattle.std.proofs.Common.{◌≡◌, ◌+◌, ◌*◌, ◌/◌, ◌%◌, get_or, ap, refl, ◌∙◌}
 use Rattle.spin_model.specs.Words.{is_set}
+use Rattle.coupling_set.proofs.Places.{in_plane-below}
 use Rattle.plane_sweep.specs.Beginnings.{site_of}
 use Rattle.multispin_word.proofs.Halves.{half-of_pair}
-use Rattle.plane_sweep.proofs.PlaneSites.{place-within}
 use Rattle.plane_sweep.proofs.random_words.word_by.Goals as goal
 
 pub from_compact-site-requires : goal.from_compact-site-requires
 from_compact-site-requires c =
     rw (c.size-size.ensures.value)
-    (place-within c.args.lattice.now c.args.colour c.args.z c.args.k c.size-size.ensures.lawful c.requires.colour c.requires.plane c.requires.place)
+    (in_plane-below c.args.lattice.now c.args.colour c.args.z c.args.k c.size-size.ensures.lawful c.requires.colour c.requires.plane c.requires.place)
 
 pub returns : goal.returns
 returns c = λ b below.

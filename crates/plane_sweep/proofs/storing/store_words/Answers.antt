@@ -1,18 +1,18 @@
 use Rattle.std.proofs.Common.{◌≡◌, ℕ, ◌*◌, ◌/◌, Bool, false, refl, ap, subst, ◌∙◌, arith}
 use Rattle.std.proofs.lemmas.List.{get_or_read}
 use Rattle.spin_model.specs.Lattice.{half_plane}
+use Rattle.coupling_set.proofs.Places.{in_plane-below}
 use Rattle.scalar_rule.specs.Neighbours.{spin}
 use Rattle.plane_sweep.specs.Beginnings.{site_of}
 use Rattle.plane_sweep.specs.Storing.{StoresWord, StoresWords}
 use Rattle.plane_sweep.proofs.Gathering.{changed-none, changed-more}
-use Rattle.plane_sweep.proofs.PlaneSites.{place-within}
 use Rattle.plane_sweep.proofs.storing.store_words.Goals as goal
 
 pub from_compact-requires : goal.from_compact-requires
 from_compact-requires c =
     let size : c.size-size.result * (c.size-size.result / 2) ≡ half_plane c.args.lattice.now = ap (λ n. n * (n / 2)) c.size-size.ensures.value in
     rw (c.size-size.ensures.value)
-    (place-within c.args.lattice.now c.args.colour c.args.z c.places.k c.size-size.ensures.lawful c.requires.colour c.requires.plane (omega arith))
+    (in_plane-below c.args.lattice.now c.args.colour c.args.z c.places.k c.size-size.ensures.lawful c.requires.colour c.requires.plane (omega arith))
 
 pub places-init : goal.places-init
 places-init c = changed-none _ _

@@ -3,7 +3,8 @@ use Rattle.coupling_set.specs.CouplingWords.{bonds_of}
 use Rattle.spin_model.proofs.Sites.{volume-bound}
 use Rattle.potts_glass.specs.Potts.{is_raising, is_lowering}
 use Rattle.potts_glass.specs.PackedColours.{colours_of}
-use Rattle.potts_glass.proofs.Sites.{count-site, count-most}
+use Rattle.spin_model.proofs.Counts.{count-most}
+use Rattle.potts_glass.proofs.Sites.{count-site}
 use Rattle.potts_glass.proofs.energy.count_site.Goals as goal
 
 pub count_three-requires : goal.count_three-requires

@@ -4,7 +4,7 @@ use Rattle.std.proofs.lemmas.List.{get_or_default}
 use Rattle.spin_model.specs.Lattice.{volume, site_at, forward, backward}
 use Rattle.potts_glass.specs.Potts.{neighbour}
 use Rattle.potts_glass.proofs.Sites.{each-of_six}
-use Rattle.potts_glass.proofs.NeighbourPlaces.{forward-x, forward-y, forward-z, backward-x, backward-y, backward-z}
+use Rattle.spin_model.proofs.Neighbours.{forward-x, forward-y, forward-z, backward-x, backward-y, backward-z}
 use Rattle.potts_glass.proofs.surroundings.near.Goals as goal
 
 read : (sites : List (List ℕ)) (w : List ℕ) (n j : ℕ) → w ≡ get_or sites n w → n < length sites → n ≡ j → w ≡ get_or sites j []
