@@ -1,6 +1,6 @@
 //! The report of a run. Each line goes to the output through a fixed buffer.
 
-ghost use Rattle.std.specs.Prelude.{◌≡◌, ◌+◌, ◌<◌, ◌≤◌, [], ◌++◌, codes, pos, length, slice_index, slice_index_or, OnOk, OnErr};
+ghost use Rattle.std.specs.Prelude.{◌≡◌, ◌+◌, ◌<◌, ◌≤◌, [], ◌++◌, pos, length, slice_index, slice_index_or, OnOk, OnErr};
 ghost use Rattle.glass_edges.specs.Causes.{HasCause};
 ghost use Rattle.glass_edges.specs.Contents.{appended, AppendsPrefix, PutsFront};
 ghost use Rattle.spin_model.specs.Lattice.{volume};
@@ -9,7 +9,7 @@ ghost use Rattle.potts_glass.specs.PottsStates.{state_of, energy_of};
 ghost use Rattle.potts_glass.specs.PottsText.{header_line, energy_line, colour_digit, colour_digits, colours_head, colours_line, sample_text, samples_text, potts_text};
 
 use crate::potts::Potts;
-use glass_edges::{Fault, Line, Sink};
+use glass_edges::{Fault, Line, Sink, put_all};
 
 /// Puts the report of a glass that has made so many sweeps from this seed: the energy and the
 /// colours of its first samples, at most 64. Takes no memory. The format stands in
@@ -34,7 +34,7 @@ pub fn write_potts<O: Sink>(
 {
     put_header(potts.size(), sweeps, seed, samples, out)?;
     put_samples(potts, samples, out)?;
-    put_end(out)
+    put_all(out, b"end\n")
 }
 
 // Puts the first line.
@@ -210,16 +210,4 @@ fn digit(potts: &Potts, sample: u32, site: u32) -> u8
     ensures { result ≡ colour_digit (slice_index (state_of potts.now sample) site) }
 {
     b'0' + potts.colour_of(sample, site) as u8
-}
-
-// Puts the last line.
-fn put_end<O: Sink>(out: &mut O) -> Result<(), Fault>
-    ensures whole { OnOk result (O.taken out.new ≡ appended (O.taken out.old) (codes "end\n")) }
-    ensures prefix { OnErr result (AppendsPrefix (O.taken out.old) (O.taken out.new)
-        (codes "end\n")) }
-    ensures cause { HasCause (O.faults out.old) (O.faults out.new) result }
-{
-    let mut line = Line::new();
-    line.add(b"end\n");
-    line.put(out)
 }

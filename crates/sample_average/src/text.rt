@@ -1,6 +1,6 @@
 //! The sums of a report as text.
 
-ghost use Rattle.std.specs.Prelude.{◌≡◌, ◌<◌, ◌≤◌, [], ◌++◌, codes, length, OnOk, OnErr};
+ghost use Rattle.std.specs.Prelude.{◌≡◌, ◌<◌, ◌≤◌, [], ◌++◌, length, OnOk, OnErr};
 ghost use Rattle.glass_edges.specs.Causes.{HasCause};
 ghost use Rattle.glass_edges.specs.Contents.{appended, AppendsPrefix};
 ghost use Rattle.sample_average.specs.Averages.{averages_text, first_line, pieces, rows_without, slot_rows, slot_text, sum_line, sums_of, sums_text, without_line};
@@ -8,7 +8,7 @@ ghost use Rattle.sample_average.specs.Averages.{averages_text, first_line, piece
 use crate::averages::Averages;
 use crate::header::Header;
 use crate::sums::Sums;
-use glass_edges::{Fault, Line, Sink};
+use glass_edges::{Fault, Line, Sink, put_all};
 
 /// Puts the sums: of each slot over all its rows, and over those of the samples outside each block.
 /// Takes no memory. The format stands in docs/specification/averages.md.
@@ -23,7 +23,7 @@ pub fn write_averages<O: Sink>(averages: &Averages, out: &mut O) -> Result<(), F
 {
     put_numbers(averages, out)?;
     put_slots(averages, out)?;
-    put_end(out)
+    put_all(out, b"end\n")
 }
 
 // Puts the line of the report's numbers.
@@ -67,17 +67,6 @@ fn add_first(line: &mut Line, header: &Header, blocks: u32, rows: usize)
     line.add(b" rows=");
     line.number(rows as u64);
     line.add(b"\n");
-}
-
-// Puts the last line.
-fn put_end<O: Sink>(out: &mut O) -> Result<(), Fault>
-    ensures whole { OnOk result (O.taken out.new ≡ appended (O.taken out.old) (codes "end\n")) }
-    ensures prefix { OnErr result (AppendsPrefix (O.taken out.old) (O.taken out.new) (codes "end\n")) }
-    ensures cause { HasCause (O.faults out.old) (O.faults out.new) result }
-{
-    let mut line = Line::new();
-    line.add(b"end\n");
-    line.put(out)
 }
 
 // Puts the lines of every slot.

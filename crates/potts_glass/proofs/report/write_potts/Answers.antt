@@ -21,4 +21,4 @@ returns-clause-prefix g c =
     let text = samples_text p c.args.samples in
     let first = rw c.size.ensures.value at c.in_ok-put_header.ensures.whole in
     let both = c.in_ok-put_samples.ensures.whole ∙ ap (λ o. appended o text) first ∙ appended-appended _ head text in
-    on_err_weaker c.put_end.result (λ q. prefix_past _ _ _ (head ++ text) (codes "end\n") both q) c.put_end.ensures.prefix
+    on_err_weaker c.put_all.result (λ q. prefix_past _ _ _ (head ++ text) (codes "end\n") both q) c.put_all.ensures.prefix

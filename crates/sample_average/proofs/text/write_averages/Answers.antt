@@ -17,4 +17,4 @@ returns-clause-prefix g c =
     let a = c.args.averages.now in
     let both = c.in_ok-put_slots.ensures.whole ∙ ap (λ o. appended o (pieces (slot_text a) a.header.slots)) c.in_ok-put_numbers.ensures.whole
     ∙ appended-appended _ (first_line a.header a.blocks (length a.rows)) (pieces (slot_text a) a.header.slots) in
-    on_err_weaker c.put_end.result (λ p. prefix_past _ _ _ (first_line a.header a.blocks (length a.rows) ++ pieces (slot_text a) a.header.slots) (codes "end\n") both p) c.put_end.ensures.prefix
+    on_err_weaker c.put_all.result (λ p. prefix_past _ _ _ (first_line a.header a.blocks (length a.rows) ++ pieces (slot_text a) a.header.slots) (codes "end\n") both p) c.put_all.ensures.prefix
