@@ -15,7 +15,9 @@ use Rattle.multispin_word.specs.Planes.{differs}
 use Rattle.multispin_word.proofs.Bits.{is_set-xor, is_set-ones}
 use Rattle.scalar_rule.specs.Neighbours.{spin, coupled, agree}
 use Rattle.scalar_rule.specs.Sums.{is_unsatisfied, unsatisfied, agreeing}
-use Rattle.scalar_rule.proofs.FiniteSums.{ArePermutation, sum_below, count-sum, sum-same, sum-permuted, sum-thirds}
+use Rattle.scalar_rule.specs.Positions.{sum_below}
+use Rattle.scalar_rule.proofs.Extremes.{sum-same}
+use Rattle.scalar_rule.proofs.FiniteSums.{ArePermutation, count-sum, sum-permuted, sum-thirds}
 use Rattle.scalar_rule.proofs.Shifts.{shift-x, shift-y, shift-z}
 use Rattle.plane_sweep.specs.Packed.{plane_at, word_at, spins_of, FitsReplica}
 use Rattle.plane_sweep.specs.declared.replica.Plane.{Plane}

@@ -22,6 +22,7 @@ use Rattle.scalar_rule.specs.declared.sample.Record.{Record}
 use Rattle.scalar_rule.specs.declared.sample.Sample.{Sample}
 use Rattle.plane_sweep.specs.Packed.{part}
 use Rattle.plane_sweep.specs.declared.stand.Stand.{Stand}
+use Rattle.plane_sweep.proofs.Starting.{part-bit}
 use Rattle.model_laws.specs.Packing.{AgreeInSample}
 
 bonds-same : (b : ℕ) (plan other : Plan) → AgreeInSample b plan other → bonds_of plan.couplings b ≡ bonds_of other.couplings b
@@ -183,10 +184,6 @@ steps-same plan other start (suc n) s a =
 
 serial-same : (plan other : Plan) (s : Sample) (e : ℕ) → AgreeInSample s.bit plan other → serial plan s e ≡ serial other s e
 serial-same plan other s e a = steps-same plan other s.epoch (e - s.epoch) s a
-
-part-bit : (l b : ℕ) (stand : Stand) → (part l b stand).bit ≡ b
-unfolding part
-part-bit l b stand = refl
 
 pub others-dont-matter : (plan other : Plan) (stand beside : Stand) (b e : ℕ) → AgreeInSample b plan other → part plan.size b stand ≡ part other.size b beside
     → (serial plan (part plan.size b stand) e ≡ serial other (part other.size b beside) e)

@@ -18,14 +18,14 @@ use Rattle.scalar_rule.proofs.HalfSweeps.{updated}
 use Rattle.model_laws.specs.Energies.{turned}
 use Rattle.model_laws.specs.Weights.{weight}
 use Rattle.model_laws.specs.Balance.{AreNear, site_weight, IsMetropolisThreshold, IsHeatBathThreshold, updated_by, turns, turning_draws, keeping_draws, weight_of, more_satisfied, Balances, IsExactAt}
-use Rattle.model_laws.proofs.SignedSums.{count-small}
+use Rattle.spin_model.proofs.Counts.{count-most}
 use Rattle.model_laws.proofs.Turning.{spin-turned, aligned-turned, satisfied-turned, unsatisfied-turned}
 use Rattle.model_laws.proofs.DrawCounts.{count-same, count-less, count-others, flips-all, flips-some, update-writes, update-spin}
 
 -- ---- weights
 
 pub unsatisfied-small : (l : ℕ) (bonds : Bonds) (spins : List Bool) → unsatisfied l bonds spins ≤ bond_count l
-unsatisfied-small l bonds spins = count-small (is_unsatisfied l bonds spins) (bond_count l)
+unsatisfied-small l bonds spins = count-most (is_unsatisfied l bonds spins) (bond_count l)
 
 -- m pairs of unsatisfied bonds more
 powers-more : (a b n u v m : ℕ) → v ≡ u + m → v ≤ n → a ^ v * b ^ (n - v) * b ^ m ≡ a ^ u * b ^ (n - u) * a ^ m

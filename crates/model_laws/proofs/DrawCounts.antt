@@ -10,6 +10,7 @@ use Rattle.spin_model.specs.Steps.{count_below}
 use Rattle.scalar_rule.specs.Neighbours.{spin, agree}
 use Rattle.scalar_rule.specs.Sweep.{Dynamics, visit}
 use Rattle.scalar_rule.proofs.HalfSweeps.{updated}
+use Rattle.scalar_rule.proofs.BondCounts.{agree-true}
 use Rattle.model_laws.specs.Balance.{updated_by}
 
 -- ---- counts
@@ -60,10 +61,6 @@ count-all p (suc n) every =
     omega arith
 
 -- ---- the two rules
-
-agree-true : (b : Bool) → agree b true ≡ b
-agree-true true = refl
-agree-true false = refl
 
 agree-false : (b : Bool) → agree b false ≡ not b
 agree-false true = refl

@@ -1,8 +1,8 @@
 -- A half sweep over any list that names each site of the colour once.
-use Rattle.std.proofs.Common.{inl, inr, ◌≡◌, ◌≢◌, ℕ, ◌+◌, ◌*◌, ◌<◌, Bool, false, cond, ◌==◌, List, [], ◌∷◌, length, set, refl, ap, sym, ◌∙◌, arith}
+use Rattle.std.proofs.Common.{inl, inr, ◌≡◌, ◌≢◌, ℕ, ◌+◌, ◌*◌, ◌<◌, Bool, false, cond, ◌==◌, List, [], ◌∷◌, length, refl, ap, sym, ◌∙◌, arith}
 use Rattle.std.specs.List.{count_by}
 use Rattle.std.proofs.lemmas.Bool.{cases_eq, eq-eqb, ne_eqb}
-use Rattle.std.proofs.lemmas.List.{get_or-set_same, get_or-set_other, length-set, ext_get_or}
+use Rattle.std.proofs.lemmas.List.{get_or-set_same, length-set, ext_get_or}
 use Rattle.std.proofs.lemmas.List.Sums.{sum_by-cons}
 use Rattle.spin_model.specs.Lattice.{IsLawfulSize, volume, colour, z_of, half_plane, place_in_plane, compact, from_compact, forward, backward}
 use Rattle.spin_model.specs.SiteRule.{new_spin}
@@ -10,36 +10,22 @@ use Rattle.spin_model.proofs.Colours.{colour-forward, colour-backward, differs}
 use Rattle.spin_model.proofs.CompactOrder.{from_compact-compact}
 use Rattle.scalar_rule.specs.Neighbours.{spin, aligned, satisfied}
 use Rattle.scalar_rule.specs.Sweep.{Dynamics, visit}
-use Rattle.scalar_rule.proofs.HalfSweeps.{updated, AgreeAround, updated-same, length-visited, spin-visited_kept, spin-visited_updated}
+use Rattle.scalar_rule.proofs.HalfSweeps.{updated, AgreeAround, updated-same, length-visited, spin-visited_kept, spin-visited_updated, visit-here, visit-not, visit-elsewhere}
 use Rattle.model_laws.specs.Order.{half_swept, swept_in_order, NamesEachOnce}
 
 -- ---- one visit
 
-visit-site : (d : Dynamics) (f : ℕ → ℕ) (c i : ℕ) (spins : List Bool) → colour d.size i ≡ c → visit d f c i spins ≡ set spins i (updated d f spins i)
-unfolding visit
-visit-site d f c i spins same = ap (λ b. cond b (set spins i (updated d f spins i)) spins) (eq-eqb (colour d.size i) c same)
-
-visit-other : (d : Dynamics) (f : ℕ → ℕ) (c i : ℕ) (spins : List Bool) → colour d.size i ≢ c → visit d f c i spins ≡ spins
-unfolding visit
-visit-other d f c i spins other = ap (λ b. cond b (set spins i (updated d f spins i)) spins) (ne_eqb (colour d.size i) c other)
-
 length-visit : (d : Dynamics) (f : ℕ → ℕ) (c i : ℕ) (spins : List Bool) → length (visit d f c i spins) ≡ length spins
 length-visit d f c i spins = elim (cases_eq (colour d.size i) c) [
-  | inl same ↦ ap length (visit-site d f c i spins same) ∙ length-set spins i _
-  | inr other ↦ ap length (visit-other d f c i spins other)
+  | inl same ↦ ap length (visit-here d f c i spins same) ∙ length-set spins i _
+  | inr other ↦ ap length (visit-not d f c i spins other)
 ]
 
 -- another site, and one of the other colour, are as they were
-spin-elsewhere : (d : Dynamics) (f : ℕ → ℕ) (c i k : ℕ) (spins : List Bool) → k ≢ i → spin (visit d f c i spins) k ≡ spin spins k
-spin-elsewhere d f c i k spins apart = elim (cases_eq (colour d.size i) c) [
-  | inl same ↦ ap (λ xs. spin xs k) (visit-site d f c i spins same) ∙ get_or-set_other spins i k _ false apart
-  | inr other ↦ ap (λ xs. spin xs k) (visit-other d f c i spins other)
-]
-
 spin-uncoloured : (d : Dynamics) (f : ℕ → ℕ) (c i k : ℕ) (spins : List Bool) → colour d.size k ≢ c → spin (visit d f c i spins) k ≡ spin spins k
 spin-uncoloured d f c i k spins other = elim (cases_eq k i) [
-  | inl here ↦ ap (λ xs. spin xs k) (visit-other d f c i spins (λ same. other (ap (colour d.size) here ∙ same)))
-  | inr apart ↦ spin-elsewhere d f c i k spins apart
+  | inl here ↦ ap (λ xs. spin xs k) (visit-not d f c i spins (λ same. other (ap (colour d.size) here ∙ same)))
+  | inr apart ↦ visit-elsewhere d f c i k spins apart
 ]
 
 -- so what a site of the colour sees is as it was, if another was visited
@@ -57,7 +43,7 @@ around d f c i k spins lawful within same apart =
       behind_x = behind 0;
       behind_y = behind 1;
       behind_z = behind 2;
-      here = spin-elsewhere d f c i k spins apart;
+      here = visit-elsewhere d f c i k spins apart;
     }
 
 -- ---- a list of them
@@ -95,7 +81,7 @@ order-unnamed d f c k (i ∷ sites) spins none =
       | inl here ↦ let one = hit-here i k here in absurd (omega arith)
       | inr apart ↦
           let nothing = hit-apart i k apart in
-          order-unnamed d f c k sites (visit d f c i spins) (omega arith) ∙ spin-elsewhere d f c i k spins (λ e. apart (sym e))
+          order-unnamed d f c k sites (visit d f c i spins) (omega arith) ∙ visit-elsewhere d f c i k spins (λ e. apart (sym e))
     ]
 
 -- a site of the colour that the list names once
@@ -109,7 +95,7 @@ order-named d f c k (i ∷ sites) spins lawful sized within same once =
       | inl here ↦
           let one = hit-here i k here in
           let first : spin (visit d f c k spins) k ≡ updated d f spins k =
-          ap (λ xs. spin xs k) (visit-site d f c k spins same) ∙ get_or-set_same spins k _ false (omega arith) in
+          ap (λ xs. spin xs k) (visit-here d f c k spins same) ∙ get_or-set_same spins k _ false (omega arith) in
           order-unnamed d f c k sites (visit d f c i spins) (omega arith) ∙ ap (λ n. spin (visit d f c n spins) k) here ∙ first
       | inr apart ↦
           let nothing = hit-apart i k apart in

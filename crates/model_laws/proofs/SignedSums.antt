@@ -1,5 +1,5 @@
 -- Sums of signed numbers against counts: the energy is that of the Hamiltonian.
-use Rattle.std.proofs.Common.{◌≡◌, ℕ, zero, suc, ◌*◌, ◌/◌, ◌%◌, ◌≤◌, Bool, true, false, not, List, refl, arith}
+use Rattle.std.proofs.Common.{◌≡◌, ℕ, zero, suc, ◌*◌, ◌/◌, ◌%◌, Bool, true, false, not, List, refl, arith}
 use Rattle.std.specs.Prelude.{pos, ◌-ℤ◌, ◌*ℤ◌}
 use Rattle.std.proofs.lemmas.Int.{ints}
 use Rattle.spin_model.specs.Words.{one_if}
@@ -9,15 +9,6 @@ use Rattle.spin_model.specs.Lattice.{bond_count, forward}
 use Rattle.scalar_rule.specs.Neighbours.{spin, coupled, agree}
 use Rattle.scalar_rule.specs.Sums.{is_unsatisfied, energy}
 use Rattle.model_laws.specs.Energies.{sign, bond_value, sum_of, hamiltonian}
-
-pub one_if-small : (b : Bool) → one_if b ≤ 1
-one_if-small true = omega arith
-one_if-small false = omega arith
-
-pub count-small : (test : ℕ → Bool) (n : ℕ) → count_below test n ≤ n
-unfolding count_below
-count-small test zero = omega arith
-count-small test (suc n) = let before = count-small test n in let last = one_if-small (test n) in omega arith
 
 -- J s s' is 1 less twice the bond if it is unsatisfied
 bond-value : (j x y : Bool) → sign (not j) *ℤ sign x *ℤ sign y ≡ pos 1 -ℤ pos (2 * one_if (not (agree (coupled j y) x)))

@@ -12,7 +12,9 @@ use Rattle.spin_model.proofs.Colours.{colour-forward, colour-backward, differs}
 use Rattle.scalar_rule.specs.Neighbours.{spin, coupled, agree, pull, ahead, behind, aligned, satisfied}
 use Rattle.scalar_rule.specs.Sums.{is_unsatisfied, unsatisfied, energy}
 use Rattle.scalar_rule.proofs.BondCounts.{satisfied-up, satisfied-down}
-use Rattle.scalar_rule.proofs.FiniteSums.{sum_below, count-sum, sum-same, sum-thirds, ArePermutation}
+use Rattle.scalar_rule.specs.Positions.{sum_below}
+use Rattle.scalar_rule.proofs.Extremes.{sum-same}
+use Rattle.scalar_rule.proofs.FiniteSums.{count-sum, sum-thirds, ArePermutation}
 use Rattle.scalar_rule.proofs.Shifts.{shift-x, shift-y, shift-z}
 use Rattle.model_laws.specs.Energies.{turned}
 

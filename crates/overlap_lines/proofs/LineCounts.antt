@@ -8,7 +8,8 @@ use Rattle.spin_model.proofs.Tables.{get_or-table}
 use Rattle.multispin_word.specs.Planes.{differs}
 use Rattle.multispin_word.proofs.Bits.{is_set-xor}
 use Rattle.scalar_rule.specs.Neighbours.{agree}
-use Rattle.scalar_rule.proofs.FiniteSums.{count-sum, sum-same, sum-permuted, sum-thirds}
+use Rattle.scalar_rule.proofs.Extremes.{sum-same}
+use Rattle.scalar_rule.proofs.FiniteSums.{count-sum, sum-permuted, sum-thirds}
 use Rattle.plane_sweep.specs.Packed.{plane_at, word_at, spins_of}
 use Rattle.plane_sweep.specs.declared.replica.Plane.{Plane}
 use Rattle.bit_totals.specs.Tallies.{mixed, set_below}

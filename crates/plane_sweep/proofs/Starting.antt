@@ -41,7 +41,7 @@ part-generators plan b stand fits =
       second_exchange = λ k h. subst second_pair (sym (pair k h)) (fits.each_pair k no_wheels (omega (arith, fits.pairs))).second;
     }
 
-part-bit : (l b : ℕ) (stand : Stand) → (part l b stand).bit ≡ b
+pub part-bit : (l b : ℕ) (stand : Stand) → (part l b stand).bit ≡ b
 unfolding part
 part-bit l b stand = refl
 

@@ -5,9 +5,9 @@ use Rattle.std.proofs.lemmas.List.Sums.{sum_by-cons}
 use Rattle.spin_model.specs.Couplings.{Bonds}
 use Rattle.scalar_rule.specs.Neighbours.{spin, agree, pull, neighbours, aligned, satisfied}
 
-agree-up : (a : Bool) → agree a true ≡ a
-agree-up true = refl
-agree-up false = refl
+pub agree-true : (a : Bool) → agree a true ≡ a
+agree-true true = refl
+agree-true false = refl
 
 agree-down : (a : Bool) → cond (agree a false) 1 0 + cond a 1 0 ≡ 1
 agree-down true = refl
@@ -18,7 +18,7 @@ count_by-up p [] = refl
 count_by-up {X} p (x ∷ xs) =
     let q : X → Bool = λ y. agree (p y) true in
     sum_by-cons (λ y. cond (q y) 1 0) x xs
-    ∙ ap (λ a. cond a 1 0 + count_by q xs) (agree-up (p x)) ∙ ap (λ n. cond (p x) 1 0 + n) (count_by-up p xs)
+    ∙ ap (λ a. cond a 1 0 + count_by q xs) (agree-true (p x)) ∙ ap (λ n. cond (p x) 1 0 + n) (count_by-up p xs)
     ∙ sym (sum_by-cons (λ y. cond (p y) 1 0) x xs)
 
 count_by-down : {X : Type 0} (p : X → Bool) (xs : List X) → count_by (λ x. agree (p x) false) xs + count_by p xs ≡ length xs

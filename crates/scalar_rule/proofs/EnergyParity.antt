@@ -5,7 +5,9 @@ use Rattle.spin_model.specs.Lattice.{volume, bond_count, forward, IsLawfulSize}
 use Rattle.spin_model.specs.Words.{one_if}
 use Rattle.scalar_rule.specs.Neighbours.{spin, coupled, agree}
 use Rattle.scalar_rule.specs.Sums.{is_unsatisfied, unsatisfied}
-use Rattle.scalar_rule.proofs.FiniteSums.{sum_below, count-sum, sum-same, sum-add, sum-permuted, sum-thirds, sum-even}
+use Rattle.scalar_rule.specs.Positions.{sum_below}
+use Rattle.scalar_rule.proofs.Extremes.{sum-same}
+use Rattle.scalar_rule.proofs.FiniteSums.{count-sum, sum-add, sum-permuted, sum-thirds, sum-even}
 use Rattle.scalar_rule.proofs.Shifts.{shift-x, shift-y, shift-z}
 
 -- of one bond: the unsatisfied one, the sign of J, and the two spins

@@ -4,23 +4,13 @@ use Rattle.std.proofs.lemmas.Bool.{cases_lt, eqb-true, eq-eqb}
 use Rattle.std.proofs.lemmas.Bool.Decides.{nat_tests, same_from_decides, Decides-eqb}
 use Rattle.spin_model.specs.Words.{one_if}
 use Rattle.spin_model.specs.Steps.{count_below}
-
-unfoldable pub sum_below : (ℕ → ℕ) → ℕ → ℕ
-sum_below h zero = 0
-sum_below h (suc n) = sum_below h n + h n
+use Rattle.scalar_rule.specs.Positions.{sum_below}
+use Rattle.scalar_rule.proofs.Extremes.{sum-same}
 
 pub count-sum : (t : ℕ → Bool) (n : ℕ) → count_below t n ≡ sum_below (λ i. one_if (t i)) n
 unfolding sum_below count_below
 count-sum t zero = refl
 count-sum t (suc n) = ap (λ k. k + one_if (t n)) (count-sum t n)
-
-pub sum-same : (f g : ℕ → ℕ) (n : ℕ) → ((i : ℕ) → i < n → f i ≡ g i) → sum_below f n ≡ sum_below g n
-unfolding sum_below
-sum-same f g zero same = refl
-sum-same f g (suc n) same =
-    let before = sum-same f g n (λ i below. same i (omega arith)) in
-    let last = same n (omega arith) in
-    omega arith
 
 pub sum-add : (f g : ℕ → ℕ) (n : ℕ) → sum_below (λ i. f i + g i) n ≡ sum_below f n + sum_below g n
 unfolding sum_below

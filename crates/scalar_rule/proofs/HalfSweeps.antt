@@ -40,11 +40,11 @@ pub updated-same : (d : Dynamics) (draw_at : ℕ → ℕ) (xs ys : List Bool) (i
 updated-same d draw_at xs ys i a = rw (aligned-same d.size d.bonds xs ys i a, satisfied-same d.size d.bonds xs ys i a, a.here) refl
 
 -- a visit is a write at the site, or nothing
-visit-here : (d : Dynamics) (draw_at : ℕ → ℕ) (c i : ℕ) (spins : List Bool) → colour d.size i ≡ c → visit d draw_at c i spins ≡ set spins i (updated d draw_at spins i)
+pub visit-here : (d : Dynamics) (draw_at : ℕ → ℕ) (c i : ℕ) (spins : List Bool) → colour d.size i ≡ c → visit d draw_at c i spins ≡ set spins i (updated d draw_at spins i)
 unfolding visit
 visit-here d draw_at c i spins same = rw same (grind arith)
 
-visit-not : (d : Dynamics) (draw_at : ℕ → ℕ) (c i : ℕ) (spins : List Bool) → colour d.size i ≢ c → visit d draw_at c i spins ≡ spins
+pub visit-not : (d : Dynamics) (draw_at : ℕ → ℕ) (c i : ℕ) (spins : List Bool) → colour d.size i ≢ c → visit d draw_at c i spins ≡ spins
 unfolding visit
 visit-not d draw_at c i spins other = elim (colour d.size i == c) as (λ b. (colour d.size i == c) ≡ b → cond b (set spins i (updated d draw_at spins i)) spins ≡ spins) [
   | true ↦ λ yes. absurd (other (eqb-true _ _ yes))
@@ -60,7 +60,7 @@ unfolding steps
 visited-more d draw_at c n spins = ap (λ k. visit d draw_at c k (visited d draw_at c n spins)) (zero-add n)
 
 -- what one visit does to the spin at site i
-visit-elsewhere : (d : Dynamics) (draw_at : ℕ → ℕ) (c k i : ℕ) (spins : List Bool) → i ≢ k → spin (visit d draw_at c k spins) i ≡ spin spins i
+pub visit-elsewhere : (d : Dynamics) (draw_at : ℕ → ℕ) (c k i : ℕ) (spins : List Bool) → i ≢ k → spin (visit d draw_at c k spins) i ≡ spin spins i
 visit-elsewhere d draw_at c k i spins apart = elim (cases_eq (colour d.size k) c) [
   | inl same ↦ ap (λ xs. spin xs i) (visit-here d draw_at c k spins same) ∙ get_or-set_other spins k i _ false apart
   | inr other ↦ ap (λ xs. spin xs i) (visit-not d draw_at c k spins other)
