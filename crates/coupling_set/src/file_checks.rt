@@ -7,6 +7,7 @@ ghost use Rattle.coupling_set.specs.CouplingsFile.{sample_bytes, file_length, sa
 ghost use Rattle.spin_model.specs.Lattice.{IsLawfulSize};
 
 use crate::refused::CouplingsRefused;
+use glass_edges::stored_digest;
 use sha2::{Digest, Sha256};
 
 /// The most samples that a file has.
@@ -36,16 +37,6 @@ fn u32_at(bytes: &[u8], place: usize) -> u32
 {
     let piece = &bytes[place..place + 4];
     u32::from_be_bytes([piece[0], piece[1], piece[2], piece[3]])
-}
-
-// A digest that stands in a file.
-fn digest_of(piece: &[u8]) -> [u8; 32]
-    requires { length piece.now ≡ 32 }
-    ensures { result ≡ piece.now }
-{
-    let mut digest = [0u8; 32];
-    digest.copy_from_slice(piece);
-    digest
 }
 
 #[tactic(auto, unfolding(crate::specs::CouplingsFile::short))]
@@ -129,7 +120,7 @@ fn damaged(bytes: &[u8]) -> Option<CouplingsRefused>
     ensures named { IfSome result IsNamed }
 {
     let end = bytes.len() - 32;
-    let stored = digest_of(&bytes[end..]);
+    let stored = stored_digest(&bytes[end..]);
     let computed = Sha256::digest(&bytes[..end]);
     if stored == computed {
         None

@@ -2,11 +2,11 @@
 
 ghost use Rattle.std.specs.Prelude.{◌≡◌, ◌+◌, ◌≤◌, List, ℕ, length, IfNone, take};
 ghost use Rattle.scalar_rule.specs.Plan.{slots_of};
-ghost use Rattle.run_checkpoint.specs.Reading.{digest_of};
 ghost use Rattle.run_checkpoint.specs.Tests as tests;
 
-use crate::places::{behind, digest_at, u32_at};
+use crate::places::{behind, piece, u32_at};
 use crate::refused::CheckpointRefused;
+use glass_edges::stored_digest;
 use run_plan::digest;
 use scalar_rule::Plan;
 use sha2::{Digest, Sha256};
@@ -73,7 +73,7 @@ pub(crate) fn damaged(bytes: &[u8]) -> Option<CheckpointRefused>
     ensures { result ≡ tests.damaged bytes.now }
 {
     let end = bytes.len() - 32;
-    let stored = last_digest(bytes);
+    let stored = stored_digest(behind(bytes, end));
     let computed = Sha256::digest(&bytes[..end]);
     if stored == computed {
         None
@@ -82,23 +82,13 @@ pub(crate) fn damaged(bytes: &[u8]) -> Option<CheckpointRefused>
     }
 }
 
-// The last 32 bytes.
-fn last_digest(bytes: &[u8]) -> [u8; 32]
-    requires { 32 ≤ length bytes.now }
-    ensures { result ≡ digest_of bytes.now }
-{
-    let mut digest = [0u8; 32];
-    digest.copy_from_slice(behind(bytes, bytes.len() - 32));
-    digest
-}
-
 // Another plan's digest.
 #[tactic(auto, unfolding(crate::specs::Tests::other_plan))]
 pub(crate) fn other_plan(bytes: &[u8], plan: &Plan) -> Option<CheckpointRefused>
     requires { 40 ≤ length bytes.now }
     ensures { result ≡ tests.other_plan plan.now bytes.now }
 {
-    let stored = digest_at(bytes, 8);
+    let stored = stored_digest(piece(bytes, 8, 32));
     let mine = digest(plan);
     if stored == mine {
         None

@@ -47,13 +47,3 @@ pub(crate) fn i32_at(bytes: &[u8], place: usize) -> i32
 {
     BigEndian::read_i32(behind(bytes, place))
 }
-
-// The 32 bytes of a digest at a place.
-pub(crate) fn digest_at(bytes: &[u8], place: usize) -> [u8; 32]
-    requires { place + 32 ≤ length bytes.now }
-    ensures { result ≡ piece place 32 bytes.now }
-{
-    let mut digest = [0u8; 32];
-    digest.copy_from_slice(piece(bytes, place, 32));
-    digest
-}
