@@ -1,18 +1,14 @@
 -- The bytes of the parts of 64 samples are those of the packed parts.
-use Rattle.std.proofs.Common.{inl, inr, ◌≡◌, ℕ, zero, suc, ◌+◌, ◌-◌, ◌*◌, ◌/◌, ◌%◌, ◌^◌, ◌<◌, Bool, true, false, List, [], ◌∷◌, ◌++◌, All, map, length, get_or, refl, sym, ap, ◌∙◌, arith}
-use Rattle.std.proofs.Math.Nat.{pow-suc, mul_comm}
+use Rattle.std.proofs.Common.{◌≡◌, ℕ, zero, suc, ◌+◌, ◌-◌, ◌*◌, ◌/◌, ◌%◌, ◌^◌, ◌<◌, false, List, [], ◌∷◌, ◌++◌, All, map, length, get_or, refl, sym, ap, ◌∙◌, arith}
+use Rattle.std.proofs.Math.Nat.{mul_comm}
 use Rattle.std.specs.Prelude.{slice_index}
-use Rattle.std.specs.Int.{bit_at}
 use Rattle.std.specs.List.{flat_map}
-use Rattle.std.proofs.lemmas.Bool.{cases_lt}
 use Rattle.std.proofs.lemmas.Grind.{flat_map-append}
 use Rattle.std.proofs.lemmas.List.{append-nil, get_or-map}
 use Rattle.std.proofs.lemmas.List.Concat.{flat_map-cons}
 use Rattle.std.proofs.lemmas.List.Elements.{All-get_or}
 use Rattle.std.proofs.lemmas.Nat.{div_below, mod_below, div-add-mod'}
-use Rattle.std.proofs.lemmas.Nat.Bits.{bit_at_cat_low, bit_at_cat_high, same_from_bits_below}
-use Rattle.multispin_word.proofs.Bits.{one_if-is_set}
-use Rattle.spin_model.specs.Words.{is_set, one_if}
+use Rattle.spin_model.specs.Words.{is_set}
 use Rattle.spin_model.specs.Lattice.{IsLawfulSize, volume, half_plane, z_of, place_in_plane}
 use Rattle.spin_model.specs.Steps.{table}
 use Rattle.spin_model.proofs.Tables.{get_or-table, table-of_items, table-same}
@@ -21,7 +17,7 @@ use Rattle.scalar_rule.specs.Neighbours.{spin}
 use Rattle.scalar_rule.specs.declared.plain_copy.PlainCopy.{PlainCopy}
 use Rattle.scalar_rule.specs.declared.sample.PlainPair.{PlainPair}
 use Rattle.scalar_rule.specs.declared.sample.PlainSlot.{PlainSlot}
-use Rattle.coupling_set.specs.BondsAsWords.{word_of}
+use Rattle.coupling_set.proofs.BondsAsWords.{word-of_bits, word_of-same}
 use Rattle.plane_sweep.specs.Beginnings.{site_of}
 use Rattle.plane_sweep.specs.Packed.{plane_at, word_at, spins_of, generators_of, part_copy, part_slot, part_pair, FitsPlane, FitsReplica, FitsDuo}
 use Rattle.plane_sweep.specs.declared.replica.Plane.{Plane}
@@ -33,47 +29,6 @@ use Rattle.plane_sweep.proofs.PlaneNeighbours.{site_of-at}
 use Rattle.plane_sweep.proofs.PlaneSites.{site_of-below}
 use Rattle.run_checkpoint.specs.Encoding.{words_32, words_64, spin_word, plane_bytes, replica_bytes, slot_bytes, pair_bytes, contents}
 use Rattle.run_checkpoint.specs.PackedBytes.{packed_plane, packed_replica, packed_slot, packed_pair, packed_contents}
-
--- ---- one word
-
-one_if-bit : (t : Bool) → bit_at (one_if t) 0 ≡ one_if t
-one_if-bit true = refl
-one_if-bit false = refl
-
-one_if-add : (t : Bool) (power rest : ℕ) → rest < power → one_if t * power + rest < power * 2
-one_if-add true power rest below = omega arith
-one_if-add false power rest below = omega arith
-
-word_of-below : (test : ℕ → Bool) (n : ℕ) → word_of test n < 2 ^ n
-unfolding word_of
-word_of-below test zero = search arith
-word_of-below test (suc n) =
-    rw (pow-suc 2 n) (one_if-add (test n) (2 ^ n) (word_of test n) (word_of-below test n))
-
-word_of-bit : (test : ℕ → Bool) (n b : ℕ) → b < n → bit_at (word_of test n) b ≡ one_if (test b)
-unfolding word_of
-word_of-bit test zero b below = absurd (omega arith)
-word_of-bit test (suc n) b below =
-    elim (cases_lt b n) [
-      | inl less ↦ bit_at_cat_low (one_if (test n)) n (word_of test n) b less ∙ word_of-bit test n b less
-      | inr not ↦
-          let last : n ≡ b = omega arith in
-          let low : b - n ≡ 0 = omega arith in
-          bit_at_cat_high (one_if (test n)) n (word_of test n) b (word_of-below test n) (omega arith)
-          ∙ ap (bit_at (one_if (test n))) low ∙ one_if-bit (test n) ∙ ap (λ k. one_if (test k)) last
-    ]
-
--- a word of 64 bits is the word of what its bits are
-word-of_bits : (test : ℕ → Bool) (word : ℕ) → word < 2 ^ 64 → ((b : ℕ) → b < 64 → is_set word b ≡ test b) → word ≡ word_of test 64
-word-of_bits test word small same =
-    same_from_bits_below 64 word (word_of test 64) small (word_of-below test 64)
-    (λ b below. sym (one_if-is_set word b) ∙ ap one_if (same b below) ∙ sym (word_of-bit test 64 b below))
-
--- and a word of the same bits is the same
-pub word_of-same : (f g : ℕ → Bool) (n : ℕ) → ((b : ℕ) → b < n → f b ≡ g b) → word_of f n ≡ word_of g n
-unfolding word_of
-word_of-same f g zero same = refl
-word_of-same f g (suc n) same = rw (word_of-same f g n (λ b below. same b (omega arith)), same n (omega arith)) refl
 
 -- ---- a plane
 
@@ -96,7 +51,7 @@ site-word l k j planes lawful below within small =
     let chosen : k / l < 2 = div_below k l 2 some (omega arith) in
     let plane : k % l < l = mod_below k l some in
     let parts : k / l * l + k % l ≡ k = div-add-mod' k l in
-    word-of_bits (λ b. spin (spins_of l b planes) (site_of l (k / l) (k % l) j)) (slice_index (plane_at planes k).words j) small
+    word-of_bits (λ b. spin (spins_of l b planes) (site_of l (k / l) (k % l) j)) 64 (slice_index (plane_at planes k).words j) small
     (λ b under. sym (spin-at l b (k / l) (k % l) j planes lawful chosen plane within ∙ ap (λ p. is_set (slice_index (plane_at planes p).words j) b) parts))
 
 plane-packed : (l k : ℕ) (replica : Replica) → IsLawfulSize l → FitsReplica l replica → k < 2 * l → plane_bytes l (λ b. part_copy l b replica) k ≡ packed_plane (plane_at replica.planes k)
