@@ -1,14 +1,12 @@
 -- The summary of a run: sums over the samples, and the records of its last epoch.
-use Rattle.std.proofs.Common.{arith, ◌≡◌, ℕ, ◌+◌, ◌*◌, ◌<◌, ◌≤◌, Bool, List, [], ◌++◌, length, get_or, drop, refl, sym, ap, subst, ◌∙◌, add-one}
-use Rattle.std.specs.Prelude.{ℤ, pos, ◌+ℤ◌, unsigned_abs, not, ◌==◌, slice_index, flat_map, Option}
-use Rattle.glass_edges.specs.Contents.{appended, AppendsPrefix}
-use Rattle.glass_edges.proofs.Puts.{prefix_front, prefix_past}
+use Rattle.std.proofs.Common.{arith, ◌≡◌, ℕ, ◌+◌, ◌*◌, ◌<◌, ◌≤◌, Bool, List, [], ◌++◌, length, get_or, drop, refl, sym, ap, ◌∙◌, add-one}
+use Rattle.std.specs.Prelude.{ℤ, pos, ◌+ℤ◌, unsigned_abs, not, ◌==◌, slice_index, flat_map}
 use Rattle.report_text.specs.Lines.{summary_line, end_line}
 use Rattle.scalar_rule.specs.Plan.{Plan, slots_of}
-use Rattle.glass_engine.proofs.Reporting.{put-two}
 use Rattle.std.proofs.lemmas.Int.{ints}
 use Rattle.std.proofs.lemmas.List.{get_or-take, get_or-drop, get_or-map}
 use Rattle.spin_model.specs.Steps.{table, count_below}
+use Rattle.spin_model.specs.SignedSums.{sum_of}
 use Rattle.plane_sweep.specs.Packed.{part_slot}
 use Rattle.plane_sweep.specs.Uneven.{uneven_part}
 use Rattle.plane_sweep.specs.declared.replica.Duo.{Duo}
@@ -18,14 +16,14 @@ use Rattle.scalar_rule.specs.declared.plain_copy.PlainCopy.{PlainCopy}
 use Rattle.scalar_rule.specs.declared.sample.PlainSlot.{PlainSlot}
 use Rattle.scalar_rule.specs.declared.sample.Record.{Record}
 use Rattle.glass_engine.specs.RecordPieces.{piece}
-use Rattle.glass_engine.specs.Summary.{sum_below, slot_sums, summary_text}
+use Rattle.glass_engine.specs.Summary.{slot_sums, summary_text}
 
-pub sum-zero : (item : ℕ → ℤ) → sum_below item 0 ≡ pos 0
-unfolding sum_below
+pub sum-zero : (item : ℕ → ℤ) → sum_of item 0 ≡ pos 0
+unfolding sum_of
 sum-zero item = refl
 
-pub sum-more : (item : ℕ → ℤ) (n : ℕ) → sum_below item (n + 1) ≡ sum_below item n +ℤ item n
-unfolding sum_below
+pub sum-more : (item : ℕ → ℤ) (n : ℕ) → sum_of item (n + 1) ≡ sum_of item n +ℤ item n
+unfolding sum_of
 sum-more item n = rw add-one refl
 
 -- record t of sample b lies at b * slots + t
@@ -53,11 +51,3 @@ pub summary-parts : (n : ℕ) (plan : Plan) (measured : ℕ → List Record) (co
     → summary_text n plan measured contents until ≡ summary_line n plan 64 until ++ flat_map (slot_sums measured contents) (table (λ t. t) (slots_of plan)) ++ end_line until
 unfolding summary_text
 summary-parts n plan measured contents until = refl
-
-pub failed-of_two : (before x now : Option (List ℕ)) (a b c whole : List ℕ) → whole ≡ a ++ b ++ c → x ≡ appended before a → AppendsPrefix x now b → AppendsPrefix before now whole
-failed-of_two before x now a b c whole is first p =
-    subst (AppendsPrefix before now) (sym is) (prefix_front before now (a ++ b) c (prefix_past before x now a b first p))
-
-pub failed-of_three : (before x y now : Option (List ℕ)) (a b c whole : List ℕ) → whole ≡ a ++ b ++ c → x ≡ appended before a → y ≡ appended x b → AppendsPrefix y now c → AppendsPrefix before now whole
-failed-of_three before x y now a b c whole is first second p =
-    subst (AppendsPrefix before now) (sym is) (prefix_past before y now (a ++ b) c (put-two before x y a b first second) p)

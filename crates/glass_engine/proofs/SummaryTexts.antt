@@ -1,9 +1,7 @@
 -- The summary of a run from a level state is that of the serial dynamics.
-use Rattle.std.proofs.Common.{arith, ◌≡◌, ℕ, zero, suc, ◌+◌, ◌-◌, ◌*◌, ◌<◌, ◌≤◌, Bool, true, List, [], ◌++◌, length, drop, take, refl, sym, ap, ap₂, ◌∙◌, cond, append-nil, length-append, lit<}
+use Rattle.std.proofs.Common.{arith, ◌≡◌, ℕ, zero, suc, ◌+◌, ◌-◌, ◌*◌, ◌<◌, ◌≤◌, true, List, [], ◌++◌, length, drop, take, refl, sym, ap, ap₂, ◌∙◌, cond, append-nil, length-append, lit<}
 use Rattle.std.specs.Prelude.{ℤ, ◌+ℤ◌, not, ◌==◌}
 use Rattle.std.proofs.lemmas.List.{drop_at, take_all, length-drop}
-use Rattle.spin_model.specs.Steps.{count_below}
-use Rattle.spin_model.specs.Words.{one_if}
 use Rattle.spin_model.proofs.Tables.{length-table}
 use Rattle.report_text.specs.Lines.{summary_line, slot_line, end_line}
 use Rattle.plane_sweep.specs.Packed.{part, StandsFor}
@@ -22,19 +20,16 @@ use Rattle.scalar_rule.specs.declared.sample.Sample.{Sample}
 use Rattle.glass_engine.specs.Laws.{LevelRunIsSerial}
 use Rattle.glass_engine.specs.RecordPieces.{piece}
 use Rattle.glass_engine.specs.Runs.{RunView, IsEnd}
-use Rattle.glass_engine.specs.Summary.{sum_below, both_energies, slot_sums, summary_text, summary, BeginsLevel}
-use Rattle.glass_engine.proofs.Joined.{joined-same, window-more}
+use Rattle.glass_engine.specs.Summary.{both_energies, slot_sums, summary_text, summary, BeginsLevel}
+use Rattle.spin_model.proofs.Joined.{joined-same, window-more}
+use Rattle.spin_model.proofs.Counts.{count-same}
+use Rattle.spin_model.specs.SignedSums.{sum_of}
 use Rattle.glass_engine.proofs.Pieces.{records_if, length-records_at, piece-records_at}
 
-sum-same : (f g : ℕ → ℤ) (n : ℕ) → ((k : ℕ) → k < n → f k ≡ g k) → sum_below f n ≡ sum_below g n
-unfolding sum_below
+sum-same : (f g : ℕ → ℤ) (n : ℕ) → ((k : ℕ) → k < n → f k ≡ g k) → sum_of f n ≡ sum_of g n
+unfolding sum_of
 sum-same f g zero same = refl
 sum-same f g (suc n) same = ap₂ (λ a b. a +ℤ b) (sum-same f g n (λ k below. same k (omega arith))) (same n (omega arith))
-
-count-same : (f g : ℕ → Bool) (n : ℕ) → ((k : ℕ) → k < n → f k ≡ g k) → count_below f n ≡ count_below g n
-unfolding count_below
-count-same f g zero same = refl
-count-same f g (suc n) same = ap₂ (λ a b. a + one_if b) (count-same f g n (λ k below. same k (omega arith))) (same n (omega arith))
 
 -- what is measured of the samples, and their slots, decide the text
 text-same : (n : ℕ) (plan : Plan) (m k : ℕ → List Record) (s t : ℕ → List PlainSlot) (until : ℕ) → ((b : ℕ) → b < 64 → m b ≡ k b) → ((b : ℕ) → b < 64 → s b ≡ t b)

@@ -1,7 +1,8 @@
 -- The summary of a run whose plan is made from a number: of each slot the energies of its last record, summed over the samples,
 -- and in how many samples its first replica began in another slot.
-use Rattle.std.specs.Prelude.{◌≡◌, ℕ, zero, suc, ◌-◌, ◌+ℤ◌, ℤ, pos, ◌==◌, not, List, ◌++◌, flat_map}
+use Rattle.std.specs.Prelude.{◌≡◌, ℕ, ◌-◌, ◌+ℤ◌, ℤ, ◌==◌, not, List, ◌++◌, flat_map}
 use Rattle.spin_model.specs.Steps.{table, count_below}
+use Rattle.spin_model.specs.SignedSums.{sum_of}
 use Rattle.report_text.specs.Lines.{summary_line, slot_line, end_line}
 use Rattle.scalar_rule.specs.Epoch.{slot_at}
 use Rattle.scalar_rule.specs.Plan.{Plan, slots_of}
@@ -16,11 +17,6 @@ use Rattle.plane_sweep.specs.declared.stand.Stand.{Stand}
 use Rattle.glass_engine.specs.Report.{record_at}
 use Rattle.glass_engine.specs.Runs.{RunView}
 
--- the sum of what the numbers below n have
-unfoldable pub sum_below : (ℕ → ℤ) → ℕ → ℤ
-sum_below item zero = pos 0
-sum_below item (suc n) = sum_below item n +ℤ item n
-
 -- the energies of both replicas in the record of slot t
 abbrev pub both_energies : List Record → ℕ → ℤ
 both_energies records t = (record_at records t).first_energy +ℤ (record_at records t).second_energy
@@ -28,7 +24,7 @@ both_energies records t = (record_at records t).first_energy +ℤ (record_at rec
 -- the line of slot t, where `measured b` are the records of sample b in the last epoch and `contents b` its slots after it
 abbrev pub slot_sums : (ℕ → List Record) → (ℕ → List PlainSlot) → ℕ → List ℕ
 slot_sums measured contents t =
-    slot_line t (sum_below (λ b. both_energies (measured b) t) 64) (count_below (λ b. not ((slot_at (contents b) t).first.replica == t)) 64)
+    slot_line t (sum_of (λ b. both_energies (measured b) t) 64) (count_below (λ b. not ((slot_at (contents b) t).first.replica == t)) 64)
 
 -- the whole text
 unfoldable pub summary_text : ℕ → Plan → (ℕ → List Record) → (ℕ → List PlainSlot) → ℕ → List ℕ

@@ -7,6 +7,7 @@ ghost use Rattle.plane_sweep.specs.Uneven.{uneven_part};
 ghost use Rattle.scalar_rule.specs.Plan.{slots_of};
 ghost use Rattle.scalar_rule.specs.Records.{is_recorded};
 ghost use Rattle.scalar_rule.specs.declared.sample.Sample as samples;
+ghost use Rattle.spin_model.specs.SignedSums.{sum_of};
 ghost use Rattle.spin_model.specs.Steps.{table, count_below};
 ghost use Rattle.spin_model.specs.Words.{one_if};
 ghost use Rattle.glass_engine.specs.RecordPieces.{piece};
@@ -107,7 +108,7 @@ fn slot_energy(records: &[Record], slots: usize, slot: usize) -> i64
     requires records { length records.now ≡ 64 * slots }
     requires slot { slot < slots }
     requires few { slots ≤ 32 }
-    ensures { result ≡ text.sum_below (λ b. text.both_energies (piece records.now slots b) slot) 64 }
+    ensures { result ≡ sum_of (λ b. text.both_energies (piece records.now slots b) slot) 64 }
 {
     let mut sum = 0;
     'samples: for b in 0..SAMPLES {

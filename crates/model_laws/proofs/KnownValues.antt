@@ -4,11 +4,12 @@ use Rattle.std.specs.Prelude.{◌==◌, map, replicate, pos, neg_ℤ}
 use Rattle.spin_model.specs.Lattice.{forward, backward}
 use Rattle.spin_model.specs.Steps.{count_below}
 use Rattle.spin_model.specs.SiteRule.{HeatBath, Metropolis, new_spin}
+use Rattle.spin_model.specs.SignedSums.{sum_of}
 use Rattle.threshold_table.specs.Tables.{swap_threshold}
 use Rattle.scalar_rule.specs.Exchange.{is_swapped}
 use Rattle.scalar_rule.specs.Neighbours.{agree, satisfied}
 use Rattle.scalar_rule.specs.Sums.{energy}
-use Rattle.model_laws.specs.Energies.{sum_of, hamiltonian, turned}
+use Rattle.model_laws.specs.Energies.{hamiltonian, turned}
 use Rattle.model_laws.specs.Weights.{weight}
 use Rattle.model_laws.specs.Balance.{site_weight}
 use Rattle.model_laws.specs.ExchangeBalance.{half_difference}

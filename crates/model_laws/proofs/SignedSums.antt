@@ -6,9 +6,10 @@ use Rattle.spin_model.specs.Words.{one_if}
 use Rattle.spin_model.specs.Steps.{count_below}
 use Rattle.spin_model.specs.Couplings.{Bonds}
 use Rattle.spin_model.specs.Lattice.{bond_count, forward}
+use Rattle.spin_model.specs.SignedSums.{sum_of}
 use Rattle.scalar_rule.specs.Neighbours.{spin, coupled, agree}
 use Rattle.scalar_rule.specs.Sums.{is_unsatisfied, energy}
-use Rattle.model_laws.specs.Energies.{sign, bond_value, sum_of, hamiltonian}
+use Rattle.model_laws.specs.Energies.{sign, bond_value, hamiltonian}
 
 -- J s s' is 1 less twice the bond if it is unsatisfied
 bond-value : (j x y : Bool) → sign (not j) *ℤ sign x *ℤ sign y ≡ pos 1 -ℤ pos (2 * one_if (not (agree (coupled j y) x)))

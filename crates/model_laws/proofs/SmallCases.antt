@@ -6,6 +6,7 @@ use Rattle.spin_model.specs.Lattice.{forward, backward, compact}
 use Rattle.spin_model.specs.Stream.{advanced}
 use Rattle.spin_model.specs.Steps.{count_below, table}
 use Rattle.spin_model.specs.SiteRule.{HeatBath, Metropolis, new_spin}
+use Rattle.spin_model.specs.SignedSums.{sum_of}
 use Rattle.threshold_table.specs.declared.rule_table.RuleKind.TheVariants as kinds
 use Rattle.scalar_rule.specs.Plan.{Plan}
 use Rattle.scalar_rule.specs.Exchange.{is_swapped, decision, cold_side, hot_side}
@@ -16,7 +17,7 @@ use Rattle.scalar_rule.specs.Sweep.{Dynamics, visit}
 use Rattle.scalar_rule.specs.declared.plain_copy.PlainCopy.{PlainCopy}
 use Rattle.scalar_rule.specs.declared.sample.PlainPair.{PlainPair}
 use Rattle.scalar_rule.specs.declared.sample.PlainSlot.{PlainSlot}
-use Rattle.model_laws.specs.Energies.{sum_of, hamiltonian, turned}
+use Rattle.model_laws.specs.Energies.{hamiltonian, turned}
 use Rattle.model_laws.specs.Weights.{weight}
 use Rattle.model_laws.specs.Balance.{turns, updated_by}
 use Rattle.model_laws.specs.Order.{swept_in_order}

@@ -1,8 +1,9 @@
 -- The energy as the Hamiltonian of Edwards and Anderson (J. Phys. F 5, 965 (1975)) has it, with spins and couplings as
 -- signed numbers, and what it costs to turn a spin.
-use Rattle.std.specs.Prelude.{◌≡◌, ℕ, zero, suc, ◌+◌, ◌*◌, ◌/◌, ◌%◌, ◌<◌, ◌≤◌, ℤ, pos, neg_ℤ, ◌+ℤ◌, ◌-ℤ◌, ◌*ℤ◌, Bool, true, false, not, List, length, slice_set}
+use Rattle.std.specs.Prelude.{◌≡◌, ℕ, ◌+◌, ◌*◌, ◌/◌, ◌%◌, ◌<◌, ◌≤◌, ℤ, pos, neg_ℤ, ◌+ℤ◌, ◌-ℤ◌, ◌*ℤ◌, Bool, true, false, not, List, length, slice_set}
 use Rattle.spin_model.specs.Couplings.{Bonds}
 use Rattle.spin_model.specs.Lattice.{IsLawfulSize, volume, bond_count, forward}
+use Rattle.spin_model.specs.SignedSums.{sum_of}
 use Rattle.scalar_rule.specs.Neighbours.{spin, aligned, satisfied}
 use Rattle.scalar_rule.specs.Sums.{unsatisfied, energy}
 
@@ -23,11 +24,6 @@ coupling_value bonds n = sign (not (bonds n))
 abbrev pub bond_value : ℕ → Bonds → List Bool → ℕ → ℤ
 bond_value l bonds spins n =
     coupling_value bonds n *ℤ spin_value spins (n / 3) *ℤ spin_value spins (forward l (n / 3) (n % 3))
-
--- term 0 + term 1 + .. + term (n - 1)
-unfoldable pub sum_of : (ℕ → ℤ) → ℕ → ℤ
-sum_of term zero = pos 0
-sum_of term (suc n) = sum_of term n +ℤ term n
 
 -- H = - sum over all bonds of J s s'
 abbrev pub hamiltonian : ℕ → Bonds → List Bool → ℤ

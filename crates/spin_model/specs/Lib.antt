@@ -1,5 +1,6 @@
 pub mod Words
 pub mod Steps
+pub mod SignedSums
 pub mod Stream
 pub mod Seeding
 pub mod Lattice

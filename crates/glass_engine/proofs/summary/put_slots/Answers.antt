@@ -4,9 +4,10 @@ use Rattle.glass_edges.specs.Contents.{appended, AppendsPrefix}
 use Rattle.glass_edges.proofs.Puts.{OnErr_of}
 use Rattle.report_text.specs.Lines.{slot_line}
 use Rattle.glass_engine.specs.RecordPieces.{piece}
-use Rattle.glass_engine.specs.Summary.{sum_below, both_energies}
-use Rattle.glass_engine.proofs.Joined.{joined-zero, joined-more, joined-at}
-use Rattle.glass_engine.proofs.Putting.{put-none, put-more, put-failed}
+use Rattle.glass_engine.specs.Summary.{both_energies}
+use Rattle.spin_model.proofs.Joined.{joined-zero, joined-more, joined-at}
+use Rattle.spin_model.specs.SignedSums.{sum_of}
+use Rattle.glass_edges.proofs.Putting.{put-none, put-more, put-failed}
 use Rattle.glass_engine.proofs.Summaries.{away-read}
 use Rattle.glass_engine.proofs.summary.put_slots.Goals as goal
 
@@ -20,7 +21,7 @@ pub slots-preserved : goal.slots-preserved
 slots-preserved g c =
     let below : c.slots.slot < length c.args.stand.now.slots = omega (arith, c.slots-test.true, c.slots-slots.ensures.value, c.requires.slots) in
     let away = away-read c.args.plan.now.size c.slots.slot c.args.stand.now c.at.result.now below c.at.ensures in
-    let wide = ap (λ n. sum_below (λ b. both_energies (piece c.args.records.now n b) c.slots.slot) 64) c.slots-slots.ensures.value in
+    let wide = ap (λ n. sum_of (λ b. both_energies (piece c.args.records.now n b) c.slots.slot) 64) c.slots-slots.ensures.value in
     let fits : SFits w64 c.slot_energy-energy.result = search rules in
     let read = ap₂ (slot_line c.slots.slot) (to_z-of_z w64 c.slot_energy-energy.result fits ∙ c.slot_energy-energy.ensures ∙ wide) (c.away_count-away.ensures ∙ away) in
     record {
@@ -32,7 +33,7 @@ pub returns-in_err-slot_line-clause-prefix : goal.returns-in_err-slot_line-claus
 returns-in_err-slot_line-clause-prefix g c =
     let below : c.slots.slot < length c.args.stand.now.slots = omega (arith, c.slots-test.true, c.slots-slots.ensures.value, c.requires.slots) in
     let away = away-read c.args.plan.now.size c.slots.slot c.args.stand.now c.at.result.now below c.at.ensures in
-    let wide = ap (λ n. sum_below (λ b. both_energies (piece c.args.records.now n b) c.slots.slot) 64) c.slots-slots.ensures.value in
+    let wide = ap (λ n. sum_of (λ b. both_energies (piece c.args.records.now n b) c.slots.slot) 64) c.slots-slots.ensures.value in
     let fits : SFits w64 c.slot_energy-energy.result = search rules in
     let read = ap₂ (slot_line c.slots.slot) (to_z-of_z w64 c.slot_energy-energy.result fits ∙ c.slot_energy-energy.ensures ∙ wide) (c.away_count-away.ensures ∙ away) in
     let failed = subst (AppendsPrefix _ (g.O.Sink.taken c.slot_line.new.out)) read c.in_err-slot_line.ensures.prefix in
