@@ -117,7 +117,7 @@ told : (a : Bool) → (cond a 2 0 == 2) ≡ a
 told true = refl
 told false = refl
 
-begun-done : (e : ℕ) (a : Bool) → (4 * e + cond a 2 0 + 3) / 4 ≡ e + cond a 1 0
+pub begun-done : (e : ℕ) (a : Bool) → (4 * e + cond a 2 0 + 3) / 4 ≡ e + cond a 1 0
 begun-done e true = omega arith
 begun-done e false = omega arith
 

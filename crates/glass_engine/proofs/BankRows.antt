@@ -17,7 +17,7 @@ use Rattle.glass_engine.specs.BankRuns.{bank_of, runs_of}
 use Rattle.glass_engine.specs.KeptBanks.{HaveSamples}
 use Rattle.glass_engine.specs.Runs.{DoneView}
 use Rattle.glass_engine.proofs.BankLaws.{of-first, of-next}
-use Rattle.glass_engine.proofs.Joined.{window-first}
+use Rattle.spin_model.proofs.Joined.{window-first}
 use Rattle.glass_engine.proofs.Pieces.{records_if, count_if, count-front, drop-front, piece-records_at}
 
 -- ---- the bank of a sample, and its bit there

@@ -1,16 +1,14 @@
 -- The checkpoint of banks that were driven: bank by bank, and it is that of their runs.
 use Rattle.std.proofs.Common.{arith, ◌≡◌, ℕ, ◌+◌, ◌*◌, ◌^◌, ◌<◌, ◌≤◌, List, [], ◌∷◌, ◌++◌, length, map, drop, get_or, refl, sym, ap, ap₂, ◌∙◌, subst, append_assoc, append-nil, length-append}
-use Rattle.std.specs.Int.{bytes_high_first}
 use Rattle.std.specs.Prelude.{All, ◌≢◌}
 use Rattle.std.proofs.Math.Nat.{mul-le-mul_right}
 use native.Mathlib.Nat.{mul_comm}
 use Rattle.std.proofs.lemmas.List.Elements.{All-head, All-tail, All-get_or}
-use Rattle.run_checkpoint.specs.BankEncoding.{banks_kind, banks_header, banks_bytes, banks_encoding, HaveShape, HaveOneShape, bank_len}
+use Rattle.run_checkpoint.specs.BankEncoding.{banks_header, banks_bytes, banks_encoding, HaveShape, HaveOneShape, bank_len}
 use Rattle.run_checkpoint.specs.Encoding.{encoding, sealed, flattened}
 use Rattle.run_checkpoint.specs.Lengths.{encoding_len}
 use Rattle.run_checkpoint.proofs.BankSteps.{next-item, no-item, plan-len}
 use Rattle.run_checkpoint.proofs.LevelClauses.{encoding-same}
-use Rattle.run_checkpoint.proofs.Pieces.{length-big_bytes}
 use Rattle.run_plan.specs.declared.run_file.Orders.{Orders}
 use Rattle.scalar_rule.specs.Plan.{Plan, slots_of, IsLawfulPlan}
 use Rattle.scalar_rule.specs.Serial.{serial}
@@ -32,13 +30,6 @@ use Rattle.glass_engine.proofs.SavedRuns.{ended-level, ended-flattened}
 use Rattle.glass_engine.proofs.Savings.{flattened-fits, level-length}
 
 -- ---- bank by bank
-
-pub header-long : (count : ℕ) → length (banks_header count) ≡ 12
-unfolding banks_header
-header-long count =
-    let four = length-big_bytes 4 count in
-    let twelve : length banks_kind + 4 ≡ 12 = refl in
-    length-append banks_kind (bytes_high_first 4 count) ∙ ap (λ k. length banks_kind + k) four ∙ twelve
 
 -- the states that a bank ended with
 abbrev end-of : DoneView → ℕ → Sample

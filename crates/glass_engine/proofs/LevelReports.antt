@@ -27,7 +27,7 @@ use Rattle.exchange_board.specs.Views.{RaggedEndedView}
 use Rattle.scalar_rule.proofs.LevelRuns.{all_ready-serial, level-record}
 use Rattle.glass_engine.specs.Report.{uneven_report, report, run_report, sample_rows, epoch_rows, rows_in_order, uneven_measured, all_rest, all_spins}
 use Rattle.glass_engine.specs.Runs.{RunView, starts, IsEnd}
-use Rattle.glass_engine.proofs.Joined.{joined-same}
+use Rattle.spin_model.proofs.Joined.{joined-same}
 use Rattle.glass_engine.proofs.Reporting.{floor-tells, spins-same}
 use Rattle.glass_engine.proofs.WholeRuns.{level-serial, whole-floor}
 

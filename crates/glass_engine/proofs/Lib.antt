@@ -5,8 +5,6 @@ pub mod SavedRuns
 pub mod Savings
 pub mod Joined
 pub mod Pieces
-pub mod Putting
-pub mod Adding
 pub mod Reporting
 pub mod LevelReports
 pub mod Leaving

@@ -6,7 +6,8 @@ use Rattle.std.proofs.lemmas.Bool.{cases_Bool, and_parts, eqb-true, eq-eqb, true
 use Rattle.std.proofs.lemmas.List.{length-map}
 use Rattle.std.proofs.lemmas.List.Folds.{list_all_at}
 use Rattle.glass_edges.specs.Contents.{appended, AppendsPrefix}
-use Rattle.glass_edges.proofs.Puts.{appended-appended, prefix_front, prefix_past}
+use Rattle.glass_edges.proofs.Puts.{prefix_front, prefix_past}
+use Rattle.glass_edges.proofs.Putting.{put-two}
 use Rattle.report_text.specs.Lines.{header_line, end_line}
 use Rattle.scalar_rule.specs.Plan.{Plan}
 use Rattle.scalar_rule.specs.Positions.{position_in, done, floor_of}
@@ -24,11 +25,11 @@ use Rattle.exchange_board.specs.Views.{RaggedEndedView}
 use Rattle.exchange_board.proofs.Cells.{floor-deep}
 use Rattle.exchange_board.proofs.Origins.{place-short, done-reach}
 use Rattle.exchange_board.proofs.RowPlaces.{quotient-upto}
-use Rattle.exchange_board.proofs.Starting.{begun-at}
+use Rattle.exchange_board.proofs.Starting.{begun-at, begun-done}
 use Rattle.glass_engine.specs.Report.{uneven_report, rows_in_order, all_rest, all_spins, sample_spins}
 use Rattle.glass_engine.specs.RecordPieces.{measured, stopped_report}
 use Rattle.exchange_board.specs.Answers.{stages_of}
-use Rattle.glass_engine.proofs.Joined.{joined-same}
+use Rattle.spin_model.proofs.Joined.{joined-same}
 use Rattle.glass_engine.proofs.WholeRuns.{later, later-lawful, full-ended, rest-at, whole-slots}
 
 -- ---- what the parts ask for
@@ -78,10 +79,6 @@ all-rest e (p ∷ ends) each =
     let here : rests e p ≡ true = ap (rests e) (each 0 (omega arith)) ∙ rest-tests e in
     let rest : all_rest e ends ≡ true = all-rest e ends (λ t h. each (suc t) (omega arith)) in
     ap₂ (λ a b. a && b) here rest
-
-begun-done : (e : ℕ) (a : Bool) → (4 * e + cond a 2 0 + 3) / 4 ≡ e + cond a 1 0
-begun-done e true = omega arith
-begun-done e false = omega arith
 
 -- the least completed epoch is until
 floor-ended : (o : Origin) (d : RaggedEndedView) → IsLawfulOrigin o → IsStop o d → floor_of (positions_of d.stand) ≡ o.window.until → AllEnded o.window.until (stages_of d.stand)
@@ -168,9 +165,6 @@ failed-first before now a b c d whole is p =
 pub failed-second : (before x now : Option (List ℕ)) (a b c d whole : List ℕ) → whole ≡ a ++ b ++ c ++ d → x ≡ appended before a → AppendsPrefix x now b → AppendsPrefix before now whole
 failed-second before x now a b c d whole is first p =
     subst (AppendsPrefix before now) (sym is) (prefix_front before now (a ++ b ++ c) d (prefix_front before now (a ++ b) c (prefix_past before x now a b first p)))
-
-pub put-two : (before x y : Option (List ℕ)) (a b : List ℕ) → x ≡ appended before a → y ≡ appended x b → y ≡ appended before (a ++ b)
-put-two before x y a b first second = second ∙ ap (λ o. appended o b) first ∙ appended-appended before a b
 
 pub failed-third : (before x y now : Option (List ℕ)) (a b c d whole : List ℕ) → whole ≡ a ++ b ++ c ++ d → x ≡ appended before a → y ≡ appended x b → AppendsPrefix y now c
     → AppendsPrefix before now whole

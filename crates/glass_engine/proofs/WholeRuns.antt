@@ -14,7 +14,7 @@ use Rattle.scalar_rule.specs.declared.sample.PlainSlot.{PlainSlot}
 use Rattle.scalar_rule.specs.declared.sample.PlainPair.{PlainPair}
 use Rattle.scalar_rule.specs.declared.sample.Sample.{Sample}
 use Rattle.scalar_rule.specs.Laws.{level_start}
-use Rattle.scalar_rule.proofs.Extremes.{least-some}
+use Rattle.scalar_rule.proofs.Extremes.{least-some, sum-most}
 use Rattle.plane_sweep.specs.Packed.{part, part_slot, part_pair, StandFits}
 use Rattle.plane_sweep.specs.Uneven.{place_at, position_of, positions_of, uneven_part, level_stand}
 use Rattle.plane_sweep.specs.declared.stand.Stand.{Stand}
@@ -40,15 +40,6 @@ use Rattle.glass_engine.specs.Runs.{RunView, starts, IsEnd}
 use Rattle.glass_engine.proofs.Steps.{start-none}
 
 -- numbers whose sum is as great as it can be are all as great as they can be
-sum-most : (f : ℕ → ℕ) (n c : ℕ) → ((t : ℕ) → t < n → f t ≤ c) → sum_below f n ≤ n * c
-unfolding sum_below
-sum-most f zero c most = omega arith
-sum-most f (suc n) c most =
-    let before = sum-most f n c (λ t h. most t (omega arith)) in
-    let last = most n (omega arith) in
-    let more : suc n * c ≡ n * c + c = suc-mul n c in
-    omega arith
-
 sum-full : (f : ℕ → ℕ) (n c : ℕ) → ((t : ℕ) → t < n → f t ≤ c) → n * c ≤ sum_below f n → (t : ℕ) → t < n → f t ≡ c
 unfolding sum_below
 sum-full f zero c most full t h = omega arith

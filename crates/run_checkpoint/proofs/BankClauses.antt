@@ -91,7 +91,7 @@ flat : (plans : List Plan) (stands : List Stand) → whole_packed plans stands �
 unfolding sealed banks_header
 flat plans stands = three banks_kind (big_bytes 4 (length plans)) (banks_packed plans stands) (sha256 (banks_header (length plans) ++ banks_packed plans stands))
 
-length-banks_header : (count : ℕ) → length (banks_header count) ≡ 12
+pub length-banks_header : (count : ℕ) → length (banks_header count) ≡ 12
 unfolding banks_header
 length-banks_header count = length-append banks_kind (big_bytes 4 count) ∙ omega (arith, length-big_bytes 4 count)
 

@@ -10,8 +10,8 @@ use Rattle.plane_sweep.specs.declared.uneven.RaggedStand.{RaggedStand}
 use Rattle.scalar_rule.specs.Plan.{slots_of}
 use Rattle.glass_engine.proofs.BankRows.{sample-within, ended-is}
 use Rattle.glass_engine.proofs.BankReports.{spins-at}
-use Rattle.glass_engine.proofs.Joined.{joined-zero, joined-more, joined-at}
-use Rattle.glass_engine.proofs.Putting.{put-none, put-more, put-failed}
+use Rattle.spin_model.proofs.Joined.{joined-zero, joined-more, joined-at}
+use Rattle.glass_edges.proofs.Putting.{put-none, put-more, put-failed}
 use Rattle.glass_engine.proofs.bank_report.write_bank_spins.Goals as goal
 
 pub samples-init : goal.samples-init

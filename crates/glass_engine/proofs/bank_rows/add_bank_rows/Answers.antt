@@ -2,9 +2,9 @@ use Rattle.std.proofs.Common.{rules, arith, ◌+◌, ap, sym, subst, refl, ◌�
 use Rattle.glass_edges.proofs.Puts.{OnErr_of}
 use Rattle.glass_engine.specs.BankPieces.{banks_in, AreRowsFrom}
 use Rattle.glass_engine.specs.Banks.{banks_measured}
-use Rattle.glass_engine.proofs.Adding.{add-none, add-more, add-failed}
+use Rattle.glass_edges.proofs.Putting.{add-none, add-more, add-failed}
 use Rattle.glass_engine.proofs.BankRows.{rows-next}
-use Rattle.glass_engine.proofs.Joined.{window-none, window-at}
+use Rattle.spin_model.proofs.Joined.{window-none, window-at}
 use Rattle.glass_engine.proofs.Pieces.{rows_if, rows-more}
 use Rattle.glass_engine.proofs.bank_rows.add_bank_rows.Goals as goal
 

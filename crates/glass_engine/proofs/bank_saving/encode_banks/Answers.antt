@@ -8,16 +8,17 @@ use Rattle.run_checkpoint.specs.BankEncoding.{banks_header, banks_bytes, banks_e
 use Rattle.run_checkpoint.specs.Encoding.{encoding, sealed, flattened}
 use Rattle.run_checkpoint.specs.Lengths.{encoding_len}
 use Rattle.run_checkpoint.proofs.Forms.{length-sealed}
+use Rattle.run_checkpoint.proofs.BankClauses.{length-banks_header}
 use Rattle.scalar_rule.specs.Plan.{Plan, slots_of}
 use Rattle.glass_engine.specs.BankPieces.{ends_in}
 use Rattle.glass_engine.proofs.BankDrives.{same-count}
-use Rattle.glass_engine.proofs.BankSavings.{header-long, fits-at, bytes-step, bytes-end, long-step, len-at, left-enough}
+use Rattle.glass_engine.proofs.BankSavings.{fits-at, bytes-step, bytes-end, long-step, len-at, left-enough}
 use Rattle.glass_engine.proofs.bank_saving.encode_banks.Goals as goal
 
 pub banks-init : goal.banks-init
 banks-init c =
     let begun = c.begin_banks.ensures.bytes in
-    let long = ap length begun ∙ header-long _ in
+    let long = ap length begun ∙ length-banks_header _ in
     record {
       bytes = ap (λ bs. bs ++ banks_bytes (map arc_value c.args.plans.now) (ends_in c.args.driven.now)) begun;
       long = omega (arith, long);

@@ -6,9 +6,9 @@ use Rattle.std.proofs.lemmas.List.{get_or-map}
 use Rattle.plane_sweep.specs.declared.replica.Duo.{Duo}
 use Rattle.plane_sweep.specs.declared.uneven.RaggedStand.{RaggedStand}
 use Rattle.scalar_rule.specs.Epoch.{slot_at}
-use Rattle.glass_engine.proofs.Joined.{joined-zero, joined-more, joined-at}
+use Rattle.spin_model.proofs.Joined.{joined-zero, joined-more, joined-at}
 use Rattle.glass_edges.proofs.Puts.{OnErr_of}
-use Rattle.glass_engine.proofs.Putting.{put-none, put-more, put-failed}
+use Rattle.glass_edges.proofs.Putting.{put-none, put-more, put-failed}
 use Rattle.glass_engine.specs.Report.{slot_spins}
 use Rattle.glass_engine.proofs.report.write_sample_spins.Goals as goal
 

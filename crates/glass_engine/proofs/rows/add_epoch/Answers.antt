@@ -2,9 +2,9 @@ use Rattle.std.proofs.Common.{arith, ◌≡◌, ◌++◌, ◌+◌, ◌*◌, take
 use Rattle.std.proofs.lemmas.List.{drop-drop, take_rest}
 use Rattle.glass_edges.specs.Contents.{AppendsPrefix, PutsFront}
 use Rattle.glass_engine.specs.Report.{sample_rows}
-use Rattle.glass_engine.proofs.Joined.{joined-zero, joined-more, joined-at}
+use Rattle.spin_model.proofs.Joined.{joined-zero, joined-more, joined-at}
 use Rattle.glass_edges.proofs.Puts.{OnErr_of}
-use Rattle.glass_engine.proofs.Adding.{add-none, add-more, add-failed}
+use Rattle.glass_edges.proofs.Putting.{add-none, add-more, add-failed}
 use Rattle.glass_engine.proofs.rows.add_epoch.Goals as goal
 
 pub samples-init : goal.samples-init

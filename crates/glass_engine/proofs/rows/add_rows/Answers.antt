@@ -4,10 +4,10 @@ use Rattle.spin_model.proofs.Tables.{length-table}
 use Rattle.glass_edges.specs.Contents.{AppendsPrefix, PutsFront}
 use Rattle.exchange_board.specs.Content.{slots_in}
 use Rattle.glass_engine.specs.RecordPieces.{measured}
-use Rattle.glass_engine.proofs.Joined.{window-none, window-at}
+use Rattle.spin_model.proofs.Joined.{window-none, window-at}
 use Rattle.glass_engine.proofs.Pieces.{rows_if, rows-front, rows-more, count-front, drop-front}
 use Rattle.glass_edges.proofs.Puts.{OnErr_of}
-use Rattle.glass_engine.proofs.Adding.{add-none, add-more, add-failed}
+use Rattle.glass_edges.proofs.Putting.{add-none, add-more, add-failed}
 use Rattle.glass_engine.proofs.rows.add_rows.Goals as goal
 
 pub epochs-init : goal.epochs-init

@@ -1,7 +1,7 @@
 use Rattle.std.proofs.Common.{refl, ◌∙◌}
-use Rattle.glass_engine.proofs.Joined.{joined-zero, joined-more, joined-at}
+use Rattle.spin_model.proofs.Joined.{joined-zero, joined-more, joined-at}
 use Rattle.glass_edges.proofs.Puts.{OnErr_of}
-use Rattle.glass_engine.proofs.Adding.{add-none, add-more, add-failed}
+use Rattle.glass_edges.proofs.Putting.{add-none, add-more, add-failed}
 use Rattle.glass_engine.proofs.rows.add_sample.Goals as goal
 
 pub slots-init : goal.slots-init
