@@ -3,7 +3,6 @@ pub mod Driven
 pub mod WholeRuns
 pub mod SavedRuns
 pub mod Savings
-pub mod Joined
 pub mod Pieces
 pub mod Reporting
 pub mod LevelReports

@@ -28,7 +28,7 @@ use Rattle.scalar_rule.proofs.ReachedRuns.{rank-upto, all_ready-reached, record-
 use Rattle.plane_sweep.specs.Packed.{part, part_slot, part_pair}
 use Rattle.plane_sweep.specs.Uneven.{position_of, positions_of}
 use Rattle.glass_engine.specs.Report.{epoch_rows, rows_in_order, uneven_measured, all_rest, all_spins, uneven_report, report}
-use Rattle.glass_engine.proofs.Joined.{joined-add}
+use Rattle.spin_model.proofs.Joined.{joined-add}
 use Rattle.glass_engine.proofs.Reporting.{spins-same}
 use Rattle.glass_main.specs.Beginnings.{Beginning, Level, Uneven, opened_by, begins_at, all_at, run_text, run_checkpoint}
 use Rattle.glass_main.specs.StopLaws.{IsEncodingOf, IsBeginning, state_at, reached_by, Leaves, AreLeft, last_of, all_rows, AddUp}

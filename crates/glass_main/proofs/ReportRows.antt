@@ -5,7 +5,7 @@ use Rattle.std.proofs.lemmas.Grind.{flat_map-append}
 use Rattle.std.proofs.lemmas.Nat.{div-mul-add, mod-mul-add}
 use Rattle.spin_model.specs.Steps.{table}
 use Rattle.spin_model.proofs.Tables.{table-zero, table-more, table-add, table-same}
-use Rattle.glass_engine.proofs.Joined.{joined-zero, joined-more, length-joined}
+use Rattle.spin_model.proofs.Joined.{joined-zero, joined-more, length-joined}
 use Rattle.sample_average.specs.declared.header.Header.{Header}
 use Rattle.sample_average.specs.declared.row.Row.{Row}
 use Rattle.sample_average.specs.LawfulReport.{IsInRange, AreRowsFrom, IsGroup, AreGroups}

@@ -10,7 +10,7 @@ use Rattle.spin_model.proofs.Tables.{table-zero, table-more, length-table}
 use Rattle.scalar_rule.specs.Neighbours.{spin}
 use Rattle.scalar_rule.specs.SpinDigits.{hex_digit, four_spins, spin_digits}
 use Rattle.report_text.specs.Lines as text
-use Rattle.glass_engine.proofs.Joined.{joined-zero, joined-more, length-joined}
+use Rattle.spin_model.proofs.Joined.{joined-zero, joined-more, length-joined}
 use Rattle.sample_average.specs.declared.header.Header.{Header}
 use Rattle.sample_average.specs.LawfulReport.{AreDigits, AreSpins, is_hex, spin_head, spin_line, spin_lines}
 

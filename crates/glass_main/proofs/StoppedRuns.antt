@@ -33,7 +33,7 @@ use Rattle.exchange_board.proofs.Origins.{done-reach}
 use Rattle.exchange_board.proofs.Starting.{taken-begun}
 use Rattle.glass_engine.specs.Report.{sample_rows, epoch_rows, rows_in_order, uneven_measured, all_rest, uneven_report, run_report}
 use Rattle.glass_engine.specs.Runs.{RunView, IsEnd}
-use Rattle.glass_engine.proofs.Joined.{joined-same}
+use Rattle.spin_model.proofs.Joined.{joined-same}
 use Rattle.glass_engine.proofs.Reporting.{spins-same}
 use Rattle.glass_engine.proofs.WholeRuns.{later, later-lawful, rest-at}
 use Rattle.glass_main.specs.Beginnings.{Beginning, Level, Uneven, begins_at, IsLevelBase, IsBaseOf}
