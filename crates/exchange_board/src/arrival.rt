@@ -10,7 +10,7 @@ ghost use Rattle.exchange_board.specs.Views.{place_at, out_at, ready_at, arrived
 use crate::board::{Board, Home, Slot};
 use crate::job::Swept;
 use crate::rows::record_slot;
-use crate::trading::meet;
+use crate::trading::{Side, meet};
 use scalar_rule::Plan;
 
 /// What a hand-back has done.
@@ -204,7 +204,7 @@ impl Board {
         let pair = colder(slot, other, is_low);
         let wheels = self.pairs.at_mut(pair as usize);
         let mate = self.slots.at_mut(other as usize);
-        meet(mate, &mut duo, &totals, wheels, plan, pair, is_low);
+        meet(mate, &mut duo, &totals, wheels, plan, Side { pair, is_low });
         *self.slots.at_mut(slot as usize) = Slot {
             epoch: epoch + 1,
             home: Some(Home {
