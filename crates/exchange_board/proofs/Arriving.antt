@@ -19,12 +19,12 @@ use Rattle.exchange_board.specs.declared.board.Slot.{Slot}
 use Rattle.exchange_board.specs.declared.board.Board.TheInside as board
 use Rattle.exchange_board.specs.declared.job.Swept.TheInside as swept
 use Rattle.exchange_board.specs.Totals.{AreTotals}
-use Rattle.exchange_board.specs.Views.{Stage, place_at, out_at}
+use Rattle.exchange_board.specs.Views.{Stage, BoardView, JobView, place_at, out_at}
 use Rattle.exchange_board.specs.Content.{plan_of, slots_in, starts, started, floor_in, rule_record}
 use Rattle.exchange_board.specs.Machine.{epochs, phases, numbers, begun, recorded, taken, met}
-use Rattle.exchange_board.specs.JobKeeps.{KeepsSwept}
+use Rattle.exchange_board.specs.JobKeeps.{swept_view, KeepsSwept}
 use Rattle.exchange_board.specs.Meeting.{RecordsAfter}
-use Rattle.exchange_board.specs.BoardKeeps.{place_of, places_of, rule_content, KeepsSlot, content_at, KeepsBoard}
+use Rattle.exchange_board.specs.BoardKeeps.{place_of, places_of, board_view, rule_content, KeepsSlot, content_at, KeepsBoard}
 use Rattle.exchange_board.proofs.Machines.{OneMoved, alone-rule, wait-rule}
 use Rattle.exchange_board.proofs.Origins.{floor-before}
 use Rattle.exchange_board.proofs.RowPlaces.{Recorded, rows-written, rule-measured}
@@ -39,6 +39,18 @@ pub record Coming (b : board.Inside) (s : swept.Inside) (plan : Plan) : Type 0 w
   pub same : arc_value s.share ≡ arc_value b.origin
   pub known : s.slot < length (places_of b)
   pub out : place_at (places_of b) s.slot ≡ out_at s.epoch
+
+-- it is what a hand-back asks for
+pub coming-of : (b : board.Inside) (s : swept.Inside) (v : BoardView) (w : JobView) (plan : Plan) → KeepsBoard b → KeepsSwept s → board_view b ≡ v → swept_view s ≡ w
+    → plan ≡ plan_of v.origin → w.origin ≡ v.origin → w.slot < length v.places → place_at v.places w.slot ≡ out_at w.epoch → Coming b s plan
+coming-of b s v w plan keeps swept board_is swept_is plan_is same known out = record {
+  keeps = keeps;
+  swept = swept;
+  plan_is = rw (← board_is) at plan_is;
+  same = rw (← board_is, ← swept_is) at same;
+  known = rw (← board_is, ← swept_is) at known;
+  out = rw (← board_is, ← swept_is) at out;
+}
 
 pub record Known (b : board.Inside) (s : swept.Inside) (plan : Plan) : Type 0 where
   pub known : s.slot < length b.slots
@@ -90,6 +102,14 @@ known-of b s plan c =
 -- the records that a hand-back writes
 abbrev pub Written : board.Inside → swept.Inside → Plan → List Record → Type 0
 Written b s plan rs = RecordsAfter (arc_value b.origin) s.slot s.epoch (λ i. record_of plan i (part_slot plan.size i s.duo)) b.records rs
+
+pub written-of : (b : board.Inside) (s : swept.Inside) (plan : Plan) (o : Origin) (rs : List Record) → o ≡ arc_value b.origin
+    → RecordsAfter o s.slot s.epoch (λ i. record_of plan i (part_slot plan.size i s.duo)) b.records rs → Written b s plan rs
+written-of b s plan o rs is after = subst (λ (x : Origin). RecordsAfter x s.slot s.epoch (λ i. record_of plan i (part_slot plan.size i s.duo)) b.records rs) is after
+
+-- they are of an epoch that the board records
+pub from-known : (b : board.Inside) (s : swept.Inside) (plan : Plan) (o : Origin) → Coming b s plan → o ≡ arc_value b.origin → floor_in o ≤ s.epoch
+from-known b s plan o c is = subst (λ (x : Origin). floor_in x ≤ s.epoch) (sym is) (known-of b s plan c).from
 
 pub value-is : (b : board.Inside) (s : swept.Inside) (plan : Plan) → Coming b s plan → Known b s plan → (i : ℕ) → i < (arc_value b.origin).window.samples
     → record_of plan i (part_slot plan.size i s.duo) ≡ rule_record (arc_value b.origin) s.epoch i s.slot

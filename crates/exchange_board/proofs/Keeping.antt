@@ -18,10 +18,10 @@ use Rattle.exchange_board.specs.declared.board.Slot.{Slot}
 use Rattle.exchange_board.specs.declared.board.Board.TheInside as board
 use Rattle.exchange_board.specs.declared.job.Job.TheInside as job
 use Rattle.exchange_board.specs.JobKeeps.{KeepsJob}
-use Rattle.exchange_board.specs.Views.{Stage, place_at, ready_at}
+use Rattle.exchange_board.specs.Views.{Stage, BoardView, place_at, ready_at}
 use Rattle.exchange_board.specs.Content.{plan_of, slots_in, starts, started, taken_before, pair_in, KeepsRows}
 use Rattle.exchange_board.specs.Machine.{Ruled, epochs, phases, numbers, begun, taken}
-use Rattle.exchange_board.specs.BoardKeeps.{phase_of, place_of, places_of, rule_content, AtHome, KeepsSlot, content_at, KeepsBoard}
+use Rattle.exchange_board.specs.BoardKeeps.{phase_of, place_of, places_of, board_view, rule_content, AtHome, KeepsSlot, content_at, KeepsBoard}
 use Rattle.exchange_board.proofs.Machines.{OneMoved, TwoMoved, taken-rule}
 use Rattle.exchange_board.proofs.RowPlaces.{set-here, rows-same}
 use Rattle.plane_sweep.proofs.LabelSteps.{HaveSameLabels, same-labels, permutes-kept}
@@ -50,6 +50,10 @@ homes-set o ss t x h here kept k d below = elim (eqb_tells k t) [
       subst Q (sym (set-here ss t k x d a.1 h)) (subst P (sym a.1) here)
   | inr a ↦ let Q : Slot → Type 0 = λ s. KeepsSlot o k s in subst Q (sym (get_or-set_other ss t k x d a.1)) (kept k d (rw length-set at below))
 ]
+
+-- a slot that the view has is one of the board's
+pub slot-known : (b : board.Inside) (v : BoardView) (t : ℕ) → board_view b ≡ v → t < length v.places → t < length b.slots
+slot-known b v t is known = rw length-map at (rw (← is) at known)
 
 -- a read of a slot gives the board's place there
 pub place-read : (b : board.Inside) (t : ℕ) (s : Slot) → t < length b.slots → s ≡ get_or b.slots t s → place_at (places_of b) t ≡ place_of s

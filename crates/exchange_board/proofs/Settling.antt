@@ -23,11 +23,12 @@ use Rattle.exchange_board.specs.declared.board.Home.{Home}
 use Rattle.exchange_board.specs.declared.board.Slot.{Slot}
 use Rattle.exchange_board.specs.declared.board.Board.TheInside as board
 use Rattle.exchange_board.specs.declared.job.Swept.TheInside as swept
-use Rattle.exchange_board.specs.Views.{Stage, place_at, ready_at, arrived_at}
+use Rattle.exchange_board.specs.Views.{Stage, BoardView, JobView, place_at, ready_at, arrived_at}
 use Rattle.exchange_board.specs.Content.{plan_of, slots_in, starts, started, taken_before, pair_in, KeepsRows}
 use Rattle.exchange_board.specs.Machine.{Ruled, epochs, phases, numbers, begun, taken}
+use Rattle.exchange_board.specs.JobKeeps.{swept_view}
 use Rattle.exchange_board.specs.Meeting.{half, CanMeet, Met}
-use Rattle.exchange_board.specs.BoardKeeps.{phase_of, place_of, places_of, rule_content, AtHome, KeepsSlot, content_at, KeepsBoard}
+use Rattle.exchange_board.specs.BoardKeeps.{phase_of, place_of, places_of, board_view, rule_content, AtHome, KeepsSlot, content_at, KeepsBoard}
 use Rattle.exchange_board.proofs.Machines.{TwoMoved, settled-rule}
 use Rattle.exchange_board.proofs.RowPlaces.{set-here, Recorded, rows-written}
 use Rattle.plane_sweep.proofs.LabelSteps.{HaveSameLabels, same-labels, exchange-permutes}
@@ -99,11 +100,26 @@ pair-at o ps t u e known has u_is bk et eu st su = elim (sides t e) [
       } in subst (λ k. PairAt o ps t u e k) (u_at ∙ sym l.pair_is) here
 ]
 
-pub colder-pair : (t u e : ℕ) (low : Bool) → low ≡ has_turn t e → u ≡ partner t e → cond low t u ≡ pair_of t e
+colder-pair : (t u e : ℕ) (low : Bool) → low ≡ has_turn t e → u ≡ partner t e → cond low t u ≡ pair_of t e
 colder-pair t u e low is other = elim (sides t e) [
   | inl l ↦ ap (λ (a : Bool). cond a t u) (is ∙ l.low) ∙ sym l.pair_is
   | inr l ↦ ap (λ (a : Bool). cond a t u) (is ∙ l.low) ∙ (other ∙ (l.partner_is ∙ sym l.pair_is))
 ]
+
+-- the slot that comes back finds its partner u, which waits
+pub record FindsPartner (b : board.Inside) (s : swept.Inside) (u : ℕ) : Type 0 where
+  pub has : has_partner (length (places_of b)) s.slot s.epoch ≡ true
+  pub is : u ≡ partner s.slot s.epoch
+  pub place : place_at (places_of b) u ≡ arrived_at s.epoch
+
+-- it is what the settlement asks for
+pub finds-of : (b : board.Inside) (s : swept.Inside) (v : BoardView) (w : JobView) (u : ℕ) → board_view b ≡ v → swept_view s ≡ w
+    → has_partner (length v.places) w.slot w.epoch ≡ true → u ≡ partner w.slot w.epoch → place_at v.places u ≡ arrived_at w.epoch → FindsPartner b s u
+finds-of b s v w u board_is swept_is has is place = record {
+  has = rw (← board_is, ← swept_is) at has;
+  is = rw (← swept_is) at is;
+  place = rw (← board_is, ← swept_is) at place;
+}
 
 -- the partner's home before the exchange
 pub record Mate (o : Origin) (u e : ℕ) (mate : Slot) : Type 0 where
@@ -171,10 +187,14 @@ all-set ws k w h fits all = λ j d below. elim (eqb_tells j k) [
 ]
 
 pub settled-keeps : (b : board.Inside) (s : swept.Inside) (plan : Plan) (rs : List Record) (u k : ℕ) (was now : PairWheels) (mate y : Slot) (own : Duo) (low : Bool)
-    → Coming b s plan → Written b s plan rs → has_partner (length (places_of b)) s.slot s.epoch ≡ true → u ≡ partner s.slot s.epoch → place_at (places_of b) u ≡ arrived_at s.epoch
-    → mate ≡ get_or b.slots u mate → low ≡ has_turn s.slot s.epoch → k ≡ pair_of s.slot s.epoch → was ≡ get_or b.pairs k was → Exchanged plan s k mate y own low was now
+    → Coming b s plan → Written b s plan rs → FindsPartner b s u
+    → mate ≡ get_or b.slots u mate → low ≡ has_turn s.slot s.epoch → k ≡ cond low s.slot u → was ≡ get_or b.pairs k was → Exchanged plan s k mate y own low was now
     → KeepsBoard (two b u y s.slot (swapped s own) (set b.pairs k now) rs)
-settled-keeps b s plan rs u k was now mate y own low c written has u_is place read low_is k_is was_is exchanged =
+settled-keeps b s plan rs u k was now mate y own low c written finds read low_is k_at was_is exchanged =
+    let has = finds.has in
+    let u_is = finds.is in
+    let place = finds.place in
+    let k_is : k ≡ pair_of s.slot s.epoch = k_at ∙ colder-pair s.slot u s.epoch low low_is u_is in
     let o : Origin = arc_value b.origin in
     let p : Plan = plan_of o in
     let ps : List Stage = places_of b in
@@ -301,19 +321,20 @@ settled-keeps b s plan rs u k was now mate y own low c written has u_is place re
       stops = keeps.stops;
     }
 
+pub partner-known : (n t e u : ℕ) → t < n → has_partner n t e ≡ true → u ≡ partner t e → u < n
+partner-known n t e u known has is = subst (λ j. j < n) (sym is) (back n t e known has).known
+
 -- the view after a settlement
-pub settled-view : (b : board.Inside) (s : swept.Inside) (plan : Plan) (u k : ℕ) (was now : PairWheels) (mate y : Slot) (own : Duo) (low : Bool) → KeepsBoard b → u < length (places_of b)
-    → place_at (places_of b) u ≡ arrived_at s.epoch → mate ≡ get_or b.slots u mate → Exchanged plan s k mate y own low was now
+pub settled-view : (b : board.Inside) (s : swept.Inside) (plan : Plan) (u k : ℕ) (was now : PairWheels) (mate y : Slot) (own : Duo) (low : Bool) → Coming b s plan → FindsPartner b s u
+    → mate ≡ get_or b.slots u mate → Exchanged plan s k mate y own low was now
     → map place_of (set (set b.slots u y) s.slot (swapped s own)) ≡ set (set (places_of b) u (ready_at (s.epoch + 1))) s.slot (ready_at (s.epoch + 1))
-settled-view b s plan u k was now mate y own low keeps known place read x =
+settled-view b s plan u k was now mate y own low c finds read x =
     let e : ℕ = s.epoch in
-    let m = mate-of b u e mate keeps (rw length-map at known) place read in
+    let known = partner-known (length (places_of b)) s.slot e u c.known finds.has finds.is in
+    let m = mate-of b u e mate c.keeps (rw length-map at known) finds.place read in
     let z = some-and y.home (Met plan k low was m.m s.duo) (x.there m.m m.was) in
     let y_place : place_of y ≡ ready_at (e + 1) = met-place e y z.0 z.1 z.2.rests (x.epoch ∙ ap (λ i. i + 1) m.epoch) in
     map-set place_of (set b.slots u y) s.slot (swapped s own) ∙ ap (λ (l : List Stage). set l s.slot (ready_at (e + 1))) (map-set place_of b.slots u y ∙ ap (λ (q : Stage). set (places_of b) u q) y_place)
-
-pub partner-known : (n t e u : ℕ) → t < n → has_partner n t e ≡ true → u ≡ partner t e → u < n
-partner-known n t e u known has is = subst (λ j. j < n) (sym is) (back n t e known has).known
 
 -- what the exchange asks of the board
 pub record CanSettle (b : board.Inside) (s : swept.Inside) (plan : Plan) (mate : Slot) (was : PairWheels) (k : ℕ) : Type 0 where
@@ -323,17 +344,18 @@ pub record CanSettle (b : board.Inside) (s : swept.Inside) (plan : Plan) (mate :
   pub wheels : ArePairGenerators was
   pub pair : k < pairs_of plan
 
-pub can-settle : (b : board.Inside) (s : swept.Inside) (plan : Plan) (u k : ℕ) (was : PairWheels) (mate : Slot) (low : Bool) → Coming b s plan
-    → has_partner (length (places_of b)) s.slot s.epoch ≡ true → u ≡ partner s.slot s.epoch → place_at (places_of b) u ≡ arrived_at s.epoch
+pub can-settle : (b : board.Inside) (s : swept.Inside) (plan : Plan) (u k : ℕ) (was : PairWheels) (mate : Slot) (low : Bool) → Coming b s plan → FindsPartner b s u
     → mate ≡ get_or b.slots u mate → low ≡ has_turn s.slot s.epoch → k ≡ cond low s.slot u → was ≡ get_or b.pairs k was → CanSettle b s plan mate was k
-can-settle b s plan u k was mate low c has u_is place read low_is k_at was_is =
+can-settle b s plan u k was mate low c finds read low_is k_at was_is =
+    let has = finds.has in
+    let u_is = finds.is in
     let o : Origin = arc_value b.origin in
     let f = known-of b s plan c in
     let long : length (places_of b) ≡ slots_in o = places-long b c.keeps in
     let has_here : has_partner (slots_in o) s.slot s.epoch ≡ true = subst (λ n. has_partner n s.slot s.epoch ≡ true) long has in
     let bk : Back (slots_in o) s.slot s.epoch u = subst (λ j. Back (slots_in o) s.slot s.epoch j) (sym u_is) (back (slots_in o) s.slot s.epoch f.in_range has_here) in
     let u_known : u < length b.slots = omega (arith, bk.known, c.keeps.slots_long) in
-    let m = mate-of b u s.epoch mate c.keeps u_known place read in
+    let m = mate-of b u s.epoch mate c.keeps u_known finds.place read in
     let k_is : k ≡ pair_of s.slot s.epoch = k_at ∙ colder-pair s.slot u s.epoch low low_is u_is in
     let k_in : k < pairs_of (plan_of o) = let z = pair-known (slots_in o) s.slot s.epoch f.in_range has_here in omega arith in
     let C : Plan → Type 0 = λ q. IsSomeAnd mate.home (CanMeet q) in
