@@ -66,6 +66,9 @@ pub runs-done : (kind : SaveKind) (ds : List DoneView) → runs_of (map (done_as
 runs-done kind [] = refl
 runs-done kind (d ∷ ds) = ap (λ rs. saved_as kind d.run ∷ rs) (runs-done kind ds)
 
+pub plans-done : {X : Type 0} (f : X → Plan) (plans : List X) (kind : SaveKind) (ds view : List DoneView) → map (done_as kind) ds ≡ view → map f plans ≡ plans_of (runs_of view) → map f plans ≡ plans_of (runs_of ds)
+plans-done f plans kind ds view is same = same ∙ ap (λ xs. plans_of (runs_of xs)) (sym is) ∙ ap plans_of (runs-done kind ds) ∙ plans-saved kind (runs_of ds)
+
 end-saved : (kind : SaveKind) (run : RunView) (d : RaggedEndedView) → IsEnd run d → IsEnd (saved_as kind run) d
 end-saved kind run d e = record {
   origin = record {

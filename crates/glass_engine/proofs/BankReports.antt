@@ -17,12 +17,12 @@ use Rattle.plane_sweep.specs.Uneven.{uneven_part, level_stand}
 use Rattle.glass_engine.specs.BankPieces.{banks_in, own_measured, HasRowsFrom, AreRowsFrom, ended_slots, HasSpins, HaveSpins}
 use Rattle.glass_engine.specs.BankRuns.{bank_of, for_samples, plans_of, runs_of, samples_in, runs_report}
 use Rattle.glass_engine.specs.Banks.{Bank, of_sample, banks_measured, banks_slots, banks_report}
-use Rattle.glass_engine.specs.KeptBanks.{saved_as, Shared, IsBankRun, HaveSamples, AreBankRuns}
+use Rattle.glass_engine.specs.KeptBanks.{saved_as, done_as, Shared, IsBankRun, HaveSamples, AreBankRuns}
 use Rattle.glass_engine.specs.Laws.{IsSerial}
 use Rattle.glass_engine.specs.Report.{rows_in_order, all_spins}
 use Rattle.glass_engine.specs.Runs.{RunView, DoneView, IsEnd}
 use Rattle.glass_engine.specs.declared.run.SaveKind.{SaveKind}
-use Rattle.glass_engine.proofs.BankDrives.{bank-plan}
+use Rattle.glass_engine.proofs.BankDrives.{bank-plan, runs-done}
 use Rattle.glass_engine.proofs.BankLaws.{of-first, of-next}
 use Rattle.glass_engine.proofs.BankRows.{ended-first, ended-next, sample-within}
 use Rattle.glass_engine.proofs.Reporting.{spins-same}
@@ -206,8 +206,11 @@ unfolding samples_in
 samples-saved kind [] = refl
 samples-saved kind (run ∷ runs) = ap (λ n. run.orders.samples + n) (samples-saved kind runs)
 
-pub report-saved : (kind : SaveKind) (runs : List RunView) → runs_report (map (saved_as kind) runs) ≡ runs_report runs
+report-saved : (kind : SaveKind) (runs : List RunView) → runs_report (map (saved_as kind) runs) ≡ runs_report runs
 unfolding runs_report
 report-saved kind [] = refl
 report-saved kind (run ∷ runs) =
     ap₂ (λ banks n. banks_report banks (for_samples n run.orders) run.until) (banks-saved kind (run ∷ runs)) (samples-saved kind (run ∷ runs))
+
+pub report-done : (kind : SaveKind) (ds view : List DoneView) → map (done_as kind) ds ≡ view → runs_report (runs_of ds) ≡ runs_report (runs_of view)
+report-done kind ds view is = sym (report-saved kind (runs_of ds)) ∙ sym (ap runs_report (runs-done kind ds)) ∙ ap (λ xs. runs_report (runs_of xs)) is

@@ -24,7 +24,7 @@ use Rattle.glass_engine.specs.KeptBanks.{saved_as, done_as, Shared, AreBankRuns}
 use Rattle.glass_engine.specs.Runs.{RunView, DoneView, IsEnd}
 use Rattle.glass_engine.specs.declared.run.SaveKind.{SaveKind}
 use Rattle.glass_engine.specs.declared.run.SaveKind.TheVariants as saves
-use Rattle.glass_engine.proofs.BankDrives.{same-count, bank-plan}
+use Rattle.glass_engine.proofs.BankDrives.{same-count, bank-plan, runs-done}
 use Rattle.glass_engine.proofs.BankReports.{IsBankEnd, bank-ends, banks-saved, serial-end}
 use Rattle.glass_engine.proofs.SavedRuns.{ended-level, ended-flattened}
 use Rattle.glass_engine.proofs.Savings.{flattened-fits, level-length}
@@ -160,10 +160,13 @@ checkpoint-is orders (d ∷ ds) runs ended =
     ∙ ap (λ ps. text ps (banks_bytes ps (states shared.until))) (sym (banks-plans all))
     ∙ ap (λ e. text (map (λ (x : Bank). x.plan) (map bank_of (runs_of all))) (banks_bytes (map (λ (x : Bank). x.plan) (map bank_of (runs_of all))) (states e))) (sym first.until)
 
-pub checkpoint-saved : (kind : SaveKind) (runs : List RunView) → runs_checkpoint (map (saved_as kind) runs) ≡ runs_checkpoint runs
+checkpoint-saved : (kind : SaveKind) (runs : List RunView) → runs_checkpoint (map (saved_as kind) runs) ≡ runs_checkpoint runs
 unfolding runs_checkpoint
 checkpoint-saved kind [] = refl
 checkpoint-saved kind (run ∷ runs) = ap (λ banks. banks_checkpoint banks run.until) (banks-saved kind (run ∷ runs))
+
+pub checkpoint-done : (kind : SaveKind) (ds view : List DoneView) → map (done_as kind) ds ≡ view → runs_checkpoint (runs_of ds) ≡ runs_checkpoint (runs_of view)
+checkpoint-done kind ds view is = sym (checkpoint-saved kind (runs_of ds)) ∙ sym (ap runs_checkpoint (runs-done kind ds)) ∙ ap (λ xs. runs_checkpoint (runs_of xs)) is
 
 pub never-saved : (kind : SaveKind) (ds : List DoneView) → 0 < length ds → kind ≡ saves.Never → All (λ (d : DoneView). d.run.saves ≢ saves.Never) (map (done_as kind) ds) → ⊥
 never-saved kind [] some is all = omega arith

@@ -125,21 +125,14 @@ spins-where : (printed : Bool) (xs ys : List ℕ) → (printed ≡ true → xs �
 spins-where true xs ys same = same refl
 spins-where false xs ys same = refl
 
--- the parts of the report of a stopped run
-abbrev pub head_of : Origin → ℕ → ℕ → List ℕ
-head_of o from to = header_line (plan_of o) o.window.samples from to
-
-abbrev pub rows_of : Origin → ℕ → ℕ → List ℕ
-rows_of o from to = rows_in_order (measured o) o.window.samples o.window.every from to
-
-abbrev pub spins_if : Origin → Bool → RaggedEndedView → List ℕ
-spins_if o printed d = cond printed (all_spins (plan_of o) o.window.samples (λ b. (uneven_part (plan_of o).size b d.stand).slots)) []
-
-pub report-is : (o : Origin) (d : RaggedEndedView) (spins printed : Bool) (from to : ℕ) → IsLawfulOrigin o → IsStop o d
+-- the report of a stopped run is four texts, of which the last may be empty
+pub report-is : (o : Origin) (plan : Plan) (d : RaggedEndedView) (spins printed : Bool) (from to : ℕ) → plan ≡ plan_of o → IsLawfulOrigin o → IsStop o d
     → from ≡ floor_in o → to ≡ floor_of (positions_of d.stand) → printed ≡ (spins && (to == o.window.until))
-    → stopped_report o spins (positions_of d.stand) ≡ head_of o from to ++ rows_of o from to ++ end_line to ++ spins_if o printed d
+    → stopped_report o spins (positions_of d.stand)
+    ≡ header_line plan o.window.samples from to ++ rows_in_order (measured o) o.window.samples o.window.every from to ++ end_line to
+    ++ cond printed (all_spins plan o.window.samples (λ b. (uneven_part plan.size b d.stand).slots)) []
 unfolding uneven_report
-report-is o d spins printed from to l s from_is to_is printed_is =
+report-is o plan d spins printed from to plan_is l s from_is to_is printed_is =
     let p = plan_of o in
     let ps = positions_of d.stand in
     let until = o.window.until in
@@ -147,14 +140,15 @@ report-is o d spins printed from to l s from_is to_is printed_is =
     let there : (to == until) ≡ all_rest until ps = ap (λ n. n == until) to_is ∙ tells in
     let prints : printed ≡ (spins && all_rest until ps) = printed_is ∙ ap (λ a. spins && a) there in
     let ready = all_spins p o.window.samples (λ b. (all_ready p (board.starts o b) until).slots) in
-    let here = all_spins p o.window.samples (λ b. (uneven_part p.size b d.stand).slots) in
-    let parts : ℕ → ℕ → List ℕ → List ℕ = λ a b xs. head_of o a b ++ rows_of o a b ++ end_line b ++ xs in
-    let same : cond (spins && all_rest until ps) ready [] ≡ cond printed here [] =
-    ap (λ a. cond a ready []) (sym prints) ∙ spins-where printed ready here (λ on.
+    let here : Plan → List ℕ = λ q. all_spins q o.window.samples (λ b. (uneven_part q.size b d.stand).slots) in
+    let parts : Plan → ℕ → ℕ → List ℕ → List ℕ = λ q a b xs. header_line q o.window.samples a b ++ rows_in_order (measured o) o.window.samples o.window.every a b ++ end_line b ++ xs in
+    let same : cond (spins && all_rest until ps) ready [] ≡ cond printed (here p) [] =
+    ap (λ a. cond a ready []) (sym prints) ∙ spins-where printed ready (here p) (λ on.
     let ended : AllEnded until (stages_of d.stand) =
     floor-ended o d l s (sym to_is ∙ eqb-true to until (and_parts spins (to == until) (sym printed_is ∙ on)).1) in
     spins-same p o.window.samples _ _ (λ b h. sym (whole-slots o d b s ended (let z = s.fits.few_samples in omega arith)))) in
-    ap₂ (λ a b. parts a b (cond (spins && all_rest until ps) ready [])) (sym from_is) (sym to_is) ∙ ap (parts from to) same
+    ap₂ (λ a b. parts p a b (cond (spins && all_rest until ps) ready [])) (sym from_is) (sym to_is) ∙ ap (parts p from to) same
+    ∙ ap (λ (q : Plan). parts q from to (cond printed (here q) [])) (sym plan_is)
 
 -- ---- four texts put one after another: where each fails, and the whole
 
@@ -171,7 +165,7 @@ pub failed-third : (before x y now : Option (List ℕ)) (a b c d whole : List �
 failed-third before x y now a b c d whole is first second p =
     subst (AppendsPrefix before now) (sym is) (prefix_front before now (a ++ b ++ c) d (prefix_past before y now (a ++ b) c (put-two before x y a b first second) p))
 
-pub put-three : (before x y z : Option (List ℕ)) (a b c : List ℕ) → x ≡ appended before a → y ≡ appended x b → z ≡ appended y c → z ≡ appended before (a ++ b ++ c)
+put-three : (before x y z : Option (List ℕ)) (a b c : List ℕ) → x ≡ appended before a → y ≡ appended x b → z ≡ appended y c → z ≡ appended before (a ++ b ++ c)
 put-three before x y z a b c first second third = put-two before y z (a ++ b) c (put-two before x y a b first second) third
 
 pub failed-fourth : (before x y z now : Option (List ℕ)) (a b c d whole : List ℕ) → whole ≡ a ++ b ++ c ++ d → x ≡ appended before a → y ≡ appended x b → z ≡ appended y c
@@ -184,10 +178,15 @@ pub put-four : (before x y z now : Option (List ℕ)) (a b c d whole : List ℕ)
 put-four before x y z now a b c d whole is first second third fourth =
     put-two before z now (a ++ b ++ c) d (put-three before x y z a b c first second third) fourth ∙ ap (appended before) (sym is)
 
--- where no spins are printed the report ends with the third text
-pub report-without : (spins : Bool) (a b c xs : List ℕ) → spins ≡ false → a ++ b ++ c ++ cond spins xs [] ≡ a ++ b ++ c
+-- where no spins are printed the third text is the last
+report-without : (spins : Bool) (a b c xs : List ℕ) → spins ≡ false → a ++ b ++ c ++ cond spins xs [] ≡ a ++ b ++ c
 report-without true a b c xs off = cc
 report-without false a b c xs off = append-nil (a ++ b ++ c)
+
+pub put-without : (spins : Bool) (before x y z : Option (List ℕ)) (a b c xs whole : List ℕ) → whole ≡ a ++ b ++ c ++ cond spins xs [] → spins ≡ false
+    → x ≡ appended before a → y ≡ appended x b → z ≡ appended y c → z ≡ appended before whole
+put-without spins before x y z a b c xs whole is off first second third =
+    put-three before x y z a b c first second third ∙ ap (appended before) (sym (is ∙ report-without spins a b c xs off))
 
 -- where they are, they are all of the fourth
 pub spins-printed : (spins : Bool) (xs : List ℕ) → spins ≡ true → cond spins xs [] ≡ xs

@@ -6,6 +6,7 @@ use Rattle.spin_model.proofs.Tables.{length-table}
 use Rattle.report_text.specs.Lines.{summary_line, slot_line, end_line}
 use Rattle.plane_sweep.specs.Packed.{part, StandsFor}
 use Rattle.plane_sweep.specs.declared.stand.Stand.{Stand}
+use Rattle.plane_sweep.specs.declared.uneven.RaggedStand.{RaggedStand}
 use Rattle.scalar_rule.specs.Opening.{opening}
 use Rattle.scalar_rule.specs.declared.sample.Start.TheVariants.{Up}
 use Rattle.plane_sweep.specs.Uneven.{uneven_part}
@@ -92,7 +93,7 @@ pub summary-enough : (law : LevelRunIsSerial) (run : RunView) (start : ℕ → S
 summary-enough law run start d h = (run-lasts law run start d h).enough
 
 -- the text that is put, from the records and the slots of a run at its end
-pub summary-is : (law : LevelRunIsSerial) (n : ℕ) (run : RunView) (start : ℕ → Sample) (d : RaggedEndedView) → HasSummary run start d
+summary-is : (law : LevelRunIsSerial) (n : ℕ) (run : RunView) (start : ℕ → Sample) (d : RaggedEndedView) → HasSummary run start d
     → summary_text n run.plan (λ b. piece (drop (length d.records - 64 * slots_of run.plan) d.records) (slots_of run.plan) b) (λ b. (uneven_part run.plan.size b d.stand).slots) run.until
     ≡ summary n run.plan start run.until
 unfolding part
@@ -109,6 +110,22 @@ pub last-taken : (records : List Record) (n : ℕ) → n ≤ length records → 
 last-taken records n small =
     let long : length (drop (length records - n) records) ≡ length records - (length records - n) = length-drop (length records - n) records in
     take_all (length records - (length records - n)) (drop (length records - n) records) (omega (arith, long))
+
+-- the same text, from the last of so many records
+pub summary-taken : (law : LevelRunIsSerial) (n : ℕ) (run : RunView) (start : ℕ → Sample) (d : RaggedEndedView) → HasSummary run start d
+    → (plan : Plan) (records : List Record) (slots : ℕ) (stand : RaggedStand) (until : ℕ) → plan ≡ run.plan → records ≡ d.records → slots ≡ slots_of run.plan → stand ≡ d.stand → until ≡ run.until
+    → summary_text n plan (λ b. piece (take (length records - (length records - 64 * slots)) (drop (length records - 64 * slots) records)) (slots_of plan) b) (λ b. (uneven_part plan.size b stand).slots) until
+    ≡ summary n plan start run.until
+summary-taken law n run start d h plan records slots stand until plan_is records_are slots_are stand_is until_is =
+    let enough = summary-enough law run start d h in
+    let long = ap length records_are in
+    let last : take (length records - (length records - 64 * slots)) (drop (length records - 64 * slots) records) ≡ drop (length d.records - 64 * slots_of run.plan) d.records =
+    last-taken records (64 * slots) (omega (arith, enough, long, slots_are)) ∙ ap₂ (λ (xs : List Record) (k : ℕ). drop (length xs - 64 * k) xs) records_are slots_are in
+    let T : Plan → List Record → RaggedStand → ℕ → List ℕ = λ p rs st u. summary_text n p (λ b. piece rs (slots_of p) b) (λ b. (uneven_part p.size b st).slots) u in
+    ap₂ (λ p rs. T p rs stand until) plan_is last
+    ∙ ap₂ (λ st u. T run.plan (drop (length d.records - 64 * slots_of run.plan) d.records) st u) stand_is until_is
+    ∙ summary-is law n run start d h
+    ∙ ap (λ p. summary n p start run.until) (sym plan_is)
 
 -- an opening state is at epoch 0
 pub opened-first : (plan : Plan) (stand : Stand) → StandsFor plan (opening plan Up 0) stand → stand.epoch ≡ 0

@@ -1,6 +1,6 @@
 use Rattle.std.specs.Arc.{arc_value}
 use Rattle.std.specs.Vec.Iter.{into_iter_items}
-use Rattle.std.proofs.Common.{rules, arith, ◌≡◌, ◌≤◌, ◌+◌, ◌-◌, ◌*◌, ap, sym, subst, ◌∙◌, length, length-append, map, drop, min, get_or, [], ◌∷◌, ◌++◌, append_assoc}
+use Rattle.std.proofs.Common.{rules, arith, ◌≡◌, ◌<◌, ◌≤◌, ◌+◌, ◌-◌, ◌*◌, ap, sym, subst, ◌∙◌, length, length-append, map, drop, min, get_or, [], ◌∷◌, ◌++◌, append_assoc}
 use Rattle.run_plan.specs.Amounts.{row_count}
 use Rattle.run_plan.specs.declared.run_file.Orders.{Orders}
 use Rattle.glass_engine.specs.BankRuns.{bank_run, bank_runs, for_samples}
@@ -8,139 +8,102 @@ use Rattle.glass_engine.specs.Runs.{AreRunOrders}
 use Rattle.glass_engine.specs.declared.run.SaveKind.TheVariants as saves
 use Rattle.glass_engine.proofs.BankLoops.{nothing-left, next-within, next-fits, next-rows, runs-step, runs-end}
 use Rattle.glass_engine.proofs.bank_opening.open_runs.Goals as goal
+use Rattle.glass_engine.proofs.bank_opening.open_runs.Goals.{After-len-bank, After-of_samples-own, After-index-plans-bank}
+
+-- the state at hand is behind those whose runs are open, and before the rest
+behind : (c : After-len-bank) → c.banks.yielded ++ c.in-Some.stand ∷ into_iter_items c.next.new.self ≡ c.args.stands.items
+behind c = ap (λ xs. c.banks.yielded ++ xs) (sym c.in-Some.ensures.steps.0) ∙ c.banks.invariant.steps ∙ c.into_iter-stand-iterator.ensures.into_iter_gives.0
+
+-- there is a plan for it
+within : (c : After-len-bank) → length c.banks.yielded < length c.args.plans.now
+within c =
+    next-within arc_value c.args.plans.now c.args.stands.items c.args.orders.now c.args.until c.requires.starts c.banks.yielded (into_iter_items c.next.new.self) c.in-Some.stand (behind c)
+
+-- as many runs are open as states came before it
+number : (c : After-len-bank) → c.len-bank.result ≡ length c.banks.yielded
+number c = let long : c.len-bank.result ≡ length c.banks.runs.items = search rules in long ∙ c.banks.invariant.count
+
+-- its orders
+own : (c : After-of_samples-own) → c.of_samples-own.result ≡ for_samples (min (c.args.orders.now.samples - 64 * length c.banks.yielded) 64) c.args.orders.now
+own c =
+    c.of_samples-own.ensures ∙ ap (λ k. for_samples k c.args.orders.now)
+    (c.min.ensures ∙ ap (λ k. min (c.args.orders.now.samples - 64 * k) 64) (number (goal.at.After-of_samples-own c).After-len-bank))
+
+-- its plan
+plan : (c : After-index-plans-bank) → c.index-plans-bank.result ≡ get_or c.args.plans.now (length c.banks.yielded) c.index-plans-bank.result
+plan c =
+    let p = c.index-plans-bank.result in
+    subst (λ k. p ≡ get_or c.args.plans.now k p) (number (goal.at.After-index-plans-bank c).After-len-bank) c.index-plans-bank.is
 
 pub overflow_cast-left : goal.overflow_cast-left
 overflow_cast-left c =
-    let at = c.banks in
-    let x = c.in-Some.stand in
-    let rest = into_iter_items c.next.new.self in
-    let steps : into_iter_items at.stand-iterator ≡ x ∷ rest = c.in-Some.ensures.steps.0 in
-    let all : at.yielded ++ x ∷ rest ≡ c.args.stands.items = ap (λ xs. at.yielded ++ xs) (sym steps) ∙ at.invariant.steps ∙ c.into_iter-stand-iterator.ensures.into_iter_gives.0 in
-    let within = next-within arc_value c.args.plans.now c.args.stands.items c.args.orders.now c.args.until c.requires.starts at.yielded rest x all in
-    let long : c.len-bank.result ≡ length at.runs.items = search rules in
-    let n : c.len-bank.result ≡ length at.yielded = long ∙ at.invariant.count in
-    omega (arith, c.requires.orders.few_banks)
+    let at = (goal.at.overflow_cast-left c).After-len-bank in
+    omega (arith, within at, number at, c.requires.orders.few_banks)
 
 pub overflow_mul-left : goal.overflow_mul-left
 overflow_mul-left c =
-    let at = c.banks in
-    let x = c.in-Some.stand in
-    let rest = into_iter_items c.next.new.self in
-    let steps : into_iter_items at.stand-iterator ≡ x ∷ rest = c.in-Some.ensures.steps.0 in
-    let all : at.yielded ++ x ∷ rest ≡ c.args.stands.items = ap (λ xs. at.yielded ++ xs) (sym steps) ∙ at.invariant.steps ∙ c.into_iter-stand-iterator.ensures.into_iter_gives.0 in
-    let within = next-within arc_value c.args.plans.now c.args.stands.items c.args.orders.now c.args.until c.requires.starts at.yielded rest x all in
-    let long : c.len-bank.result ≡ length at.runs.items = search rules in
-    let n : c.len-bank.result ≡ length at.yielded = long ∙ at.invariant.count in
-    omega (arith, c.requires.orders.few_banks)
+    let at = (goal.at.overflow_mul-left c).After-len-bank in
+    omega (arith, within at, number at, c.requires.orders.few_banks)
 
 pub overflow_sub-left : goal.overflow_sub-left
 overflow_sub-left c =
-    let at = c.banks in
-    let x = c.in-Some.stand in
-    let rest = into_iter_items c.next.new.self in
-    let steps : into_iter_items at.stand-iterator ≡ x ∷ rest = c.in-Some.ensures.steps.0 in
-    let all : at.yielded ++ x ∷ rest ≡ c.args.stands.items = ap (λ xs. at.yielded ++ xs) (sym steps) ∙ at.invariant.steps ∙ c.into_iter-stand-iterator.ensures.into_iter_gives.0 in
-    let within = next-within arc_value c.args.plans.now c.args.stands.items c.args.orders.now c.args.until c.requires.starts at.yielded rest x all in
-    let long : c.len-bank.result ≡ length at.runs.items = search rules in
-    let n : c.len-bank.result ≡ length at.yielded = long ∙ at.invariant.count in
-    omega (arith, c.requires.orders.some_samples)
+    let at = (goal.at.overflow_sub-left c).After-len-bank in
+    omega (arith, within at, number at, c.requires.orders.some_samples)
 
 pub bounds-plans-bank : goal.bounds-plans-bank
 bounds-plans-bank c =
-    let at = c.banks in
-    let x = c.in-Some.stand in
-    let rest = into_iter_items c.next.new.self in
-    let steps : into_iter_items at.stand-iterator ≡ x ∷ rest = c.in-Some.ensures.steps.0 in
-    let all : at.yielded ++ x ∷ rest ≡ c.args.stands.items = ap (λ xs. at.yielded ++ xs) (sym steps) ∙ at.invariant.steps ∙ c.into_iter-stand-iterator.ensures.into_iter_gives.0 in
-    let within = next-within arc_value c.args.plans.now c.args.stands.items c.args.orders.now c.args.until c.requires.starts at.yielded rest x all in
-    let long : c.len-bank.result ≡ length at.runs.items = search rules in
-    let n : c.len-bank.result ≡ length at.yielded = long ∙ at.invariant.count in
-    omega arith
+    let at = (goal.at.bounds-plans-bank c).After-len-bank in
+    omega (arith, within at, number at)
 
 pub open_bank-requires-clause-orders : goal.open_bank-requires-clause-orders
 open_bank-requires-clause-orders c =
-    let at = c.banks in
-    let x = c.in-Some.stand in
-    let rest = into_iter_items c.next.new.self in
-    let steps : into_iter_items at.stand-iterator ≡ x ∷ rest = c.in-Some.ensures.steps.0 in
-    let all : at.yielded ++ x ∷ rest ≡ c.args.stands.items = ap (λ xs. at.yielded ++ xs) (sym steps) ∙ at.invariant.steps ∙ c.into_iter-stand-iterator.ensures.into_iter_gives.0 in
-    let within = next-within arc_value c.args.plans.now c.args.stands.items c.args.orders.now c.args.until c.requires.starts at.yielded rest x all in
-    let long : c.len-bank.result ≡ length at.runs.items = search rules in
-    let n : c.len-bank.result ≡ length at.yielded = long ∙ at.invariant.count in
-    let own = c.of_samples-own.ensures ∙ ap (λ k. for_samples k c.args.orders.now) (c.min.ensures ∙ ap (λ k. min (c.args.orders.now.samples - 64 * k) 64) n) in
-    let some : 1 ≤ min (c.args.orders.now.samples - 64 * length at.yielded) 64 = omega (arith, c.requires.orders.some_samples) in
-    let few : min (c.args.orders.now.samples - 64 * length at.yielded) 64 ≤ 64 = omega arith in
+    let at = goal.at.open_bank-requires-clause-orders c in
+    let printed = min (c.args.orders.now.samples - 64 * length c.banks.yielded) 64 in
+    let some : 1 ≤ printed = omega (arith, within at.After-len-bank, c.requires.orders.some_samples) in
+    let few : printed ≤ 64 = omega arith in
     let O : Orders → Type 0 = λ o. AreRunOrders o in
-    subst O (sym own) (record { some_samples = some; few_samples = few; some_every = c.requires.orders.some_every; every = c.requires.orders.every })
+    subst O (sym (own at.After-of_samples-own)) (record { some_samples = some; few_samples = few; some_every = c.requires.orders.some_every; every = c.requires.orders.every })
 
 pub open_bank-requires-clause-stand : goal.open_bank-requires-clause-stand
 open_bank-requires-clause-stand c =
-    let at = c.banks in
-    let x = c.in-Some.stand in
-    let rest = into_iter_items c.next.new.self in
-    let steps : into_iter_items at.stand-iterator ≡ x ∷ rest = c.in-Some.ensures.steps.0 in
-    let all : at.yielded ++ x ∷ rest ≡ c.args.stands.items = ap (λ xs. at.yielded ++ xs) (sym steps) ∙ at.invariant.steps ∙ c.into_iter-stand-iterator.ensures.into_iter_gives.0 in
-    let within = next-within arc_value c.args.plans.now c.args.stands.items c.args.orders.now c.args.until c.requires.starts at.yielded rest x all in
-    let long : c.len-bank.result ≡ length at.runs.items = search rules in
-    let n : c.len-bank.result ≡ length at.yielded = long ∙ at.invariant.count in
-    let p = c.index-plans-bank.result in
-    let is : p ≡ get_or c.args.plans.now (length at.yielded) p = subst (λ k. p ≡ get_or c.args.plans.now k p) n c.index-plans-bank.is in
-    (next-fits arc_value c.args.plans.now c.args.stands.items c.args.orders.now c.args.until c.requires.starts at.yielded rest x all p is).0
+    let at = goal.at.open_bank-requires-clause-stand c in
+    (next-fits arc_value c.args.plans.now c.args.stands.items c.args.orders.now c.args.until c.requires.starts c.banks.yielded (into_iter_items c.next.new.self) c.in-Some.stand (behind at.After-len-bank) c.index-plans-bank.result (plan at.After-index-plans-bank)).0
 
 pub open_bank-requires-clause-window : goal.open_bank-requires-clause-window
 open_bank-requires-clause-window c =
-    let at = c.banks in
-    let x = c.in-Some.stand in
-    let rest = into_iter_items c.next.new.self in
-    let steps : into_iter_items at.stand-iterator ≡ x ∷ rest = c.in-Some.ensures.steps.0 in
-    let all : at.yielded ++ x ∷ rest ≡ c.args.stands.items = ap (λ xs. at.yielded ++ xs) (sym steps) ∙ at.invariant.steps ∙ c.into_iter-stand-iterator.ensures.into_iter_gives.0 in
-    let within = next-within arc_value c.args.plans.now c.args.stands.items c.args.orders.now c.args.until c.requires.starts at.yielded rest x all in
-    let long : c.len-bank.result ≡ length at.runs.items = search rules in
-    let n : c.len-bank.result ≡ length at.yielded = long ∙ at.invariant.count in
-    let p = c.index-plans-bank.result in
-    let is : p ≡ get_or c.args.plans.now (length at.yielded) p = subst (λ k. p ≡ get_or c.args.plans.now k p) n c.index-plans-bank.is in
-    omega (arith, (next-fits arc_value c.args.plans.now c.args.stands.items c.args.orders.now c.args.until c.requires.starts at.yielded rest x all p is).1, c.requires.starts.in_time)
+    let at = goal.at.open_bank-requires-clause-window c in
+    let fits = next-fits arc_value c.args.plans.now c.args.stands.items c.args.orders.now c.args.until c.requires.starts c.banks.yielded (into_iter_items c.next.new.self) c.in-Some.stand (behind at.After-len-bank) c.index-plans-bank.result (plan at.After-index-plans-bank) in
+    omega (arith, fits.1, c.requires.starts.in_time)
 
 pub open_bank-requires-clause-rows : goal.open_bank-requires-clause-rows
 open_bank-requires-clause-rows c =
-    let at = c.banks in
-    let x = c.in-Some.stand in
-    let rest = into_iter_items c.next.new.self in
-    let steps : into_iter_items at.stand-iterator ≡ x ∷ rest = c.in-Some.ensures.steps.0 in
-    let all : at.yielded ++ x ∷ rest ≡ c.args.stands.items = ap (λ xs. at.yielded ++ xs) (sym steps) ∙ at.invariant.steps ∙ c.into_iter-stand-iterator.ensures.into_iter_gives.0 in
-    let within = next-within arc_value c.args.plans.now c.args.stands.items c.args.orders.now c.args.until c.requires.starts at.yielded rest x all in
-    let long : c.len-bank.result ≡ length at.runs.items = search rules in
-    let n : c.len-bank.result ≡ length at.yielded = long ∙ at.invariant.count in
-    let p = c.index-plans-bank.result in
-    let is : p ≡ get_or c.args.plans.now (length at.yielded) p = subst (λ k. p ≡ get_or c.args.plans.now k p) n c.index-plans-bank.is in
-    let own = c.of_samples-own.ensures ∙ ap (λ k. for_samples k c.args.orders.now) (c.min.ensures ∙ ap (λ k. min (c.args.orders.now.samples - 64 * k) 64) n) in
-    let R : Orders → Type 0 = λ o. row_count (arc_value p) o x.epoch c.args.until ≤ 4194304 in
-    let less : min (c.args.orders.now.samples - 64 * length at.yielded) 64 ≤ c.args.orders.now.samples = omega arith in
-    subst R (sym own) (next-rows arc_value c.args.plans.now c.args.stands.items c.args.orders.now c.args.until c.requires.starts at.yielded rest x all p is _ less)
+    let at = goal.at.open_bank-requires-clause-rows c in
+    let R : Orders → Type 0 = λ o. row_count (arc_value c.index-plans-bank.result) o c.in-Some.stand.epoch c.args.until ≤ 4194304 in
+    let less : min (c.args.orders.now.samples - 64 * length c.banks.yielded) 64 ≤ c.args.orders.now.samples = omega arith in
+    subst R (sym (own at.After-of_samples-own))
+    (next-rows arc_value c.args.plans.now c.args.stands.items c.args.orders.now c.args.until c.requires.starts c.banks.yielded (into_iter_items c.next.new.self) c.in-Some.stand (behind at.After-len-bank) c.index-plans-bank.result (plan at.After-index-plans-bank) _ less)
 
 pub banks-preserved : goal.banks-preserved
 banks-preserved c =
-    let at = c.banks in
+    let at = goal.at.banks-preserved c in
+    let yielded = c.banks.yielded in
     let x = c.in-Some.stand in
     let rest = into_iter_items c.next.new.self in
-    let steps : into_iter_items at.stand-iterator ≡ x ∷ rest = c.in-Some.ensures.steps.0 in
-    let all : at.yielded ++ x ∷ rest ≡ c.args.stands.items = ap (λ xs. at.yielded ++ xs) (sym steps) ∙ at.invariant.steps ∙ c.into_iter-stand-iterator.ensures.into_iter_gives.0 in
-    let within = next-within arc_value c.args.plans.now c.args.stands.items c.args.orders.now c.args.until c.requires.starts at.yielded rest x all in
-    let long : c.len-bank.result ≡ length at.runs.items = search rules in
-    let n : c.len-bank.result ≡ length at.yielded = long ∙ at.invariant.count in
     let p = c.index-plans-bank.result in
-    let is : p ≡ get_or c.args.plans.now (length at.yielded) p = subst (λ k. p ≡ get_or c.args.plans.now k p) n c.index-plans-bank.is in
-    let own = c.of_samples-own.ensures ∙ ap (λ k. for_samples k c.args.orders.now) (c.min.ensures ∙ ap (λ k. min (c.args.orders.now.samples - 64 * k) 64) n) in
-    let run : c.in_ok-open_bank.field-0 ≡ bank_run (arc_value p) x (for_samples (min (c.args.orders.now.samples - 64 * length at.yielded) 64) c.args.orders.now) c.args.until saves.Never =
-    c.in_ok-open_bank.ensures ∙ ap (λ (o : Orders). bank_run (arc_value p) x o c.args.until saves.Never) own in
-    let so_far = ap (λ xs. at.runs.items ++ bank_runs (drop (length at.yielded) (map arc_value c.args.plans.now)) xs (for_samples (c.args.orders.now.samples - 64 * length at.yielded) c.args.orders.now) c.args.until saves.Never) (sym steps) ∙ at.invariant.runs in
+    let orders = c.args.orders.now in
+    let plans = map arc_value c.args.plans.now in
+    let steps = c.in-Some.ensures.steps.0 in
+    let run : c.in_ok-open_bank.field-0 ≡ bank_run (arc_value p) x (for_samples (min (orders.samples - 64 * length yielded) 64) orders) c.args.until saves.Never =
+    c.in_ok-open_bank.ensures ∙ ap (λ (o : Orders). bank_run (arc_value p) x o c.args.until saves.Never) (own at.After-of_samples-own) in
+    let so_far = ap (λ xs. c.banks.runs.items ++ bank_runs (drop (length yielded) plans) xs (for_samples (orders.samples - 64 * length yielded) orders) c.args.until saves.Never) (sym steps) ∙ c.banks.invariant.runs in
     let pushed = c.in_ok-push.ensures.items in
-    let later = bank_runs (drop (length (at.yielded ++ x ∷ [])) (map arc_value c.args.plans.now)) rest (for_samples (c.args.orders.now.samples - 64 * length (at.yielded ++ x ∷ [])) c.args.orders.now) c.args.until saves.Never in
+    let later = bank_runs (drop (length (yielded ++ x ∷ [])) plans) rest (for_samples (orders.samples - 64 * length (yielded ++ x ∷ [])) orders) c.args.until saves.Never in
     record {
-      steps = append_assoc at.yielded (x ∷ []) rest ∙ ap (λ xs. at.yielded ++ xs) (sym steps) ∙ at.invariant.steps;
-      left = let short = ap length steps in let was = at.invariant.left in let gone = c.in-Some.ensures.steps.1 in omega arith;
-      count = ap length pushed ∙ length-append at.runs.items _ ∙ ap (λ k. k + 1) at.invariant.count ∙ sym (length-append at.yielded (x ∷ []));
-      runs = ap (λ rs. rs ++ later) pushed ∙ runs-step arc_value c.args.plans.now c.args.stands.items c.args.orders.now c.args.until c.requires.starts at.yielded rest x all p is saves.Never at.runs.items _ c.in_ok-open_bank.field-0 run so_far;
+      steps = append_assoc yielded (x ∷ []) rest ∙ ap (λ xs. yielded ++ xs) (sym steps) ∙ c.banks.invariant.steps;
+      left = let short = ap length steps in let was = c.banks.invariant.left in let gone = c.in-Some.ensures.steps.1 in omega arith;
+      count = ap length pushed ∙ length-append c.banks.runs.items _ ∙ ap (λ k. k + 1) c.banks.invariant.count ∙ sym (length-append yielded (x ∷ []));
+      runs = ap (λ rs. rs ++ later) pushed
+          ∙ runs-step arc_value c.args.plans.now c.args.stands.items orders c.args.until c.requires.starts yielded rest x (behind at.After-len-bank) p (plan at.After-index-plans-bank) saves.Never c.banks.runs.items _ c.in_ok-open_bank.field-0 run so_far;
     }
 
 pub returns : goal.returns

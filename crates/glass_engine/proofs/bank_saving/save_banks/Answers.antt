@@ -10,25 +10,23 @@ use Rattle.glass_engine.specs.BankRuns.{plans_of, runs_of, runs_checkpoint}
 use Rattle.glass_engine.specs.KeptBanks.{saves_of, HasBanksRoom}
 use Rattle.glass_engine.specs.Runs.{DoneView}
 use Rattle.glass_engine.specs.declared.run.SaveKind.TheVariants as saves
-use Rattle.glass_engine.proofs.BankDrives.{plans-saved, runs-done}
-use Rattle.glass_engine.proofs.BankSavings.{ends-level, one-shape, checkpoint-is, checkpoint-saved, never-saved}
+use Rattle.glass_engine.proofs.BankDrives.{plans-done}
+use Rattle.glass_engine.proofs.BankSavings.{ends-level, one-shape, checkpoint-is, checkpoint-done, never-saved}
 use Rattle.glass_engine.proofs.bank_saving.save_banks.Goals as goal
+use Rattle.glass_engine.proofs.bank_saving.save_banks.Goals.{After-deref}
+
+-- the plans are those of the banks inside
+own : (g : _) (c : After-deref g) → map arc_value c.args.plans.now ≡ plans_of (runs_of c.done.inside.driven.items)
+own g c = plans-done arc_value c.args.plans.now (saves_of c.done.inside.saving) c.done.inside.driven.items c.args.done.now c.done.view_is c.requires.plans
 
 pub place_banks-requires-clause-plans : goal.place_banks-requires-clause-plans
 place_banks-requires-clause-plans g c =
-    let kind = saves_of c.done.inside.saving in
-    let items = c.done.inside.driven.items in
-    let own : map arc_value c.args.plans.now ≡ plans_of (runs_of items) =
-    c.requires.plans ∙ ap (λ (ds : List DoneView). plans_of (runs_of ds)) (sym c.done.view_is) ∙ ap plans_of (runs-done kind items) ∙ plans-saved kind (runs_of items) in
-    own ∙ ap (λ (ds : List DoneView). plans_of (runs_of ds)) (sym c.deref.ensures.value)
+    own g (goal.at.place_banks-requires-clause-plans g c).After-deref ∙ ap (λ (ds : List DoneView). plans_of (runs_of ds)) (sym c.deref.ensures.value)
 
 pub place_banks-requires-clause-shape : goal.place_banks-requires-clause-shape
 place_banks-requires-clause-shape g c =
-    let kind = saves_of c.done.inside.saving in
-    let items = c.done.inside.driven.items in
-    let own : map arc_value c.args.plans.now ≡ plans_of (runs_of items) =
-    c.requires.plans ∙ ap (λ (ds : List DoneView). plans_of (runs_of ds)) (sym c.done.view_is) ∙ ap plans_of (runs-done kind items) ∙ plans-saved kind (runs_of items) in
-    subst HaveOneShape (sym own) (one-shape c.done.inside.orders items c.done.invariant.runs c.done.invariant.ended)
+    subst HaveOneShape (sym (own g (goal.at.place_banks-requires-clause-shape g c).After-deref))
+    (one-shape c.done.inside.orders c.done.inside.driven.items c.done.invariant.runs c.done.invariant.ended)
 
 pub place_banks-requires-clause-level : goal.place_banks-requires-clause-level
 place_banks-requires-clause-level g c =
@@ -36,12 +34,9 @@ place_banks-requires-clause-level g c =
 
 pub place_banks-requires-clause-spare : goal.place_banks-requires-clause-spare
 place_banks-requires-clause-spare g c =
-    let kind = saves_of c.done.inside.saving in
-    let items = c.done.inside.driven.items in
-    let own : map arc_value c.args.plans.now ≡ plans_of (runs_of items) =
-    c.requires.plans ∙ ap (λ (ds : List DoneView). plans_of (runs_of ds)) (sym c.done.view_is) ∙ ap plans_of (runs-done kind items) ∙ plans-saved kind (runs_of items) in
-    let kept = subst (HasBanksRoom (plans_of (runs_of items))) c.in-Some.is c.done.invariant.saving in
-    omega (arith, ap (λ (ps : List Plan). banks_len ps) own, kept.1)
+    let kept = subst (HasBanksRoom (plans_of (runs_of c.done.inside.driven.items))) c.in-Some.is c.done.invariant.saving in
+    let len = ap (λ (ps : List Plan). banks_len ps) (own g (goal.at.place_banks-requires-clause-spare g c).After-deref) in
+    omega (arith, len, kept.1)
 
 pub unreachable-requires : goal.unreachable-requires
 unreachable-requires g c =
@@ -51,25 +46,18 @@ unreachable-requires g c =
 
 pub invariant_of-done : goal.invariant_of-done
 invariant_of-done g c =
-    let kind = saves_of c.done.inside.saving in
-    let items = c.done.inside.driven.items in
-    let own : map arc_value c.args.plans.now ≡ plans_of (runs_of items) =
-    c.requires.plans ∙ ap (λ (ds : List DoneView). plans_of (runs_of ds)) (sym c.done.view_is) ∙ ap plans_of (runs-done kind items) ∙ plans-saved kind (runs_of items) in
+    let len = ap (λ (ps : List Plan). banks_len ps) (own g (goal.at.invariant_of-done g c).After-deref) in
     record {
       runs = c.done.invariant.runs;
       ended = c.done.invariant.ended;
-      saving = (c.place_banks.ensures.empty, omega (arith, ap (λ (ps : List Plan). banks_len ps) own, c.place_banks.ensures.spare));
+      saving = (c.place_banks.ensures.empty, omega (arith, len, c.place_banks.ensures.spare));
     }
 
 pub returns-clause-placed : goal.returns-clause-placed
 returns-clause-placed g c =
-    let kind = saves_of c.done.inside.saving in
     let items = c.done.inside.driven.items in
-    let own : map arc_value c.args.plans.now ≡ plans_of (runs_of items) =
-    c.requires.plans ∙ ap (λ (ds : List DoneView). plans_of (runs_of ds)) (sym c.done.view_is) ∙ ap plans_of (runs-done kind items) ∙ plans-saved kind (runs_of items) in
     let text : banks_encoding (map arc_value c.args.plans.now) (ends_in c.deref.result.now) ≡ runs_checkpoint (runs_of c.args.done.now) =
-    ap₂ (λ (ps : List Plan) (ds : List DoneView). banks_encoding ps (ends_in ds)) own c.deref.ensures.value
+    ap₂ (λ (ps : List Plan) (ds : List DoneView). banks_encoding ps (ends_in ds)) (own g (goal.at.returns-clause-placed g c).After-deref) c.deref.ensures.value
     ∙ checkpoint-is c.done.inside.orders items c.done.invariant.runs c.done.invariant.ended
-    ∙ sym (checkpoint-saved kind (runs_of items)) ∙ sym (ap runs_checkpoint (runs-done kind items))
-    ∙ ap (λ (ds : List DoneView). runs_checkpoint (runs_of ds)) c.done.view_is in
+    ∙ checkpoint-done (saves_of c.done.inside.saving) items c.args.done.now c.done.view_is in
     subst (λ bytes. OnOk c.place_banks.result (Placed (g.H.Shelf.holds c.args.shelf.now) (g.H.Shelf.holds c.place_banks.new.shelf) c.args.name.now bytes)) text c.place_banks.ensures.placed

@@ -1,78 +1,63 @@
-use Rattle.std.proofs.Common.{arith, ◌≡◌, ℕ, ◌-◌, ◌*◌, List, length, drop, sym, ap, ap₂, subst, ◌∙◌}
+use Rattle.std.proofs.Common.{arith, ◌≡◌, ℕ, ◌-◌, ◌*◌, ◌≤◌, length, ap, subst, ◌∙◌}
 use Rattle.std.proofs.lemmas.List.{length-drop}
 use Rattle.std.proofs.lemmas.Result.{on_ok_weaker, on_err_weaker}
 use Rattle.glass_edges.specs.Contents.{appended, AppendsPrefix}
 use Rattle.exchange_board.specs.declared.origin.Origin.{Origin}
-use Rattle.plane_sweep.specs.Uneven.{uneven_part}
-use Rattle.plane_sweep.specs.declared.uneven.RaggedStand.{RaggedStand}
-use Rattle.scalar_rule.specs.Plan.{Plan, slots_of}
-use Rattle.scalar_rule.specs.declared.sample.Record.{Record}
-use Rattle.glass_engine.specs.RecordPieces.{piece}
+use Rattle.scalar_rule.specs.Plan.{slots_of}
+use Rattle.scalar_rule.specs.declared.sample.Sample.{Sample}
 use Rattle.glass_engine.specs.Runs.{DoneView, IsEnd}
-use Rattle.glass_engine.specs.Summary.{summary, summary_text}
-use Rattle.glass_engine.proofs.SummaryTexts.{HasSummary, summary-enough, summary-is, last-taken}
+use Rattle.glass_engine.specs.Summary.{BeginsLevel}
+use Rattle.glass_engine.proofs.SummaryTexts.{HasSummary, summary-enough, summary-taken, last-taken}
 use Rattle.glass_engine.proofs.summary.write_summary.Goals as goal
+use Rattle.glass_engine.proofs.summary.write_summary.Goals.{After-slots}
+
+-- it is a run that has a summary
+has : (g : _) (c : After-slots g) (start : ℕ → Sample) → BeginsLevel c.args.done.now.run start → HasSummary c.args.done.now.run start c.args.done.now.ended
+has g c start begins = record {
+  begins = begins;
+  takes = c.requires.takes;
+  samples = c.requires.samples;
+  some = c.requires.some;
+  recorded = c.requires.recorded;
+  ends = subst (λ (x : DoneView). IsEnd x.run x.ended) c.done.view_is c.done.invariant.ended;
+}
+
+-- its records and its slots
+records : (g : _) (c : After-slots g) → c.records-records.result.now ≡ c.args.done.now.ended.records
+records g c = c.records-records.ensures ∙ ap (λ (x : DoneView). x.ended.records) c.done.view_is
+
+slots : (g : _) (c : After-slots g) → c.slots.result ≡ slots_of c.args.done.now.run.plan
+slots g c = c.slots.ensures.value ∙ ap slots_of c.requires.plan
+
+-- there are those of the last epoch
+enough : (g : _) (c : After-slots g) → 64 * c.slots.result ≤ length c.records-records.result.now
+enough g c =
+    let all = summary-enough c.level_run_is_serial.ensures c.args.done.now.run c.requires.level.0 c.args.done.now.ended (has g c c.requires.level.0 c.requires.level.1) in
+    omega (arith, all, ap length (records g c), slots g c)
 
 pub overflow_sub-last : goal.overflow_sub-last
-overflow_sub-last g c =
-    let done = c.args.done.now in
-    let ends : IsEnd done.run done.ended = subst (λ (x : DoneView). IsEnd x.run x.ended) c.done.view_is c.done.invariant.ended in
-    let start = c.requires.level.0 in
-    let h : HasSummary done.run start done.ended = record { begins = c.requires.level.1; takes = c.requires.takes; samples = c.requires.samples; some = c.requires.some; recorded = c.requires.recorded; ends = ends } in
-    let enough = summary-enough c.level_run_is_serial.ensures done.run start done.ended h in
-    let same : c.records-records.result.now ≡ done.ended.records = c.records-records.ensures ∙ ap (λ (x : DoneView). x.ended.records) c.done.view_is in
-    let records : length c.records-records.result.now ≡ length done.ended.records = ap length same in
-    let slots : c.slots.result ≡ slots_of done.run.plan = c.slots.ensures.value ∙ ap slots_of c.requires.plan in
-    omega (arith, enough, records, slots)
+overflow_sub-last g c = omega (arith, enough g (goal.at.overflow_sub-last g c).After-slots)
 
 pub put_summary-requires-clause-records : goal.put_summary-requires-clause-records
 put_summary-requires-clause-records g c =
-    let done = c.args.done.now in
-    let ends : IsEnd done.run done.ended = subst (λ (x : DoneView). IsEnd x.run x.ended) c.done.view_is c.done.invariant.ended in
-    let start = c.requires.level.0 in
-    let h : HasSummary done.run start done.ended = record { begins = c.requires.level.1; takes = c.requires.takes; samples = c.requires.samples; some = c.requires.some; recorded = c.requires.recorded; ends = ends } in
-    let enough = summary-enough c.level_run_is_serial.ensures done.run start done.ended h in
-    let same : c.records-records.result.now ≡ done.ended.records = c.records-records.ensures ∙ ap (λ (x : DoneView). x.ended.records) c.done.view_is in
-    let records : length c.records-records.result.now ≡ length done.ended.records = ap length same in
-    let slots : c.slots.result ≡ slots_of done.run.plan = c.slots.ensures.value ∙ ap slots_of c.requires.plan in
-    let plan = ap slots_of c.requires.plan in
-    ap length (last-taken c.records-records.result.now (64 * c.slots.result) (omega (arith, enough, records, slots)))
-    ∙ length-drop (length c.records-records.result.now - 64 * c.slots.result) c.records-records.result.now ∙ omega (arith, enough, records, slots, plan)
+    let few = enough g (goal.at.put_summary-requires-clause-records g c).After-slots in
+    ap length (last-taken c.records-records.result.now (64 * c.slots.result) few)
+    ∙ length-drop (length c.records-records.result.now - 64 * c.slots.result) c.records-records.result.now ∙ omega (arith, few, c.slots.ensures.value)
 
 pub returns-clause-whole : goal.returns-clause-whole
 returns-clause-whole g c = λ start begins.
-    let done = c.args.done.now in
-    let ends : IsEnd done.run done.ended = subst (λ (x : DoneView). IsEnd x.run x.ended) c.done.view_is c.done.invariant.ended in
-    let h : HasSummary done.run start done.ended = record { begins = begins; takes = c.requires.takes; samples = c.requires.samples; some = c.requires.some; recorded = c.requires.recorded; ends = ends } in
-    let enough = summary-enough c.level_run_is_serial.ensures done.run start done.ended h in
-    let same : c.records-records.result.now ≡ done.ended.records = c.records-records.ensures ∙ ap (λ (x : DoneView). x.ended.records) c.done.view_is in
-    let records : length c.records-records.result.now ≡ length done.ended.records = ap length same in
-    let slots : c.slots.result ≡ slots_of done.run.plan = c.slots.ensures.value ∙ ap slots_of c.requires.plan in
-    let last = last-taken c.records-records.result.now (64 * c.slots.result) (omega (arith, enough, records, slots)) ∙ ap₂ (λ (xs : List Record) (k : ℕ). drop (length xs - 64 * k) xs) same slots in
-    let stand : c.stand.result.now ≡ done.ended.stand = c.stand.ensures ∙ ap (λ (x : DoneView). x.ended.stand) c.done.view_is in
-    let until : c.origin.result.now.window.until ≡ done.run.until = ap (λ (o : Origin). o.window.until) c.origin.ensures ∙ ap (λ (x : DoneView). x.run.until) c.done.view_is in
-    let T : Plan → List Record → RaggedStand → ℕ → List ℕ = λ p rs st u. summary_text c.args.n p (λ b. piece rs (slots_of p) b) (λ b. (uneven_part p.size b st).slots) u in
-    let text = ap₂ (λ p rs. T p rs c.stand.result.now c.origin.result.now.window.until) c.requires.plan last
-    ∙ ap₂ (λ st u. T done.run.plan (drop (length done.ended.records - 64 * slots_of done.run.plan) done.ended.records) st u) stand until
-    ∙ summary-is c.level_run_is_serial.ensures c.args.n done.run start done.ended h
-    ∙ ap (λ p. summary c.args.n p start done.run.until) (sym c.requires.plan) in
+    let at = (goal.at.returns-clause-whole g c).After-slots in
+    let text = summary-taken c.level_run_is_serial.ensures c.args.n c.args.done.now.run start c.args.done.now.ended (has g at start begins)
+    c.args.plan.now c.records-records.result.now c.slots.result c.stand.result.now c.origin.result.now.window.until c.requires.plan (records g at) (slots g at)
+    (c.stand.ensures ∙ ap (λ (x : DoneView). x.ended.stand) c.done.view_is)
+    (ap (λ (o : Origin). o.window.until) c.origin.ensures ∙ ap (λ (x : DoneView). x.run.until) c.done.view_is) in
     on_ok_weaker c.put_summary.result (λ is. is ∙ ap (appended (g.O.Sink.taken c.args.out.now)) text) c.put_summary.ensures.whole
 
 pub returns-clause-prefix : goal.returns-clause-prefix
 returns-clause-prefix g c = λ start begins.
-    let done = c.args.done.now in
-    let ends : IsEnd done.run done.ended = subst (λ (x : DoneView). IsEnd x.run x.ended) c.done.view_is c.done.invariant.ended in
-    let h : HasSummary done.run start done.ended = record { begins = begins; takes = c.requires.takes; samples = c.requires.samples; some = c.requires.some; recorded = c.requires.recorded; ends = ends } in
-    let enough = summary-enough c.level_run_is_serial.ensures done.run start done.ended h in
-    let same : c.records-records.result.now ≡ done.ended.records = c.records-records.ensures ∙ ap (λ (x : DoneView). x.ended.records) c.done.view_is in
-    let records : length c.records-records.result.now ≡ length done.ended.records = ap length same in
-    let slots : c.slots.result ≡ slots_of done.run.plan = c.slots.ensures.value ∙ ap slots_of c.requires.plan in
-    let last = last-taken c.records-records.result.now (64 * c.slots.result) (omega (arith, enough, records, slots)) ∙ ap₂ (λ (xs : List Record) (k : ℕ). drop (length xs - 64 * k) xs) same slots in
-    let stand : c.stand.result.now ≡ done.ended.stand = c.stand.ensures ∙ ap (λ (x : DoneView). x.ended.stand) c.done.view_is in
-    let until : c.origin.result.now.window.until ≡ done.run.until = ap (λ (o : Origin). o.window.until) c.origin.ensures ∙ ap (λ (x : DoneView). x.run.until) c.done.view_is in
-    let T : Plan → List Record → RaggedStand → ℕ → List ℕ = λ p rs st u. summary_text c.args.n p (λ b. piece rs (slots_of p) b) (λ b. (uneven_part p.size b st).slots) u in
-    let text = ap₂ (λ p rs. T p rs c.stand.result.now c.origin.result.now.window.until) c.requires.plan last
-    ∙ ap₂ (λ st u. T done.run.plan (drop (length done.ended.records - 64 * slots_of done.run.plan) done.ended.records) st u) stand until
-    ∙ summary-is c.level_run_is_serial.ensures c.args.n done.run start done.ended h
-    ∙ ap (λ p. summary c.args.n p start done.run.until) (sym c.requires.plan) in
+    let at = (goal.at.returns-clause-prefix g c).After-slots in
+    let text = summary-taken c.level_run_is_serial.ensures c.args.n c.args.done.now.run start c.args.done.now.ended (has g at start begins)
+    c.args.plan.now c.records-records.result.now c.slots.result c.stand.result.now c.origin.result.now.window.until c.requires.plan (records g at) (slots g at)
+    (c.stand.ensures ∙ ap (λ (x : DoneView). x.ended.stand) c.done.view_is)
+    (ap (λ (o : Origin). o.window.until) c.origin.ensures ∙ ap (λ (x : DoneView). x.run.until) c.done.view_is) in
     on_err_weaker c.put_summary.result (λ p. subst (AppendsPrefix (g.O.Sink.taken c.args.out.now) (g.O.Sink.taken c.put_summary.new.out)) text p) c.put_summary.ensures.prefix
