@@ -8,7 +8,7 @@ use Rattle.exchange_board.specs.Stops.{IsStop}
 use Rattle.exchange_board.specs.Views.{Stage, BoardView, RaggedEndedView}
 use Rattle.glass_engine.specs.KeptRun.{run_view, KeepsRun, done_view, KeepsDone}
 use Rattle.glass_engine.specs.Runs.{RunView, IsOriginOf, IsEnd}
-use Rattle.glass_engine.specs.Saves.{kind_of, KeepsSaving}
+use Rattle.glass_engine.specs.KeptSaving.{kind_of, KeepsSaving}
 use Rattle.glass_engine.specs.declared.run.Run.TheInside as run
 use Rattle.glass_engine.specs.declared.done.Done.TheInside as done
 

@@ -17,7 +17,7 @@ use Rattle.run_checkpoint.proofs.Forms.{length-sealed}
 use Rattle.run_checkpoint.proofs.LevelForm.{packed_body, encoding-packed, length-packed}
 use Rattle.run_checkpoint.proofs.UnevenForm.{uneven_body, uneven-packed, length-uneven, uneven-long}
 use Rattle.glass_engine.specs.KeptRun.{done_view, KeepsDone}
-use Rattle.glass_engine.specs.Saves.{kind_of, EndsAs}
+use Rattle.glass_engine.specs.KeptSaving.{kind_of, EndsAs}
 use Rattle.glass_engine.specs.declared.done.Done.TheInside as done
 use Rattle.glass_engine.specs.declared.run.SaveKind.TheVariants as saves
 use Rattle.glass_engine.specs.declared.saving.Saving.{Saving}

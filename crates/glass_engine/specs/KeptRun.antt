@@ -5,7 +5,7 @@ use Rattle.exchange_board.specs.Content.{plan_of, IsLawfulOrigin}
 use Rattle.turn_cell.specs.Seats.{AreOpened}
 use Rattle.shared_board.specs.Shared.{lock_id}
 use Rattle.glass_engine.specs.Runs.{RunView, AreRunOrders, DoneView, IsOriginOf, IsEnd}
-use Rattle.glass_engine.specs.Saves.{kind_of, KeepsSaving}
+use Rattle.glass_engine.specs.KeptSaving.{kind_of, KeepsSaving}
 use Rattle.glass_engine.specs.declared.run.Run.TheInside as run
 use Rattle.glass_engine.specs.declared.done.Done.TheInside as done
 

@@ -3,7 +3,7 @@
 ghost use Rattle.std.specs.Prelude.{◌≡◌, ◌+◌, ◌*◌, ◌≤◌, IfOk};
 ghost use Rattle.plane_sweep.specs.Uneven.{RaggedStandFits};
 ghost use Rattle.scalar_rule.specs.Plan.{slots_of};
-ghost use Rattle.glass_engine.specs.Saves as model;
+ghost use Rattle.glass_engine.specs.KeptSaving as model;
 
 use crate::run::SaveKind;
 use glass_edges::NoMemory;

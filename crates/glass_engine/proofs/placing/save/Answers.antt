@@ -1,6 +1,6 @@
 use Rattle.std.proofs.Common.{sym, subst}
 use Rattle.plane_sweep.specs.declared.uneven.RaggedStand.{RaggedStand}
-use Rattle.glass_engine.specs.Saves.{EndsAs}
+use Rattle.glass_engine.specs.KeptSaving.{EndsAs}
 use Rattle.glass_engine.proofs.Savings.{done-ends}
 use Rattle.glass_engine.proofs.placing.save.Goals as goal
 

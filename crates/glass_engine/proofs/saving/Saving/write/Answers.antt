@@ -1,7 +1,7 @@
 use Rattle.std.proofs.Common.{arith, ◌≡◌, length, subst, ap, ◌∙◌}
 use Rattle.std.proofs.lemmas.List.{length-append}
 use Rattle.run_checkpoint.specs.Encoding.{flattened}
-use Rattle.glass_engine.specs.Saves.{IsLong, bytes_of}
+use Rattle.glass_engine.specs.KeptSaving.{IsLong, bytes_of}
 use Rattle.glass_engine.specs.declared.saving.Saving.{Saving}
 use Rattle.glass_engine.proofs.Savings.{level-length, uneven-length, uneven-room, flattened-fits}
 use Rattle.glass_engine.proofs.saving.Saving.write.Goals as goal
