@@ -1,7 +1,7 @@
 use Rattle.std.specs.Arc.{arc_value}
 use Rattle.std.specs.Prelude.{All, vec_len}
 use Rattle.std.specs.Vec.Iter.{into_iter_items}
-use Rattle.std.proofs.Common.{rules, arith, ◌≡◌, ◌<◌, ap, ap₂, sym, subst, ◌∙◌, length, length-append, get_or, [], ◌∷◌, ◌++◌, append_assoc, append-nil}
+use Rattle.std.proofs.Common.{rules, arith, ◌≡◌, ap, ap₂, sym, subst, ◌∙◌, length, length-append, get_or, [], ◌∷◌, ◌++◌, append_assoc, append-nil}
 use Rattle.std.proofs.lemmas.List.{length-map}
 use Rattle.std.proofs.lemmas.List.Elements.{All-push}
 use Rattle.glass_engine.specs.BankRuns.{runs_of}
@@ -13,7 +13,9 @@ use Rattle.glass_engine.proofs.bank_driving.drive_each.Goals.{After-len-bank}
 
 -- the run at hand is behind those that were driven, and before the rest
 behind : (g : _) (c : After-len-bank g) → c.banks.yielded ++ c.in-Some.opened ∷ into_iter_items c.next.new.self ≡ c.args.runs.items
-behind g c = ap (λ xs. c.banks.yielded ++ xs) (sym c.in-Some.ensures.steps.0) ∙ c.banks.invariant.steps ∙ c.into_iter-opened-iterator.ensures.into_iter_gives.0
+behind g c =
+    let steps : into_iter_items c.banks.opened-iterator ≡ c.in-Some.opened ∷ into_iter_items c.next.new.self = c.in-Some.ensures.steps.0 in
+    ap (λ xs. c.banks.yielded ++ xs) (sym steps) ∙ c.banks.invariant.steps ∙ c.into_iter-opened-iterator.ensures.into_iter_gives.0
 
 -- as many were driven as came before it
 number : (g : _) (c : After-len-bank g) → c.len-bank.result ≡ length c.banks.yielded
@@ -48,7 +50,7 @@ banks-preserved g c =
     let at = c.banks in
     let x = c.in-Some.opened in
     let rest = into_iter_items c.next.new.self in
-    let steps = c.in-Some.ensures.steps.0 in
+    let steps : into_iter_items at.opened-iterator ≡ x ∷ rest = c.in-Some.ensures.steps.0 in
     record {
       steps = append_assoc at.yielded (x ∷ []) rest ∙ ap (λ xs. at.yielded ++ xs) (sym steps) ∙ at.invariant.steps;
       left = let short = ap length steps in let was = at.invariant.left in let gone = c.in-Some.ensures.steps.1 in omega arith;

@@ -12,7 +12,9 @@ use Rattle.glass_engine.proofs.bank_opening.open_runs.Goals.{After-len-bank, Aft
 
 -- the state at hand is behind those whose runs are open, and before the rest
 behind : (c : After-len-bank) → c.banks.yielded ++ c.in-Some.stand ∷ into_iter_items c.next.new.self ≡ c.args.stands.items
-behind c = ap (λ xs. c.banks.yielded ++ xs) (sym c.in-Some.ensures.steps.0) ∙ c.banks.invariant.steps ∙ c.into_iter-stand-iterator.ensures.into_iter_gives.0
+behind c =
+    let steps : into_iter_items c.banks.stand-iterator ≡ c.in-Some.stand ∷ into_iter_items c.next.new.self = c.in-Some.ensures.steps.0 in
+    ap (λ xs. c.banks.yielded ++ xs) (sym steps) ∙ c.banks.invariant.steps ∙ c.into_iter-stand-iterator.ensures.into_iter_gives.0
 
 -- there is a plan for it
 within : (c : After-len-bank) → length c.banks.yielded < length c.args.plans.now
@@ -92,7 +94,7 @@ banks-preserved c =
     let p = c.index-plans-bank.result in
     let orders = c.args.orders.now in
     let plans = map arc_value c.args.plans.now in
-    let steps = c.in-Some.ensures.steps.0 in
+    let steps : into_iter_items c.banks.stand-iterator ≡ x ∷ rest = c.in-Some.ensures.steps.0 in
     let run : c.in_ok-open_bank.field-0 ≡ bank_run (arc_value p) x (for_samples (min (orders.samples - 64 * length yielded) 64) orders) c.args.until saves.Never =
     c.in_ok-open_bank.ensures ∙ ap (λ (o : Orders). bank_run (arc_value p) x o c.args.until saves.Never) (own at.After-of_samples-own) in
     let so_far = ap (λ xs. c.banks.runs.items ++ bank_runs (drop (length yielded) plans) xs (for_samples (orders.samples - 64 * length yielded) orders) c.args.until saves.Never) (sym steps) ∙ c.banks.invariant.runs in
