@@ -5,9 +5,9 @@ use Rattle.turn_cell.specs.Seats.{AreOpened}
 use Rattle.glass_engine.specs.Runs.{RunView}
 use Rattle.glass_engine.specs.Working.{Seat, HaveLeft}
 use Rattle.glass_engine.proofs.Leaving.{rest-opened, run-idle, run-origin, run-ended}
-use Rattle.glass_engine.proofs.Driven.{run-ends, done-keeps, run-stays}
+use Rattle.glass_engine.proofs.Driven.{HasEnded, run-ends, done-keeps, run-stays}
 use Rattle.glass_engine.proofs.driving.drive.Goals as goal
-use Rattle.glass_engine.proofs.driving.drive.Goals.{After-work_all}
+use Rattle.glass_engine.proofs.driving.drive.Goals.{After-work_all, In-Ok}
 
 pub work_all-requires-clause-rest : goal.work_all-requires-clause-rest
 work_all-requires-clause-rest g c κs within =
@@ -30,25 +30,28 @@ close-requires-clause-idle g c =
     let d = (goal.at.close-requires-clause-idle g c).After-work_all in
     run-idle c.run.inside c.args.plan.now c.work_all.new.seats c.run.invariant (whole g d) (left g d)
 
+-- the board that was closed is the one that was opened
+base : (g : _) (c : In-Ok g) → c.close.result.origin ≡ c.run.inside.opened.value.origin
+base g c =
+    let w = (goal.at.In-Ok g c).After-work_all in
+    run-origin c.run.inside c.args.plan.now c.work_all.new.seats c.run.invariant (whole g w) (left g w) c.close.result c.close.ensures.base
+
+-- and is at its end
+over : (g : _) (c : In-Ok g) → HasEnded c.close.result c.in-Ok.ended
+over g c =
+    let w = (goal.at.In-Ok g c).After-work_all in
+    run-ended c.run.inside c.args.plan.now c.work_all.new.seats c.run.invariant (whole g w) (left g w) c.close.result c.in-Ok.ended c.close.ensures.base c.close.ensures.seen c.in-Ok.ensures.places c.in-Ok.ensures.stopped
+
 pub invariant_of-result : goal.invariant_of-result
 invariant_of-result g c =
-    let w = (goal.at.invariant_of-result g c).After-work_all in
-    let r = c.run.inside in
-    let base = run-origin r c.args.plan.now c.work_all.new.seats c.run.invariant (whole g w) (left g w) c.close.result c.close.ensures.base in
-    let h = run-ended r c.args.plan.now c.work_all.new.seats c.run.invariant (whole g w) (left g w) c.close.result c.in-Ok.ended c.close.ensures.base c.close.ensures.seen c.in-Ok.ensures.places c.in-Ok.ensures.stopped in
-    done-keeps r c.close.result c.in-Ok.ended c.run.invariant base h
+    let at = (goal.at.invariant_of-result g c).In-Ok in
+    done-keeps c.run.inside c.close.result c.in-Ok.ended c.run.invariant (base g at) (over g at)
 
 pub returns-clause-run : goal.returns-clause-run
 returns-clause-run g c =
-    let w = (goal.at.returns-clause-run g c).After-work_all in
-    let r = c.run.inside in
-    let base = run-origin r c.args.plan.now c.work_all.new.seats c.run.invariant (whole g w) (left g w) c.close.result c.close.ensures.base in
-    run-stays r c.in-Ok.ended (c.in-Ok.ensures.stopped.same ∙ base) ∙ c.run.view_is
+    run-stays c.run.inside c.in-Ok.ended (c.in-Ok.ensures.stopped.same ∙ base g (goal.at.returns-clause-run g c).In-Ok) ∙ c.run.view_is
 
 pub returns-clause-ended : goal.returns-clause-ended
 returns-clause-ended g c =
-    let w = (goal.at.returns-clause-ended g c).After-work_all in
-    let r = c.run.inside in
-    let base = run-origin r c.args.plan.now c.work_all.new.seats c.run.invariant (whole g w) (left g w) c.close.result c.close.ensures.base in
-    let h = run-ended r c.args.plan.now c.work_all.new.seats c.run.invariant (whole g w) (left g w) c.close.result c.in-Ok.ended c.close.ensures.base c.close.ensures.seen c.in-Ok.ensures.places c.in-Ok.ensures.stopped in
-    rw (← c.run.view_is) (run-ends r c.close.result c.in-Ok.ended c.run.invariant base h)
+    let at = (goal.at.returns-clause-ended g c).In-Ok in
+    rw (← c.run.view_is) (run-ends c.run.inside c.close.result c.in-Ok.ended c.run.invariant (base g at) (over g at))
