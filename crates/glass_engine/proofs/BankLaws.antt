@@ -1,4 +1,5 @@
 -- The laws of runs over banks.
+use Rattle.std.proofs.lemmas.List.Elements.{All-head, All-tail}
 use Rattle.std.proofs.Common.{arith, ◌≡◌, inl, inr, ℕ, ◌-◌, ◌*◌, ◌<◌, ◌≤◌, false, cond, nat_lt, List, [], ◌∷◌, ◌++◌, length, map, refl, sym, ap, ap₂, ◌∙◌, lit<}
 use Rattle.std.proofs.lemmas.Bool.{cases_lt, lt-ltb}
 use Rattle.std.proofs.lemmas.Bool.Decides.{nat_tests}
@@ -8,7 +9,7 @@ use Rattle.run_checkpoint.specs.Encoding.{encoding, sealed}
 use Rattle.run_checkpoint.proofs.LevelClauses.{encoding-same}
 use Rattle.run_plan.specs.declared.run_file.Orders.{Orders}
 use Rattle.scalar_rule.specs.Epoch.{epoch_records}
-use Rattle.scalar_rule.specs.Plan.{Plan}
+use Rattle.scalar_rule.specs.Plan.{Plan, slots_of}
 use Rattle.scalar_rule.specs.Records.{measured_from}
 use Rattle.scalar_rule.specs.Serial.{serial}
 use Rattle.scalar_rule.specs.declared.sample.Sample.{Sample}
@@ -104,17 +105,18 @@ checkpoint-agree xs ys e same =
 
 runs-agree : (epoch : ℕ) (plans : List Plan) (stands : List Stand) (starts : List (ℕ → Sample)) (orders : Orders) (until : ℕ) (kind : SaveKind) → BanksFit epoch plans stands → HaveSlots plans
     → BanksStand plans starts stands → Agree (map bank_of (bank_runs plans stands orders until kind)) (banks_with plans starts)
-unfolding bank_runs BanksFit BanksStand HaveSlots banks_with Agree
+unfolding bank_runs BanksFit BanksStand banks_with Agree
 runs-agree epoch [] [] [] orders until kind fit slots stand = tt
 runs-agree epoch [] [] (s ∷ ss) orders until kind fit slots stand = absurd stand
 runs-agree epoch [] (x ∷ xs) starts orders until kind fit slots stand = absurd fit
 runs-agree epoch (plan ∷ plans) [] starts orders until kind fit slots stand = absurd fit
 runs-agree epoch (plan ∷ plans) (x ∷ xs) [] orders until kind fit slots stand = absurd stand
 runs-agree epoch (plan ∷ plans) (x ∷ xs) (s ∷ ss) orders until kind fit slots stand =
-    let some : 0 < length x.slots = omega (arith, fit.0.slots, slots.0) in (
+    let P : Plan → Type 0 = λ p. 1 ≤ slots_of p in
+    let some : 0 < length x.slots = omega (arith, fit.0.slots, All-head P plan plans slots) in (
       refl,
       λ b below. ap (part plan.size b) (level-flattened x some) ∙ stand.0 b below,
-      runs-agree epoch plans xs ss (for_samples (orders.samples - 64) orders) until kind fit.2 slots.1 stand.1,
+      runs-agree epoch plans xs ss (for_samples (orders.samples - 64) orders) until kind fit.2 (All-tail P plan plans slots) stand.1,
     )
 
 samples-all : (epoch : ℕ) (plans : List Plan) (stands : List Stand) (orders : Orders) (until n : ℕ) (kind : SaveKind) → BanksFit epoch plans stands → n ≤ 64 * length plans

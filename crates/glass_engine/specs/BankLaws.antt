@@ -1,6 +1,6 @@
 -- What holds of runs over banks: their report and their checkpoint are those of the serial dynamics from the states that the
 -- packed states stand for, and bank 0 has the samples below 64.
-use Rattle.std.specs.Prelude.{◌≡◌, ℕ, ◌<◌, ◌≤◌, ◌*◌, List, [], ◌∷◌, length}
+use Rattle.std.specs.Prelude.{◌≡◌, ℕ, ◌<◌, ◌≤◌, ◌*◌, List, [], ◌∷◌, length, All}
 use Rattle.run_checkpoint.specs.BankEncoding.{BanksFit, BanksStand}
 use Rattle.run_plan.specs.declared.run_file.Orders.{Orders}
 use Rattle.scalar_rule.specs.Plan.{Plan, slots_of}
@@ -19,9 +19,8 @@ banks_with (plan ∷ plans) [] = []
 banks_with (plan ∷ plans) (start ∷ starts) = record { plan = plan; start = start } ∷ banks_with plans starts
 
 -- every plan has a slot
-unfoldable pub HaveSlots : List Plan → Type 0
-HaveSlots [] = Unit {0}
-HaveSlots (plan ∷ plans) = (1 ≤ slots_of plan) × HaveSlots plans
+abbrev pub HaveSlots : List Plan → Type 0
+HaveSlots plans = All (λ plan. 1 ≤ slots_of plan) plans
 
 -- packed states at one epoch that stand for these states of all samples
 pub record StandForBanks (plans : List Plan) (stands : List Stand) (starts : List (ℕ → Sample)) : Type 0 where

@@ -65,9 +65,9 @@ stand-epoch (p ∷ ps) (s ∷ ss) [] all = absurd all
 stand-epoch (p ∷ ps) (s ∷ ss) (x ∷ xs) all = sym (ap (λ (a : Sample). a.epoch) (all.0 0 (omega arith)))
 
 pub have-slots : (l n : ℕ) (plans : List Plan) → 1 ≤ n → HaveShape l n plans → HaveSlots plans
-unfolding HaveShape HaveSlots
-have-slots l n [] some shape = tt
-have-slots l n (p ∷ ps) some shape = (omega (arith, shape.1), have-slots l n ps some shape.2)
+unfolding HaveShape
+have-slots l n [] some shape = All-nil (λ (p : Plan). 1 ≤ slots_of p)
+have-slots l n (p ∷ ps) some shape = All-cons (λ (q : Plan). 1 ≤ slots_of q) p ps (omega (arith, shape.1)) (have-slots l n ps some shape.2)
 
 -- the epoch of the first packed state is that of all
 pub first-at : (plans : List Plan) (until : ℕ) (stands : List Stand) (x : Stand) (r : AreResumable plans until stands) → 0 < length plans → x ≡ get_or stands 0 x
