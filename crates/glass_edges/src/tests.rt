@@ -7,10 +7,18 @@ use crate::{
     OpenGate, Shelf, Sink, StreamSink, first_found_is_first, put_all,
 };
 use std::alloc::{AllocError, Global};
+use std::fmt::Debug;
 use std::fs;
 use std::io::{self, ErrorKind, Read, Write};
 use std::os::unix::fs::symlink;
+use std::process::Abort;
 use std::test::Fail;
+
+// Ends the test with the case where the two differ. An `assert_eq!` with a message is dear to prove:
+// it is proved here once.
+fn same<R: Abort, T: PartialEq + Debug, C: Debug>(rt: &R, found: &T, wanted: &T, case: &C) {
+    assert_eq!(rt; found, wanted, "at {case:?}");
+}
 
 /// An output with room for so many bytes, at most `most` at a put; the put of this number fails.
 fn output(alloc: Global, room: usize, most: usize, failing: u64) -> Result<MemorySink, NoMemory>
@@ -56,10 +64,10 @@ fn memory_sink_takes_what_it_has_room_for(rt: HostRuntime) -> Result<(), Fail> {
         (b"", Ok(0)),
     ];
     for (piece, answer) in puts {
-        assert_eq!(rt; sink.put(piece), answer, "at {piece:?}");
+        same(&rt, &sink.put(piece), &answer, &piece);
     }
-    assert_eq!(rt; sink.taken(), b"abcde".as_slice());
-    assert_eq!(rt; sink.faults(), 2);
+    same(&rt, &sink.taken(), &b"abcde".as_slice(), &"the end");
+    same(&rt, &sink.faults(), &2, &"the end");
     Ok(())
 }
 
@@ -72,8 +80,8 @@ fn put_all_leaves_a_prefix_at_a_fault(rt: HostRuntime) -> Result<(), Fail> {
         (b"89", true, b"0123456789"),
     ];
     for (text, whole, taken) in texts {
-        assert_eq!(rt; put_all(&mut sink, text).is_ok(), whole, "at {text:?}");
-        assert_eq!(rt; sink.taken(), taken, "at {text:?}");
+        same(&rt, &put_all(&mut sink, text).is_ok(), &whole, &text);
+        same(&rt, &sink.taken(), &taken, &text);
     }
     Ok(())
 }
@@ -90,13 +98,9 @@ fn a_place_wants_a_reserved_buffer_and_uses_it_up(rt: HostRuntime) -> Result<(),
         ("b", b"", true, "Held([])"),
     ];
     for (name, bytes, placed, answer) in calls {
-        assert_eq!(rt;
-            shelf.place(name, bytes).is_ok(),
-            placed,
-            "{name} {bytes:?}"
-        );
+        same(&rt, &shelf.place(name, bytes).is_ok(), &placed, &name);
         let told = fetched(&mut shelf, rt.alloc(), name, 3)?;
-        assert_eq!(rt; told.as_str(), answer, "{name} {bytes:?}");
+        same(&rt, &told.as_str(), &answer, &bytes);
     }
     Ok(())
 }
@@ -107,7 +111,7 @@ fn honest_objects_never_fail(rt: HostRuntime) -> Result<(), Fail> {
     assert!(rt; shelf.place("a", b"longer than its buffer").is_ok());
     for (name, answer) in [("a", "Held([97, 98, 99])"), ("b", "Absent")] {
         let told = fetched(&mut shelf, rt.alloc(), name, 3)?;
-        assert_eq!(rt; told.as_str(), answer, "{name}");
+        same(&rt, &told.as_str(), &answer, &name);
     }
     assert!(rt; put_all(&mut HonestSink::new(), b"abc").is_ok());
     OpenGate.enter(0, 0);
@@ -121,15 +125,17 @@ fn a_line_lets_a_long_text_out_in_full_buffers(rt: HostRuntime) -> Result<(), Fa
     line.number(u64::MAX);
     line.add(b",");
     line.signed(i64::MIN);
-    assert_eq!(rt;
-        line.as_slice(),
-        b"18446744073709551615,-9223372036854775808".as_slice()
+    same(
+        &rt,
+        &line.as_slice(),
+        &b"18446744073709551615,-9223372036854775808".as_slice(),
+        &"two numbers",
     );
     let mut sink = output(rt.alloc(), 1000, 1000, 1000)?;
     line.extend(&mut sink, letters(rt.alloc(), 300)?.as_slice())?;
-    assert_eq!(rt; sink.taken().len(), 256);
+    same(&rt, &sink.taken().len(), &256, &"a full buffer");
     line.put(&mut sink)?;
-    assert_eq!(rt; sink.taken().len(), 341);
+    same(&rt, &sink.taken().len(), &341, &"the whole line");
     Ok(())
 }
 
@@ -179,7 +185,12 @@ fn stream_sink_over_a_memory_writer(rt: HostRuntime) -> Result<(), Fail> {
     for text in ["energy,", "-192\n"] {
         assert!(rt; put_all(&mut sink, text.as_bytes()).is_ok());
     }
-    assert_eq!(rt; written.as_slice(), b"energy,-192\n".as_slice());
+    same(
+        &rt,
+        &written.as_slice(),
+        &b"energy,-192\n".as_slice(),
+        &"all",
+    );
     Ok(())
 }
 
@@ -196,12 +207,12 @@ fn a_failed_write_is_not_tried_again(rt: HostRuntime) -> Result<(), Fail> {
         let mut file = FaultyWriter::new(rt.alloc(), fault, 2);
         assert!(rt; write_pieces(&mut file, b"0123456").is_err());
         for writer in [stream, file] {
-            assert_eq!(rt; writer.taken.as_slice(), b"0123".as_slice());
-            assert_eq!(rt; writer.writes, 3);
+            same(&rt, &writer.taken.as_slice(), &b"0123".as_slice(), &fault);
+            same(&rt, &writer.writes, &3, &fault);
         }
     }
     let mut sink = StreamSink::of(FaultyWriter::new(rt.alloc(), None, 0));
-    assert_eq!(rt; sink.put(b""), Ok(0));
+    same(&rt, &sink.put(b""), &Ok(0), &"an empty piece");
     Ok(())
 }
 
@@ -246,8 +257,8 @@ fn a_short_read_is_no_end_and_a_failed_one_is_told(rt: HostRuntime) -> Result<()
         };
         let fetched = read_opened(Ok(&mut file), rt.alloc(), limit);
         let told = format!(in rt.alloc(); "{:?}", fetched)?;
-        assert_eq!(rt; told.as_str(), answer, "{failing} {limit}");
-        assert_eq!(rt; file.reads, reads, "{failing} {limit}");
+        let case = (failing, limit);
+        same(&rt, &(told.as_str(), file.reads), &(answer, reads), &case);
     }
     Ok(())
 }
@@ -264,7 +275,7 @@ fn a_name_that_the_system_does_not_find_is_absent(rt: HostRuntime) -> Result<(),
         let opened: io::Result<FaultyReader> = Err(io::Error::from(kind));
         let fetched = read_opened(opened, rt.alloc(), 10);
         let told = format!(in rt.alloc(); "{:?}", fetched)?;
-        assert_eq!(rt; told.as_str(), answer, "{kind:?}");
+        same(&rt, &told.as_str(), &answer, &kind);
     }
     Ok(())
 }
@@ -285,7 +296,7 @@ fn file_store_reads_a_file_and_misses_another(rt: HostRuntime) -> Result<(), Fai
     ];
     for (name, limit, answer) in answers {
         let told = fetched(&mut shelf, rt.alloc(), name, limit)?;
-        assert_eq!(rt; told.as_str(), answer, "{name:?} {limit}");
+        same(&rt, &told.as_str(), &answer, &(name, limit));
     }
     fs::remove_dir(&rt, "folder")?;
     fs::remove_file(&rt, "held.txt")?;
@@ -303,9 +314,9 @@ fn file_store_places_a_file(rt: HostRuntime) -> Result<(), Fail> {
         ("missing/placed", b"012", false, "Absent"),
     ];
     for (name, bytes, placed, answer) in places {
-        assert_eq!(rt; shelf.place(name, bytes).is_ok(), placed, "{name}");
+        same(&rt, &shelf.place(name, bytes).is_ok(), &placed, &name);
         let told = fetched(&mut shelf, rt.alloc(), name, 4096)?;
-        assert_eq!(rt; told.as_str(), answer, "{name}");
+        same(&rt, &told.as_str(), &answer, &name);
     }
     fs::remove_file(&rt, "placed")?;
     Ok(())
@@ -324,10 +335,10 @@ fn a_place_leaves_its_new_file_nowhere(rt: HostRuntime) -> Result<(), Fail> {
         ("folder", false),
     ];
     for (name, placed) in places {
-        assert_eq!(rt; shelf.place(name, b"012").is_ok(), placed, "{name}");
+        same(&rt, &shelf.place(name, b"012").is_ok(), &placed, &name);
     }
     for fresh in [".placed.new", ".folder.new"] {
-        assert_eq!(rt; fs::exists(&rt, fresh)?, false, "{fresh}");
+        same(&rt, &fs::exists(&rt, fresh)?, &false, &fresh);
     }
     fs::remove_dir(&rt, "folder")?;
     fs::remove_file(&rt, "placed")?;
@@ -339,10 +350,10 @@ fn a_link_is_written_as_it_stands(rt: HostRuntime) -> Result<(), Fail> {
     fs::write(&rt, "far", "old and long")?;
     symlink(&rt, "far", "link")?;
     let mut shelf = FileShelf::of(&rt);
-    assert_eq!(rt; shelf.place("link", b"012").is_ok(), true);
+    assert!(rt; shelf.place("link", b"012").is_ok());
     let told = fetched(&mut shelf, rt.alloc(), "far", 4)?;
-    assert_eq!(rt; told.as_str(), "Held([48, 49, 50])");
-    assert_eq!(rt; fs::symlink_metadata(&rt, "link")?.is_symlink(), true);
+    same(&rt, &told.as_str(), &"Held([48, 49, 50])", &"far");
+    assert!(rt; fs::symlink_metadata(&rt, "link")?.is_symlink());
     fs::remove_file(&rt, "link")?;
     fs::remove_file(&rt, "far")?;
     Ok(())
@@ -357,8 +368,8 @@ fn a_new_file_is_named_after_the_one_it_becomes(rt: HostRuntime) -> Result<(), F
         ("a/", "a/..new"),
     ];
     for (name, fresh) in cases {
-        let told = fresh_name(name).map_err(|_| Fail::from("too long"))?;
-        assert_eq!(rt; told.as_str(), fresh);
+        let told = fresh_name(name).ok().ok_or("too long")?;
+        same(&rt, &told.as_str(), &fresh, &name);
     }
     Ok(())
 }
