@@ -1,6 +1,6 @@
 //! Runs of one, two and three temperature slots whose records were worked out by hand.
 
-ghost use Rattle.std.specs.Prelude.{◌≡◌, ◌+◌, ◌<◌, length, IfOk};
+ghost use Rattle.std.specs.Prelude.{◌≡◌, ◌<◌, length};
 ghost use Rattle.scalar_rule.specs.Plan.{slots_of};
 ghost use Rattle.scalar_rule.specs.Shape.{Fits};
 
@@ -9,49 +9,67 @@ use coupling_set::Couplings;
 use lattice_geometry::Lattice;
 use pr_generator::Wheel;
 use std::alloc::Global;
+use std::process::Abort;
 use std::test::Fail;
-use threshold_table::{RuleKind, RuleRow, RuleTable, SwapTable};
+use threshold_table::{RuleKind, read_rule, read_swap};
 
-const ALWAYS: u64 = 4294967296;
-
-// Heat bath that makes every spin -1.
-const DOWN: RuleRow = RuleRow { values: [0; 7] };
+// Heat bath that makes every spin -1, as a record of a rule table.
+const DOWN: &str = "0,0,0,0,0,0,0\n";
 
 // Heat bath that keeps every spin +1.
-const UP: RuleRow = RuleRow {
-    values: [0, 0, 0, 0, 0, 0, ALWAYS],
-};
+const UP: &str = "0,0,0,0,0,0,4294967296\n";
 
 // Heat bath against the field: every bond ends unsatisfied.
-const AGAINST: RuleRow = RuleRow {
-    values: [ALWAYS, ALWAYS, ALWAYS, 0, 0, 0, 0],
-};
+const AGAINST: &str = "4294967296,4294967296,4294967296,0,0,0,0\n";
 
-// The ferromagnet of 64 sites, one sweep an epoch.
-fn plan_of(alloc: Global, rules: RuleTable, swaps: SwapTable) -> Result<Plan, Fail>
-    requires { length swaps + 1 ≡ length rules.rows }
-    ensures { IfOk result (λ plan. plan.rules ≡ rules) }
-{
+// One record of the texts after the other.
+fn records_of(alloc: Global, texts: &[&str]) -> Result<String, Fail> {
+    let mut whole = String::new(alloc);
+    for text in texts {
+        whole.push_str(text)?;
+    }
+    Ok(whole)
+}
+
+// A swap table's record of so many entries at which a pair always swaps, and one more.
+fn always(alloc: Global, more: u32) -> Result<String, Fail> {
+    let mut text = String::from_str(alloc, "4294967296")?;
+    for _ in 0..more {
+        text.push_str(",4294967296")?;
+    }
+    text.push_str("\n")?;
+    Ok(text)
+}
+
+// The ferromagnet of 64 sites at the thresholds of two tables, one sweep an epoch. Tables that are read
+// ask for no proof of what their numbers are.
+fn plan_of(alloc: Global, kind: RuleKind, rules: &[&str], swaps: &str) -> Result<Plan, Fail> {
+    let rules = read_rule(alloc, records_of(alloc, rules)?.as_bytes(), kind)?;
+    let swaps = read_swap(alloc, swaps.as_bytes(), rules.slots())?;
+    if swaps.pairs() + 1 != rules.slots() {
+        return Err("as many pairs as slots".into());
+    }
     let lattice = Lattice::of(4)?;
     let couplings = Couplings::plus(alloc, lattice)?;
     Ok(Plan::new(lattice, rules, swaps, couplings, 1, 7))
 }
 
-// The records of the last of so many epochs, and the spin at site 0 of slot 0.
-fn last_records(
-    alloc: Global,
-    rules: RuleTable,
-    swaps: SwapTable,
+// Ends the test where the last of so many epochs has other records; answers the spin at site 0 of slot
+// 0 after it.
+fn last_spin<R: AllocGlobal + Abort>(
+    rt: &R,
+    plan: &Plan,
     epochs: u32,
-) -> Result<(Vec<Record>, Option<bool>), Fail>
-    requires pairs { length swaps + 1 ≡ length rules.rows }
-    requires epochs { epochs < 1000 }
-{
-    let plan = plan_of(alloc, rules, swaps)?;
-    let mut sample = Sample::opening(alloc, &plan, 0, Start::Up)?;
-    let mut rows = vec![in alloc; record(0, 0); plan.slots() as usize]?;
-    run(&mut sample, &plan, rows.as_mut_slice(), epochs);
-    Ok((rows, first_spin(&sample)))
+    wanted: &[Record],
+) -> Result<Option<bool>, Fail> {
+    if epochs >= 1000 {
+        return Err("fewer epochs".into());
+    }
+    let mut sample = Sample::opening(rt.alloc(), plan, 0, Start::Up)?;
+    let mut rows = vec![in rt.alloc(); record(0, 0); plan.slots() as usize]?;
+    run(&mut sample, plan, rows.as_mut_slice(), epochs);
+    assert_eq!(rt; rows.as_slice(), wanted, "after {epochs} epochs");
+    Ok(first_spin(&sample))
 }
 
 fn run(sample: &mut Sample, plan: &Plan, rows: &mut [Record], epochs: u32)
@@ -90,110 +108,57 @@ fn record(energy: i32, replica: u8) -> Record {
 fn heat_bath_of_one_slot_ends_all_down_all_up_or_against_the_field(
     rt: HostRuntime,
 ) -> Result<(), Fail> {
-    let alloc = rt.alloc();
-    let none = SwapTable::from_rows(alloc, &[[0; 1]; 0])?;
-    let down = RuleTable::from_rows(alloc, RuleKind::Heat, &[DOWN])?;
-    let (rows, spin) = last_records(alloc, down, none, 1)?;
-    assert_eq!(rt; rows.as_slice(), [record(-192, 0)].as_slice());
-    assert_eq!(rt; spin, Some(false));
-
-    let none = SwapTable::from_rows(alloc, &[[0; 1]; 0])?;
-    let up = RuleTable::from_rows(alloc, RuleKind::Heat, &[UP])?;
-    let (rows, spin) = last_records(alloc, up, none, 1)?;
-    assert_eq!(rt; rows.as_slice(), [record(-192, 0)].as_slice());
-    assert_eq!(rt; spin, Some(true));
-
-    let none = SwapTable::from_rows(alloc, &[[0; 1]; 0])?;
-    let against = RuleTable::from_rows(alloc, RuleKind::Heat, &[AGAINST])?;
-    let (rows, spin) = last_records(alloc, against, none, 1)?;
-    assert_eq!(rt; rows.as_slice(), [record(192, 0)].as_slice());
-    assert_eq!(rt; spin, Some(false));
+    for (rules, energy, up) in [(DOWN, -192, false), (UP, -192, true), (AGAINST, 192, false)] {
+        let plan = plan_of(rt.alloc(), RuleKind::Heat, &[rules], "")?;
+        let spin = last_spin(&rt, &plan, 1, &[record(energy, 0)])?;
+        assert!(rt; spin == Some(up), "{rules}");
+    }
     Ok(())
 }
 
 #[test]
 fn metropolis_flips_what_costs_nothing_and_what_is_drawn(rt: HostRuntime) -> Result<(), Fail> {
-    let alloc = rt.alloc();
-    let none = SwapTable::from_rows(alloc, &[[0; 1]; 0])?;
-    let never = RuleTable::from_rows(alloc, RuleKind::Metropolis, &[DOWN])?;
-    let (rows, spin) = last_records(alloc, never, none, 1)?;
-    assert_eq!(rt; rows.as_slice(), [record(-192, 0)].as_slice());
-    assert_eq!(rt; spin, Some(true));
-
-    // Colour 0 flips with all six bonds satisfied, and then colour 1 with none.
-    let none = SwapTable::from_rows(alloc, &[[0; 1]; 0])?;
-    let row = RuleRow {
-        values: [0, 0, ALWAYS, 0, 0, 0, 0],
-    };
-    let dearest = RuleTable::from_rows(alloc, RuleKind::Metropolis, &[row])?;
-    let (rows, spin) = last_records(alloc, dearest, none, 1)?;
-    assert_eq!(rt; rows.as_slice(), [record(-192, 0)].as_slice());
-    assert_eq!(rt; spin, Some(false));
+    // By the second table colour 0 flips with all six bonds satisfied, and then colour 1 with none.
+    for (rules, up) in [("0,0,0\n", true), ("0,0,4294967296\n", false)] {
+        let plan = plan_of(rt.alloc(), RuleKind::Metropolis, &[rules], "")?;
+        let spin = last_spin(&rt, &plan, 1, &[record(-192, 0)])?;
+        assert!(rt; spin == Some(up), "{rules}");
+    }
     Ok(())
 }
 
 #[test]
 fn two_slots_swap_by_the_last_entry_and_not_past_it(rt: HostRuntime) -> Result<(), Fail> {
-    let alloc = rt.alloc();
     // The gap of 192 unsatisfied bonds needs entry 95.
-    let rules = RuleTable::from_rows(alloc, RuleKind::Heat, &[UP, AGAINST])?;
-    let swaps = SwapTable::from_rows(alloc, &[[ALWAYS; 95]])?;
-    let (rows, _) = last_records(alloc, rules, swaps, 2)?;
-    assert_eq!(rt;
-        rows.as_slice(),
-        [record(-192, 0), record(192, 1)].as_slice()
-    );
-
-    let rules = RuleTable::from_rows(alloc, RuleKind::Heat, &[UP, AGAINST])?;
-    let swaps = SwapTable::from_rows(alloc, &[[ALWAYS; 96]])?;
-    let (rows, _) = last_records(alloc, rules, swaps, 2)?;
-    assert_eq!(rt;
-        rows.as_slice(),
-        [record(-192, 1), record(192, 0)].as_slice()
-    );
+    for (last, cold, hot) in [(94, 0, 1), (95, 1, 0)] {
+        let swaps = always(rt.alloc(), last)?;
+        let plan = plan_of(rt.alloc(), RuleKind::Heat, &[UP, AGAINST], swaps.as_str())?;
+        last_spin(&rt, &plan, 2, &[record(-192, cold), record(192, hot)])?;
+    }
     Ok(())
 }
 
 #[test]
 fn a_hotter_first_slot_always_swaps(rt: HostRuntime) -> Result<(), Fail> {
-    let alloc = rt.alloc();
-    let rules = RuleTable::from_rows(alloc, RuleKind::Heat, &[AGAINST, UP])?;
-    let swaps = SwapTable::from_rows(alloc, &[[ALWAYS; 1]])?;
-    let (rows, spin) = last_records(alloc, rules, swaps, 1)?;
-    assert_eq!(rt;
-        rows.as_slice(),
-        [record(192, 0), record(-192, 1)].as_slice()
-    );
-    assert_eq!(rt; spin, Some(true));
-
-    let rules = RuleTable::from_rows(alloc, RuleKind::Heat, &[AGAINST, UP])?;
-    let swaps = SwapTable::from_rows(alloc, &[[ALWAYS; 1]])?;
-    let (rows, _) = last_records(alloc, rules, swaps, 2)?;
-    assert_eq!(rt;
-        rows.as_slice(),
-        [record(192, 1), record(-192, 0)].as_slice()
-    );
+    let swaps = always(rt.alloc(), 0)?;
+    let plan = plan_of(rt.alloc(), RuleKind::Heat, &[AGAINST, UP], swaps.as_str())?;
+    let spin = last_spin(&rt, &plan, 1, &[record(192, 0), record(-192, 1)])?;
+    assert!(rt; spin == Some(true));
+    last_spin(&rt, &plan, 2, &[record(192, 1), record(-192, 0)])?;
     Ok(())
 }
 
 #[test]
 fn equal_energies_swap_in_the_pairs_whose_turn_it_is(rt: HostRuntime) -> Result<(), Fail> {
-    let alloc = rt.alloc();
-    let rules = RuleTable::from_rows(alloc, RuleKind::Heat, &[UP, UP, UP])?;
-    let swaps = SwapTable::from_rows(alloc, &[[0; 1]; 2])?;
-    let (rows, _) = last_records(alloc, rules, swaps, 2)?;
-    assert_eq!(rt;
-        rows.as_slice(),
-        [record(-192, 1), record(-192, 0), record(-192, 2)].as_slice()
-    );
-
-    let rules = RuleTable::from_rows(alloc, RuleKind::Heat, &[UP, UP, UP])?;
-    let swaps = SwapTable::from_rows(alloc, &[[0; 1]; 2])?;
-    let (rows, _) = last_records(alloc, rules, swaps, 3)?;
-    assert_eq!(rt;
-        rows.as_slice(),
-        [record(-192, 1), record(-192, 2), record(-192, 0)].as_slice()
-    );
+    let plan = plan_of(rt.alloc(), RuleKind::Heat, &[UP, UP, UP], "0\n0\n")?;
+    for (epochs, [first, second, third]) in [(2, [1, 0, 2]), (3, [1, 2, 0])] {
+        let wanted = [
+            record(-192, first),
+            record(-192, second),
+            record(-192, third),
+        ];
+        last_spin(&rt, &plan, epochs, &wanted)?;
+    }
     Ok(())
 }
 
@@ -217,9 +182,7 @@ fn first_and_last(wheel: &Wheel) -> (u32, u32) {
 #[test]
 fn sample_101_begins_as_bit_37_of_bank_1(rt: HostRuntime) -> Result<(), Fail> {
     let alloc = rt.alloc();
-    let rules = RuleTable::from_rows(alloc, RuleKind::Heat, &[DOWN, DOWN])?;
-    let swaps = SwapTable::from_rows(alloc, &[[0; 1]])?;
-    let plan = plan_of(alloc, rules, swaps)?;
+    let plan = plan_of(alloc, RuleKind::Heat, &[DOWN, DOWN], "0\n")?;
     let sample = Sample::opening_bank(alloc, &plan, 37, Start::Random, 1)?;
     let mut spins = Vec::new(alloc);
     for slot in sample.slots.as_slice() {
