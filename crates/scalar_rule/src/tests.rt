@@ -171,6 +171,18 @@ fn digits(alloc: Global, replica: &PlainCopy) -> Result<String, Fail> {
     Ok(text)
 }
 
+// The spins of both replicas of each slot, a line each.
+fn spin_lines(alloc: Global, sample: &Sample) -> Result<String, Fail> {
+    let mut lines = String::new(alloc);
+    for slot in sample.slots.as_slice() {
+        lines.push_str(digits(alloc, &slot.first)?.as_str())?;
+        lines.push_str("\n")?;
+        lines.push_str(digits(alloc, &slot.second)?.as_str())?;
+        lines.push_str("\n")?;
+    }
+    Ok(lines)
+}
+
 // The first and the last word of a generator.
 fn first_and_last(wheel: &Wheel) -> (u32, u32) {
     let mut words = [0; 61];
@@ -178,33 +190,25 @@ fn first_and_last(wheel: &Wheel) -> (u32, u32) {
     (words[0], words[60])
 }
 
-// The values were made by an independent program, tools/reference/compare.py --opening 4 2 7 101.
+// These values, and the test's, were made by an independent program, tools/reference/compare.py
+// --opening 4 2 7 101.
+const SPINS_OF_SAMPLE_101: &str = "0100101010100001101111100010100110101001010000000110100000101010
+0100011011000101010001010110000111111011111100001000110000111011
+0111010101010111100110000100110011110000110110001111001001111011
+0111101010001110100110100010001001000101110001110011010001100011
+";
+
 #[test]
 fn sample_101_begins_as_bit_37_of_bank_1(rt: HostRuntime) -> Result<(), Fail> {
     let alloc = rt.alloc();
     let plan = plan_of(alloc, RuleKind::Heat, &[DOWN, DOWN], "0\n")?;
     let sample = Sample::opening_bank(alloc, &plan, 37, Start::Random, 1)?;
-    let mut spins = Vec::new(alloc);
-    for slot in sample.slots.as_slice() {
-        spins.push(digits(alloc, &slot.first)?)?;
-        spins.push(digits(alloc, &slot.second)?)?;
-    }
-    let known = [
-        "0100101010100001101111100010100110101001010000000110100000101010",
-        "0100011011000101010001010110000111111011111100001000110000111011",
-        "0111010101010111100110000100110011110000110110001111001001111011",
-        "0111101010001110100110100010001001000101110001110011010001100011",
-    ];
-    assert_eq!(rt; spins.len(), known.len());
-    for (found, known) in spins.iter().zip(&known) {
-        assert_eq!(rt; found.as_str(), *known);
-    }
-    let mut ends = Vec::new(alloc);
+    let lines = spin_lines(alloc, &sample)?;
+    assert!(rt; lines.as_str() == SPINS_OF_SAMPLE_101, "{lines}");
+    assert!(rt; sample.pairs.len() == 1);
     for pair in sample.pairs.as_slice() {
-        ends.push(first_and_last(&pair.first))?;
-        ends.push(first_and_last(&pair.second))?;
+        assert!(rt; first_and_last(&pair.first) == (2040743980, 2347870371));
+        assert!(rt; first_and_last(&pair.second) == (685961419, 2888153379));
     }
-    let known = [(2040743980, 2347870371), (685961419, 2888153379)];
-    assert_eq!(rt; ends.as_slice(), known.as_slice());
     Ok(())
 }
