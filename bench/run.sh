@@ -6,6 +6,7 @@ usage() {
 usage: bench/run.sh [--cpu CPU] [--sizes "SIZE .."] [--sweeps N] [--passes N] [--turns N] [--limit RATIO]
        bench/run.sh --workers ..    (see bench/run.sh --workers --help)
        bench/run.sh --banks ..      (see bench/run.sh --banks --help)
+       bench/run.sh --cost ..       (see bench/run.sh --cost --help)
 
 Times whole runs of ./glass, from its words to the last byte of its report, in one thread, against
 bench/run.cpp (g++ -O3), which reads the same run file and prints the same report: 64 samples with random
@@ -29,7 +30,7 @@ END
 }
 
 case "${1-}" in
-    --workers | --banks)
+    --workers | --banks | --cost)
         script=run_${1#--}.sh
         shift
         exec "$(dirname "$0")/$script" "$@"

@@ -24,8 +24,9 @@ enum { RING = 256 / BYTES, PLANE = 2048, ROOM = 2 * 64 * (PLANE + 8) + 64 };
 
 typedef int64_t thresholds[7];
 
-static const thresholds METROPOLIS = {117354494, 3206562, 87615};
-static const thresholds HEAT = {87613, 3204169, 114233218, 2147483648, 4180734078, 4291763127, 4294879683};
+/* No constants, and seen by other files: of a constant gcc makes a comparison and turns it over. */
+thresholds metropolis_row = {117354494, 3206562, 87615};
+thresholds heat_row = {87613, 3204169, 114233218, 2147483648, 4180734078, 4291763127, 4294879683};
 
 /* All words in one object, so that one register reaches them. */
 static struct {
@@ -45,6 +46,9 @@ typedef lanes lanes_anywhere __attribute__((aligned(8)));
 INLINE lanes load(const uint64_t *words) { return *(const lanes_anywhere *)words; }
 
 INLINE lanes choose(lanes mask, lanes inside, lanes outside) { return outside ^ (mask & (inside ^ outside)); }
+
+/* The same where the bits of outside are among those of inside. */
+INLINE lanes raised(lanes mask, lanes inside, lanes outside) { return outside | (mask & inside); }
 
 INLINE lanes below(signed_lanes draws, int64_t threshold) {
     return (lanes)(draws < (signed_lanes){0} + threshold);
@@ -70,8 +74,11 @@ INLINE draw_row turn(draw_row ring[RING], int k) {
 INLINE void fill(draw_row wheel[RING], draw_row *out, size_t count) {
     draw_row ring[RING];
     int done = count % 64 == 0 ? 0 : RING / 2;
-    for (int k = 0; k < RING; k++)
+    for (int k = 0; k < RING; k++) {
         ring[k] = wheel[k];
+        /* Else gcc may copy the ring by halves, and each load waits for two stores. */
+        __asm__("" : "+x"(ring[k]));
+    }
     for (; count >= 64; count -= 64) {
 #pragma GCC unroll 16
         for (int k = 0; k < RING; k++)
@@ -86,21 +93,26 @@ INLINE void fill(draw_row wheel[RING], draw_row *out, size_t count) {
         wheel[k] = ring[(k + done) % RING];
 }
 
-/* The new spins of a site of each lane, from J times its six neighbours' spins. */
+/* The new spins of a site of each lane, from J times its six neighbours' spins, by thresholds in order. */
 INLINE lanes new_spins(int heat, const uint32_t *draws, const thresholds t, const lanes six[6], lanes spin) {
     signed_lanes draw = widened(draws);
-    lanes down = heat ? (lanes){0} : ~spin, front, front_twos, back, back_twos, twos, fours;
+    lanes front, front_twos, back, back_twos;
     full_adder(six[0], six[1], six[2], &front, &front_twos);
     full_adder(six[3], six[4], six[5], &back, &back_twos);
-    /* Three turned bits have the turned sum and the turned carry, so these are turned, and not all six. */
-    lanes ones = front ^ back;
-    full_adder(front_twos ^ down, back_twos ^ down, (front ^ down) & (back ^ down), &twos, &fours);
-    lanes first = choose(ones, below(draw, t[1]), below(draw, t[0]));
-    if (!heat)
-        return down ^ (fours & ~choose(twos, below(draw, t[2]), first));
-    lanes up_to_three = choose(twos, choose(ones, below(draw, t[3]), below(draw, t[2])), first);
-    lanes four_five = choose(ones, below(draw, t[5]), below(draw, t[4]));
-    return choose(fours, choose(twos, below(draw, t[6]), four_five), up_to_three);
+    lanes ones = front ^ back, either_twos = front_twos ^ back_twos;
+    if (heat) {
+        lanes carry = front & ~ones, twos = either_twos ^ carry, fours = choose(either_twos, carry, front_twos);
+        lanes zero_one = raised(ones, below(draw, t[1]), below(draw, t[0]));
+        lanes two_three = raised(ones, below(draw, t[3]), below(draw, t[2]));
+        lanes four_five = raised(ones, below(draw, t[5]), below(draw, t[4]));
+        lanes from_four = raised(twos, below(draw, t[6]), four_five);
+        return raised(fours, from_four, raised(twos, two_three, zero_one));
+    }
+    /* Whether two bits differ doesn't depend on the spin. The other planes are kept turned over. */
+    lanes no_carry = ones | (front ^ spin), no_twos = either_twos ^ no_carry;
+    lanes no_fours = choose(either_twos, no_carry, front_twos ^ spin);
+    lanes accepted = below(draw, t[2]) | (no_twos & (below(draw, t[1]) | (below(draw, t[0]) & ~ones)));
+    return spin ^ (no_fours | accepted);
 }
 
 /* Where the words of one colour and their neighbours' stand. */
@@ -137,25 +149,23 @@ INLINE void visit(int heat, size_t size, places at, lanes ahead, lanes behind, c
 INLINE void even_row(int heat, size_t size, places at, const thresholds t) {
     const uint64_t *spins = state.spins, *x = state.couplings;
     size_t last = at.here + size / 2 - WIDTH;
-    lanes before = load(spins + last) ^ load(x + last);
-    for (size_t k = 0; k < size / 2; k += WIDTH) {
-        lanes ahead = load(spins + at.here), bonds = ahead ^ load(x + at.here);
-        visit(heat, size, at, ahead, FROM_LAST(before, bonds), t);
-        before = bonds;
+    lanes before = load(spins + last) ^ load(x + last), first = load(spins + at.here);
+    visit(heat, size, at, first, FROM_LAST(before, first ^ load(x + at.here)), t);
+    for (size_t k = WIDTH; k < size / 2; k += WIDTH) {
         at = moved(at, WIDTH);
+        visit(heat, size, at, load(spins + at.here), load(spins + at.here - 1) ^ load(x + at.here - 1), t);
     }
 }
 
 /* A row that begins at x = 1: the one ahead stands one word on. */
 INLINE void odd_row(int heat, size_t size, places at, const thresholds t) {
     const uint64_t *spins = state.spins, *x = state.couplings;
-    lanes first = load(spins + at.here), here = first;
+    lanes first = load(spins + at.here);
     for (size_t k = WIDTH; k < size / 2; k += WIDTH) {
-        lanes next = load(spins + at.here + WIDTH);
-        visit(heat, size, at, FROM_1(here, next), here ^ load(x + at.here), t);
-        here = next;
+        visit(heat, size, at, load(spins + at.here + 1), load(spins + at.here) ^ load(x + at.here), t);
         at = moved(at, WIDTH);
     }
+    lanes here = load(spins + at.here);
     visit(heat, size, at, FROM_1(here, first), here ^ load(x + at.here), t);
 }
 
@@ -180,28 +190,35 @@ INLINE void sweep_plane(int heat, size_t size, size_t colour, size_t z, const th
     }
 }
 
+INLINE void sweep_at(int heat, size_t size, size_t colour, size_t z, const thresholds t) {
+    fill(state.wheels[colour * size + z], (draw_row *)state.draws, size * size / 2);
+    sweep_plane(heat, size, colour, z, t);
+}
+
+/* Each plane of colour 1 follows those beside it of colour 0, while its couplings are near the processor. */
 INLINE void sweep_colours(int heat, size_t size, const thresholds t) {
-    for (size_t colour = 0; colour < 2; colour++)
-        for (size_t z = 0; z < size; z++) {
-            fill(state.wheels[colour * size + z], (draw_row *)state.draws, size * size / 2);
-            sweep_plane(heat, size, colour, z, t);
-        }
+    for (size_t step = 0; step < size + 2; step++) {
+        if (step < size)
+            sweep_at(heat, size, 0, step, t);
+        if (step > 1)
+            sweep_at(heat, size, 1, (step - 1) % size, t);
+    }
 }
 
 /* A sweep by code of its own for each size and rule. */
 static __attribute__((noinline)) void sweep(int heat, size_t size) {
     switch (size) {
     case 8:
-        heat ? sweep_colours(1, 8, HEAT) : sweep_colours(0, 8, METROPOLIS);
+        heat ? sweep_colours(1, 8, heat_row) : sweep_colours(0, 8, metropolis_row);
         break;
     case 16:
-        heat ? sweep_colours(1, 16, HEAT) : sweep_colours(0, 16, METROPOLIS);
+        heat ? sweep_colours(1, 16, heat_row) : sweep_colours(0, 16, metropolis_row);
         break;
     case 32:
-        heat ? sweep_colours(1, 32, HEAT) : sweep_colours(0, 32, METROPOLIS);
+        heat ? sweep_colours(1, 32, heat_row) : sweep_colours(0, 32, metropolis_row);
         break;
     default:
-        heat ? sweep_colours(1, 64, HEAT) : sweep_colours(0, 64, METROPOLIS);
+        heat ? sweep_colours(1, 64, heat_row) : sweep_colours(0, 64, metropolis_row);
     }
 }
 

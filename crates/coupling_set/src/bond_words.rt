@@ -33,8 +33,10 @@ pub(crate) fn word_count(lattice: &Lattice) -> usize
     (HEAD_WORDS + planes + TAIL_WORDS) as usize
 }
 
-/// Where the words of a colour, a coordinate z and a direction `d` begin.
-pub(crate) fn plane_start(size: u32, colour: u32, z: u32, d: u32) -> u32
+/// Where the words of a colour, a coordinate z and a direction `d` begin. By numbers as wide as an
+/// address, so that a compiler that knows the size reaches several planes from one of them.
+#[inline]
+pub(crate) fn plane_start(size: usize, colour: u32, z: u32, d: u32) -> usize
     requires lawful { IsLawfulSize size }
     requires colour { colour < 2 }
     requires plane { z < size }
@@ -42,8 +44,8 @@ pub(crate) fn plane_start(size: u32, colour: u32, z: u32, d: u32) -> u32
     ensures value { result ≡ head_words + plane_number size d colour z * (half_plane size + free_words) }
     ensures within { result + half_plane size ≤ kept_count size }
 {
-    let plane = (2 * d + colour) * size + z;
-    HEAD_WORDS + plane * (size * (size / 2) + FREE_WORDS)
+    let plane = (2 * d as usize + colour as usize) * size + z as usize;
+    HEAD_WORDS as usize + plane * (size * (size / 2) + FREE_WORDS as usize)
 }
 
 /// Where the word of the bond from a site in direction `d` is kept.
@@ -56,8 +58,8 @@ pub(crate) fn place(lattice: &Lattice, site: u32, d: u32) -> usize
 {
     let size = lattice.size();
     let (x, y, z) = lattice.coordinates(site);
-    let start = plane_start(size, lattice.colour(site), z, d);
-    (start + (y * (size / 2) + x / 2)) as usize
+    let start = plane_start(size as usize, lattice.colour(site), z, d);
+    start + (y * (size / 2) + x / 2) as usize
 }
 
 /// Writes the word of one bond: J of sample b is -1 where bit b is set.

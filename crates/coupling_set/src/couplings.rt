@@ -5,7 +5,7 @@ ghost use Rattle.coupling_set.specs.BondsAsWords.{bank_of};
 ghost use Rattle.coupling_set.specs.CouplingWords.{bond_word, HasBonds, AreCouplings};
 ghost use Rattle.coupling_set.specs.KeptWords.{kept_count, kept_on};
 ghost use Rattle.spin_model.specs.Couplings.{plus, random};
-ghost use Rattle.spin_model.specs.Lattice.{volume, half_plane, half_volume, from_compact};
+ghost use Rattle.spin_model.specs.Lattice.{volume, half_plane, half_volume, from_compact, IsLawfulSize};
 
 use crate::bond_words::{place, plane_start, word_count};
 use crate::drawing::draw_samples;
@@ -139,9 +139,25 @@ impl Couplings {
             (from_compact self.now.size (colour * half_volume self.now.size + z * half_plane self.now.size + k))
             d }
     {
-        let size = self.lattice.size();
-        let half_plane = size * (size / 2);
+        self.plane_of_size(self.size() as usize, colour, z, d)
+    }
+
+    /// The same, for a caller that knows the size: where that is a constant, the compiler reaches the
+    /// planes of all directions from one address.
+    #[inline]
+    pub fn plane_of_size(&self, size: usize, colour: u32, z: u32, d: u32) -> &[u64]
+        requires size { size ≡ self.now.size }
+        requires lawful { IsLawfulSize self.now.size }
+        requires colour { colour < 2 }
+        requires plane { z < self.now.size }
+        requires direction { d < 3 }
+        ensures sized { length result.now ≡ half_plane self.now.size }
+        ensures words { (k : ℕ) → k < half_plane self.now.size → slice_index result.now k
+            ≡ bond_word self.now
+            (from_compact self.now.size (colour * half_volume self.now.size + z * half_plane self.now.size + k))
+            d }
+    {
         let first = plane_start(size, colour, z, d);
-        &self.words.as_slice()[first as usize..(first + half_plane) as usize]
+        &self.words.as_slice()[first..first + size * (size / 2)]
     }
 }

@@ -142,7 +142,7 @@ fn sweep_rows(
     requires plane { z < couplings.now.size }
     ensures { SweepsWords couplings.now other.now rule.now draws.now colour z (half_plane couplings.now.size) own.old own.new }
 {
-    let around = lend(other, couplings, colour, z);
+    let around = lend(other, couplings, colour, z, size);
     // A copy beside the words that are written, so that the thresholds stay in registers.
     let rule = *rule;
     let words = size * (size / 2);

@@ -3,7 +3,7 @@
 ghost use Rattle.std.specs.Prelude.{◌≡◌, ℕ, ◌*◌, ◌-◌, ◌<◌, length, All};
 ghost use Rattle.plane_sweep.specs.Packed.{FitsPlane};
 ghost use Rattle.plane_sweep.specs.Neighbourhood.{Surrounds};
-ghost use Rattle.spin_model.specs.Lattice.{next, previous};
+ghost use Rattle.spin_model.specs.Lattice.{next, previous, IsLawfulSize};
 
 use crate::replica::Plane;
 use coupling_set::Couplings;
@@ -26,30 +26,34 @@ pub(crate) struct Surroundings<'a> {
 }
 
 /// The surroundings of the sites of a colour in plane `z`, from the planes of the other colour.
+#[inline]
 pub(crate) fn lend<'a>(
     other: &'a [Plane],
     couplings: &'a Couplings,
     colour: u32,
     z: u32,
+    size: usize,
 ) -> Surroundings<'a>
+    requires size { size ≡ couplings.now.size }
+    requires lawful { IsLawfulSize couplings.now.size }
     requires colour { colour < 2 }
     requires plane { z < couplings.now.size }
     requires count { length other.now ≡ couplings.now.size }
     requires planes { All (FitsPlane couplings.now.size) other.now }
     ensures { Surrounds couplings.now other.now colour z result }
 {
-    let (size, at) = (couplings.size() as usize, z as usize);
+    let at = z as usize;
     let (on, back) = (next(size, at), previous(size, at));
     Surroundings {
         here: other[at].words.as_slice(),
         above: other[on].words.as_slice(),
         below: other[back].words.as_slice(),
-        ahead_x: couplings.plane(colour, z, 0),
-        ahead_y: couplings.plane(colour, z, 1),
-        ahead_z: couplings.plane(colour, z, 2),
-        here_x: couplings.plane(1 - colour, z, 0),
-        here_y: couplings.plane(1 - colour, z, 1),
-        below_z: couplings.plane(1 - colour, back as u32, 2),
+        ahead_x: couplings.plane_of_size(size, colour, z, 0),
+        ahead_y: couplings.plane_of_size(size, colour, z, 1),
+        ahead_z: couplings.plane_of_size(size, colour, z, 2),
+        here_x: couplings.plane_of_size(size, 1 - colour, z, 0),
+        here_y: couplings.plane_of_size(size, 1 - colour, z, 1),
+        below_z: couplings.plane_of_size(size, 1 - colour, back as u32, 2),
     }
 }
 
