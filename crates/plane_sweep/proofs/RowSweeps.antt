@@ -99,6 +99,11 @@ module _ (s : Surroundings) (rule : SlotRule) (draws : List ℕ) (row : Row) whe
     after = λ j high. back.after j high ∙ front.after j (omega arith);
   }
 
+-- before the first row
+pub rows-none : (couplings : CouplingsView) (other : List Plane) (rule : SlotRule) (draws : List ℕ) (c z : ℕ) (old : List ℕ)
+    → SweepsWords couplings other rule draws c z (0 * (couplings.size / 2)) old old
+rows-none couplings other rule draws c z old = record { sized = refl; done = λ j d below. absurd (omega arith); kept = λ j d later. refl }
+
 -- the words of the rows before, and one row more
 pub row-swept : (couplings : CouplingsView) (other : List Plane) (rule : SlotRule) (draws : List ℕ) (c z y : ℕ) (s : Surroundings) (row : Row) (old xs ys : List ℕ)
     → IsLawfulSize couplings.size → y < couplings.size → length old ≡ half_plane couplings.size → Surrounds couplings other c z s → IsRow couplings.size c z y row

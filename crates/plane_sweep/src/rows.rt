@@ -57,8 +57,9 @@ pub(crate) fn sweep_words(
     }
 }
 
-// The same, with code of its own for a size and for each kind of table in order: all are then known
-// in its loops. A table out of order, which no temperature has, takes the code for all sizes.
+// The same, with code of its own for a size, for each kind of table in order, and for planes whose first
+// row begins at x = 0 or at x = 1: all are then known in its loops. A table out of order, which no
+// temperature has, takes the code for all sizes.
 fn sweep_sized<const SIZE: usize>(
     own: &mut [u64],
     other: &[Plane],
@@ -78,23 +79,78 @@ fn sweep_sized<const SIZE: usize>(
     requires plane { z < couplings.now.size }
     ensures { SweepsWords couplings.now other.now rule.now draws.now colour z (half_plane couplings.now.size) own.old own.new }
 {
-    let row = rule.row;
+    let even = (colour + z) % 2 == 0;
     match rule.kind {
-        RuleKind::Heat if is_rising(&row) => {
-            let rule = SlotRule {
-                kind: RuleKind::Heat,
-                row,
-            };
-            sweep_rows(own, other, couplings, &rule, draws, colour, z, SIZE)
+        RuleKind::Heat if even => {
+            sweep_rows::<SIZE, true, true>(own, other, couplings, rule, draws, colour, z)
         }
-        RuleKind::Metropolis if is_falling(&row) => {
-            let rule = SlotRule {
-                kind: RuleKind::Metropolis,
-                row,
-            };
-            sweep_rows(own, other, couplings, &rule, draws, colour, z, SIZE)
+        RuleKind::Heat => {
+            sweep_rows::<SIZE, true, false>(own, other, couplings, rule, draws, colour, z)
         }
-        _ => sweep_any(own, other, couplings, rule, draws, colour, z),
+        RuleKind::Metropolis if even => {
+            sweep_rows::<SIZE, false, true>(own, other, couplings, rule, draws, colour, z)
+        }
+        RuleKind::Metropolis => {
+            sweep_rows::<SIZE, false, false>(own, other, couplings, rule, draws, colour, z)
+        }
+    }
+}
+
+// The same by heat bath or Metropolis, two rows at a time: an even plane's first row begins at x = 0.
+// Not expanded where it is called, since no hint brings so much code into one function.
+#[inline(never)]
+fn sweep_rows<const SIZE: usize, const HEAT: bool, const EVEN: bool>(
+    own: &mut [u64],
+    other: &[Plane],
+    couplings: &Couplings,
+    rule: &SlotRule,
+    draws: &[u32],
+    colour: u32,
+    z: u32,
+)
+    requires size { couplings.now.size ≡ SIZE }
+    requires lawful { IsLawfulSize couplings.now.size }
+    requires even { EVEN ≡ ((colour + z) % 2 == 0) }
+    requires kind { rule.now.kind ≡ (if HEAT then RuleKind.Heat else RuleKind.Metropolis) }
+    requires own { length own.old ≡ half_plane couplings.now.size }
+    requires draws { length draws.now ≡ half_plane couplings.now.size }
+    requires count { length other.now ≡ couplings.now.size }
+    requires planes { All (FitsPlane couplings.now.size) other.now }
+    requires colour { colour < 2 }
+    requires plane { z < couplings.now.size }
+    ensures { SweepsWords couplings.now other.now rule.now draws.now colour z (half_plane couplings.now.size) own.old own.new }
+{
+    let (kind, row) = (kind_of(HEAT), rule.row);
+    let in_order = match kind {
+        RuleKind::Heat => is_rising(&row),
+        RuleKind::Metropolis => is_falling(&row),
+    };
+    if !in_order {
+        sweep_any(own, other, couplings, rule, draws, colour, z);
+        return;
+    }
+    let around = lend(other, couplings, colour, z, SIZE);
+    // Its own, not the one lent beside the words that are written: so the thresholds stay in registers.
+    let rule = SlotRule { kind, row };
+    let words = SIZE * (SIZE / 2);
+    let mut row = first_row(SIZE, EVEN);
+    'pairs: for i in 0..SIZE / 2 {
+        sweep_row(own, &around, &rule, draws, &row);
+        let behind = row_behind(&row, words);
+        sweep_row(own, &around, &rule, draws, &behind);
+        row = row_behind(&behind, words);
+    }
+}
+
+// Heat bath, or Metropolis.
+#[inline(always)]
+fn kind_of(heat: bool) -> RuleKind
+    ensures { result ≡ (if heat then RuleKind.Heat else RuleKind.Metropolis) }
+{
+    if heat {
+        RuleKind::Heat
+    } else {
+        RuleKind::Metropolis
     }
 }
 
@@ -108,31 +164,6 @@ fn sweep_any(
     colour: u32,
     z: u32,
 )
-    requires own { length own.old ≡ half_plane couplings.now.size }
-    requires draws { length draws.now ≡ half_plane couplings.now.size }
-    requires count { length other.now ≡ couplings.now.size }
-    requires planes { All (FitsPlane couplings.now.size) other.now }
-    requires colour { colour < 2 }
-    requires plane { z < couplings.now.size }
-    ensures { SweepsWords couplings.now other.now rule.now draws.now colour z (half_plane couplings.now.size) own.old own.new }
-{
-    let size = couplings.size() as usize;
-    sweep_rows(own, other, couplings, rule, draws, colour, z, size)
-}
-
-// The same, row by row, on a lattice of this size.
-#[inline(always)]
-fn sweep_rows(
-    own: &mut [u64],
-    other: &[Plane],
-    couplings: &Couplings,
-    rule: &SlotRule,
-    draws: &[u32],
-    colour: u32,
-    z: u32,
-    size: usize,
-)
-    requires size { size ≡ couplings.now.size }
     requires lawful { IsLawfulSize couplings.now.size }
     requires own { length own.old ≡ half_plane couplings.now.size }
     requires draws { length draws.now ≡ half_plane couplings.now.size }
@@ -142,11 +173,11 @@ fn sweep_rows(
     requires plane { z < couplings.now.size }
     ensures { SweepsWords couplings.now other.now rule.now draws.now colour z (half_plane couplings.now.size) own.old own.new }
 {
+    let size = couplings.size() as usize;
     let around = lend(other, couplings, colour, z, size);
-    // A copy beside the words that are written, so that the thresholds stay in registers.
     let rule = *rule;
     let words = size * (size / 2);
-    let mut row = first_row(size, colour, z);
+    let mut row = first_row(size, (colour + z) % 2 == 0);
     'rows: for y in 0..size {
         sweep_row(own, &around, &rule, draws, &row);
         row = row_behind(&row, words);
@@ -189,13 +220,11 @@ fn sweep_one(
     own[place] = new_word(rule, draws[place], &pulls_of(around, row, k), own[place]);
 }
 
-// The first row of plane z of a colour.
+// The first row of a plane, which begins at x = 0 where the plane is even.
 #[inline(always)]
-fn first_row(size: usize, colour: u32, z: u32) -> Row
+fn first_row(size: usize, even: bool) -> Row
     requires size { IsLawfulSize size }
-    requires colour { colour < 2 }
-    requires plane { z < size }
-    ensures { IsRow size colour z 0 result }
+    ensures { (c z : ℕ) → even ≡ ((c + z) % 2 == 0) → IsRow size c z 0 result }
 {
     let half = size / 2;
     Row {
@@ -203,7 +232,7 @@ fn first_row(size: usize, colour: u32, z: u32) -> Row
         here: 0,
         up: half,
         down: (size - 1) * half,
-        even: (colour + z) % 2 == 0,
+        even,
     }
 }
 
