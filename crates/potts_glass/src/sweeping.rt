@@ -19,6 +19,16 @@ use pr_generator::Wheel;
 /// The most draws of a plane: two for each of its sites of one class.
 const DRAWS: usize = 4096;
 
+/// What all sites of a half sweep share: where they stand, their bonds, the thresholds of their
+/// update, and the class that is swept.
+#[derive(Clone, Copy)]
+struct Sweep<'a> {
+    lattice: &'a Lattice,
+    couplings: &'a Couplings,
+    row: &'a PottsRow,
+    class: u32,
+}
+
 /// The half sweep of a class: its sites in rising order, two draws a site. Takes no memory.
 pub(crate) fn half_sweep(
     sites: &mut Items<[u64; 2]>,
@@ -46,112 +56,98 @@ pub(crate) fn half_sweep(
     ensures wheels { length wheels.new ≡ length wheels.old }
 {
     let mut draws = [0u32; DRAWS];
-    half_sweep_with(sites, wheels, lattice, couplings, row, class, &mut draws);
+    let sweep = Sweep {
+        lattice,
+        couplings,
+        row,
+        class,
+    };
+    half_sweep_with(sites, wheels, &sweep, &mut draws);
 }
 
 // The same, with a buffer for the draws of a plane.
 fn half_sweep_with(
     sites: &mut Items<[u64; 2]>,
     wheels: &mut Items<Wheel>,
-    lattice: &Lattice,
-    couplings: &Couplings,
-    row: &PottsRow,
-    class: u32,
+    sweep: &Sweep,
     draws: &mut [u32],
 )
-    requires size { lattice.now ≡ couplings.now.size }
-    requires sites { length sites.old ≡ volume lattice.now }
-    requires wheels { length wheels.old ≡ 2 * lattice.now }
-    requires class { class < 2 }
+    requires size { sweep.now.lattice.now ≡ sweep.now.couplings.now.size }
+    requires sites { length sites.old ≡ volume sweep.now.lattice.now }
+    requires wheels { length wheels.old ≡ 2 * sweep.now.lattice.now }
+    requires class { sweep.now.class < 2 }
     requires room { length draws.old ≡ DRAWS }
-    ensures colours { (b : ℕ) → b < 64 → colours_of lattice.now sites.new b ≡ steps
+    ensures colours { (b : ℕ) → b < 64 → colours_of sweep.now.lattice.now sites.new b ≡ steps
         (model.visit
-        (dynamics_on lattice.now couplings.now row.now.values b)
-        (model.site_draw lattice.now wheels.old)
-        class)
+        (dynamics_on sweep.now.lattice.now sweep.now.couplings.now sweep.now.row.now.values b)
+        (model.site_draw sweep.now.lattice.now wheels.old)
+        sweep.now.class)
         0
-        (volume lattice.now)
-        (colours_of lattice.now sites.old b) }
+        (volume sweep.now.lattice.now)
+        (colours_of sweep.now.lattice.now sites.old b) }
     ensures words { wheels.new
-        ≡ steps (model.plane_drawn lattice.now class) 0 lattice.now wheels.old }
+        ≡ steps (model.plane_drawn sweep.now.lattice.now sweep.now.class) 0 sweep.now.lattice.now wheels.old }
     ensures sites { length sites.new ≡ length sites.old }
     ensures wheels { length wheels.new ≡ length wheels.old }
 {
-    let size = lattice.size();
+    let size = sweep.lattice.size();
     let plane_draws = &mut draws[..(size * size) as usize];
     'planes: for z in 0..size {
         // Each site of the class has its draws, used or not, so that all samples can share them.
-        wheels.at_mut((class * size + z) as usize).fill(plane_draws);
-        sweep_plane(sites, lattice, couplings, row, plane_draws, class, z);
+        wheels
+            .at_mut((sweep.class * size + z) as usize)
+            .fill(plane_draws);
+        sweep_plane(sites, sweep, plane_draws, z);
     }
 }
 
 // The sites of plane z, row by row.
-fn sweep_plane(
-    sites: &mut Items<[u64; 2]>,
-    lattice: &Lattice,
-    couplings: &Couplings,
-    row: &PottsRow,
-    draws: &[u32],
-    class: u32,
-    z: u32,
-)
-    requires size { lattice.now ≡ couplings.now.size }
-    requires sites { length sites.old ≡ volume lattice.now }
-    requires draws { length draws.now ≡ lattice.now * lattice.now }
-    requires class { class < 2 }
-    requires plane { z < lattice.now }
-    ensures colours { (b : ℕ) → b < 64 → colours_of lattice.now sites.new b ≡ steps
+fn sweep_plane(sites: &mut Items<[u64; 2]>, sweep: &Sweep, draws: &[u32], z: u32)
+    requires size { sweep.now.lattice.now ≡ sweep.now.couplings.now.size }
+    requires sites { length sites.old ≡ volume sweep.now.lattice.now }
+    requires draws { length draws.now ≡ sweep.now.lattice.now * sweep.now.lattice.now }
+    requires class { sweep.now.class < 2 }
+    requires plane { z < sweep.now.lattice.now }
+    ensures colours { (b : ℕ) → b < 64 → colours_of sweep.now.lattice.now sites.new b ≡ steps
         (model.visit
-        (dynamics_on lattice.now couplings.now row.now.values b)
-        (λ i m. slice_index draws.now (2 * place_in_plane lattice.now i + m))
-        class)
-        (z * (lattice.now * lattice.now))
-        (lattice.now * lattice.now)
-        (colours_of lattice.now sites.old b) }
+        (dynamics_on sweep.now.lattice.now sweep.now.couplings.now sweep.now.row.now.values b)
+        (λ i m. slice_index draws.now (2 * place_in_plane sweep.now.lattice.now i + m))
+        sweep.now.class)
+        (z * (sweep.now.lattice.now * sweep.now.lattice.now))
+        (sweep.now.lattice.now * sweep.now.lattice.now)
+        (colours_of sweep.now.lattice.now sites.old b) }
     ensures sites { length sites.new ≡ length sites.old }
 {
-    'rows: for y in 0..lattice.size() {
-        sweep_row(sites, lattice, couplings, row, draws, class, y, z);
+    'rows: for y in 0..sweep.lattice.size() {
+        sweep_row(sites, sweep, draws, y, z);
     }
 }
 
 // The sites of the class in row y of plane z: one of each two neighbours in x.
-fn sweep_row(
-    sites: &mut Items<[u64; 2]>,
-    lattice: &Lattice,
-    couplings: &Couplings,
-    row: &PottsRow,
-    draws: &[u32],
-    class: u32,
-    y: u32,
-    z: u32,
-)
-    requires size { lattice.now ≡ couplings.now.size }
-    requires sites { length sites.old ≡ volume lattice.now }
-    requires draws { length draws.now ≡ lattice.now * lattice.now }
-    requires class { class < 2 }
-    requires row { y < lattice.now }
-    requires plane { z < lattice.now }
-    ensures colours { (b : ℕ) → b < 64 → colours_of lattice.now sites.new b ≡ steps
+fn sweep_row(sites: &mut Items<[u64; 2]>, sweep: &Sweep, draws: &[u32], y: u32, z: u32)
+    requires size { sweep.now.lattice.now ≡ sweep.now.couplings.now.size }
+    requires sites { length sites.old ≡ volume sweep.now.lattice.now }
+    requires draws { length draws.now ≡ sweep.now.lattice.now * sweep.now.lattice.now }
+    requires class { sweep.now.class < 2 }
+    requires row { y < sweep.now.lattice.now }
+    requires plane { z < sweep.now.lattice.now }
+    ensures colours { (b : ℕ) → b < 64 → colours_of sweep.now.lattice.now sites.new b ≡ steps
         (model.visit
-        (dynamics_on lattice.now couplings.now row.now.values b)
-        (λ i m. slice_index draws.now (2 * place_in_plane lattice.now i + m))
-        class)
-        (z * (lattice.now * lattice.now) + y * lattice.now)
-        lattice.now
-        (colours_of lattice.now sites.old b) }
+        (dynamics_on sweep.now.lattice.now sweep.now.couplings.now sweep.now.row.now.values b)
+        (λ i m. slice_index draws.now (2 * place_in_plane sweep.now.lattice.now i + m))
+        sweep.now.class)
+        (z * (sweep.now.lattice.now * sweep.now.lattice.now) + y * sweep.now.lattice.now)
+        sweep.now.lattice.now
+        (colours_of sweep.now.lattice.now sites.old b) }
     ensures sites { length sites.new ≡ length sites.old }
 {
-    let half = lattice.size() / 2;
-    let parity = (class + y + z) % 2;
+    let half = sweep.lattice.size() / 2;
+    let parity = (sweep.class + y + z) % 2;
     'pairs: for k in 0..half {
         let first = 2 * (y * half + k) as usize;
         update_site(
             sites,
-            lattice,
-            couplings,
-            row,
+            sweep,
             (2 * k + parity, y, z),
             draws[first],
             draws[first + 1],
@@ -162,32 +158,30 @@ fn sweep_row(
 // The new colours of the site at these coordinates.
 fn update_site(
     sites: &mut Items<[u64; 2]>,
-    lattice: &Lattice,
-    couplings: &Couplings,
-    row: &PottsRow,
+    sweep: &Sweep,
     at: (u32, u32, u32),
     first: u32,
     second: u32,
 )
-    requires size { lattice.now ≡ couplings.now.size }
-    requires sites { length sites.old ≡ volume lattice.now }
-    requires x { at.0 < lattice.now }
-    requires y { at.1 < lattice.now }
-    requires z { at.2 < lattice.now }
-    ensures colours { (b : ℕ) → b < 64 → colours_of lattice.now sites.new b ≡ slice_set
-        (colours_of lattice.now sites.old b)
-        (site_at lattice.now at.0 at.1 at.2)
-        (model.new_colour row.now.values (model.step_of first) second
-        (model.around lattice.now (bonds_of couplings.now b) (colours_of lattice.now sites.old b)
-        (site_at lattice.now at.0 at.1 at.2))
-        (slice_index (colours_of lattice.now sites.old b) (site_at lattice.now at.0 at.1 at.2))) }
+    requires size { sweep.now.lattice.now ≡ sweep.now.couplings.now.size }
+    requires sites { length sites.old ≡ volume sweep.now.lattice.now }
+    requires x { at.0 < sweep.now.lattice.now }
+    requires y { at.1 < sweep.now.lattice.now }
+    requires z { at.2 < sweep.now.lattice.now }
+    ensures colours { (b : ℕ) → b < 64 → colours_of sweep.now.lattice.now sites.new b ≡ slice_set
+        (colours_of sweep.now.lattice.now sites.old b)
+        (site_at sweep.now.lattice.now at.0 at.1 at.2)
+        (model.new_colour sweep.now.row.now.values (model.step_of first) second
+        (model.around sweep.now.lattice.now (bonds_of sweep.now.couplings.now b) (colours_of sweep.now.lattice.now sites.old b)
+        (site_at sweep.now.lattice.now at.0 at.1 at.2))
+        (slice_index (colours_of sweep.now.lattice.now sites.old b) (site_at sweep.now.lattice.now at.0 at.1 at.2))) }
     ensures sites { length sites.new ≡ length sites.old }
 {
-    let near = near(sites, lattice, at);
-    let negative = negative(couplings, lattice, at);
-    let site = lattice.site(at.0, at.1, at.2) as usize;
+    let near = near(sites, sweep.lattice, at);
+    let negative = negative(sweep.couplings, sweep.lattice, at);
+    let site = sweep.lattice.site(at.0, at.1, at.2) as usize;
     let own = *sites.at(site);
-    *sites.at_mut(site) = potts_update(step_of(first), second, row, own, &near, &negative);
+    *sites.at_mut(site) = potts_update(step_of(first), second, sweep.row, own, &near, &negative);
 }
 
 // The step of a draw: 0, 1 or 2.

@@ -10,7 +10,7 @@ use Rattle.potts_glass.proofs.sweeping.half_sweep_with.Goals as goal
 
 pub planes-init : goal.planes-init
 planes-init c = record {
-  colours = λ b h. rw (zero-mul (c.args.lattice.now * c.args.lattice.now)) (sym (steps-zero _ _ _));
+  colours = λ b h. rw (zero-mul (c.args.sweep.now.lattice.now * c.args.sweep.now.lattice.now)) (sym (steps-zero _ _ _));
   words = sym (steps-zero _ _ _);
   sites = refl;
   wheels = refl;
@@ -18,8 +18,8 @@ planes-init c = record {
 
 pub planes-preserved : goal.planes-preserved
 planes-preserved c =
-    let l = c.args.lattice.now in
-    let class = c.args.class in
+    let l = c.args.sweep.now.lattice.now in
+    let class = c.args.sweep.now.class in
     let z = c.planes.z in
     let words = c.args.wheels.now in
     let size = c.size-size.ensures.value in
@@ -35,7 +35,7 @@ planes-preserved c =
     let wheel : c.at_mut.result.now ≡ get_or words (class * l + z) [] =
     read ∙ ap (λ v. get_or v (class * l + z) []) inv.words ∙ plane_drawn-before l class z (class * l + z) words (omega arith) in
     record {
-      colours = λ b h. plane-more (dynamics_on l c.args.couplings.now c.args.row.now.values b) words class z _ _ _ c.fill.new.out c.at_mut.result.now c.size-size.ensures.lawful (inv.colours b h) wheel drawn (c.sweep_plane.ensures.colours b h);
+      colours = λ b h. plane-more (dynamics_on l c.args.sweep.now.couplings.now c.args.sweep.now.row.now.values b) words class z _ _ _ c.fill.new.out c.at_mut.result.now c.size-size.ensures.lawful (inv.colours b h) wheel drawn (c.sweep_plane.ensures.colours b h);
       words = rw (size, moved, read, inv.words) (sym (rw zero-add at (steps-more (plane_drawn l class) 0 z words)));
       sites = c.sweep_plane.ensures.sites ∙ inv.sites;
       wheels = length-set c.planes.wheels _ _ ∙ inv.wheels;

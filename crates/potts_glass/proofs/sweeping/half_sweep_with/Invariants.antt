@@ -7,10 +7,10 @@ use Rattle.potts_glass.proofs.sweeping.half_sweep_with.Given as goal
 
 abbrev pub invariant-planes : goal.invariant-planes
 invariant-planes l = record {
-  colours : (b : ℕ) → b < 64 → colours_of l.lattice l.sites b
-      ≡ steps (visit (dynamics_on l.lattice l.couplings l.row.values b) (site_draw l.lattice l.fn.wheels) l.class)
-      0 (l.z * (l.lattice * l.lattice)) (colours_of l.lattice l.fn.sites b);
-  words : l.wheels ≡ steps (plane_drawn l.lattice l.class) 0 l.z l.fn.wheels;
+  colours : (b : ℕ) → b < 64 → colours_of l.sweep.lattice.now l.sites b
+      ≡ steps (visit (dynamics_on l.sweep.lattice.now l.sweep.couplings.now l.sweep.row.now.values b) (site_draw l.sweep.lattice.now l.fn.wheels) l.sweep.class)
+      0 (l.z * (l.sweep.lattice.now * l.sweep.lattice.now)) (colours_of l.sweep.lattice.now l.fn.sites b);
+  words : l.wheels ≡ steps (plane_drawn l.sweep.lattice.now l.sweep.class) 0 l.z l.fn.wheels;
   sites : length l.sites ≡ length l.fn.sites;
   wheels : length l.wheels ≡ length l.fn.wheels;
 }

@@ -5,7 +5,7 @@ use Rattle.potts_glass.proofs.Sweeps.{row-more}
 use Rattle.potts_glass.proofs.sweeping.sweep_plane.Goals as goal
 
 pub rows-init : goal.rows-init
-rows-init c = record { colours = λ b h. rw (zero-mul c.args.lattice.now) (sym (steps-zero _ _ _)); sites = refl }
+rows-init c = record { colours = λ b h. rw (zero-mul c.args.sweep.now.lattice.now) (sym (steps-zero _ _ _)); sites = refl }
 
 pub rows-preserved : goal.rows-preserved
 rows-preserved c = record {

@@ -11,23 +11,23 @@ pub bounds-draws-first : goal.bounds-draws-first
 bounds-draws-first c =
     let size = c.size-half.ensures.value in
     let column = rw size at c.pairs-test.true in
-    let within = pair-draws c.args.lattice.now c.args.y c.pairs.k c.size-half.ensures.lawful c.requires.row column in
+    let within = pair-draws c.args.sweep.now.lattice.now c.args.y c.pairs.k c.size-half.ensures.lawful c.requires.row column in
     rw size (omega (arith, within, c.requires.draws))
 
 pub bounds-draws-first-in-pairs : goal.bounds-draws-first-in-pairs
 bounds-draws-first-in-pairs c =
     let size = c.size-half.ensures.value in
     let column = rw size at c.pairs-test.true in
-    let within = pair-draws c.args.lattice.now c.args.y c.pairs.k c.size-half.ensures.lawful c.requires.row column in
+    let within = pair-draws c.args.sweep.now.lattice.now c.args.y c.pairs.k c.size-half.ensures.lawful c.requires.row column in
     rw size (omega (arith, within, c.requires.draws))
 
 pub pairs-preserved : goal.pairs-preserved
 pairs-preserved c =
-    let l = c.args.lattice.now in
+    let l = c.args.sweep.now.lattice.now in
     let size = c.size-half.ensures.value in
     let column = rw size at c.pairs-test.true in
     record {
-      colours = λ b h. pair-more (dynamics_on l c.args.couplings.now c.args.row.now.values b) c.args.draws.now c.args.class c.args.y c.args.z c.pairs.k _ _ _ c.size-half.ensures.lawful c.requires.class c.requires.row column
+      colours = λ b h. pair-more (dynamics_on l c.args.sweep.now.couplings.now c.args.sweep.now.row.now.values b) c.args.draws.now c.args.sweep.now.class c.args.y c.args.z c.pairs.k _ _ _ c.size-half.ensures.lawful c.requires.class c.requires.row column
           (c.pairs.invariant.colours b h) (rw size at (c.update_site.ensures.colours b h));
       sites = c.update_site.ensures.sites ∙ c.pairs.invariant.sites;
     }

@@ -9,8 +9,8 @@ use Rattle.potts_glass.proofs.sweeping.sweep_row.Given as goal
 
 abbrev pub invariant-pairs : goal.invariant-pairs
 invariant-pairs l = record {
-  colours : (b : ℕ) → b < 64 → colours_of l.lattice l.sites b
-      ≡ steps (visit (dynamics_on l.lattice l.couplings l.row.values b) (λ i m. slice_index l.draws (2 * place_in_plane l.lattice i + m)) l.class)
-      (l.z * (l.lattice * l.lattice) + l.y * l.lattice) (2 * l.k) (colours_of l.lattice l.fn.sites b);
+  colours : (b : ℕ) → b < 64 → colours_of l.sweep.lattice.now l.sites b
+      ≡ steps (visit (dynamics_on l.sweep.lattice.now l.sweep.couplings.now l.sweep.row.now.values b) (λ i m. slice_index l.draws (2 * place_in_plane l.sweep.lattice.now i + m)) l.sweep.class)
+      (l.z * (l.sweep.lattice.now * l.sweep.lattice.now) + l.y * l.sweep.lattice.now) (2 * l.k) (colours_of l.sweep.lattice.now l.fn.sites b);
   sites : length l.sites ≡ length l.fn.sites;
 }

@@ -11,16 +11,16 @@ use Rattle.potts_glass.proofs.sweeping.update_site.Goals as goal
 
 pub returns-clause-colours : goal.returns-clause-colours
 returns-clause-colours c = λ b h.
-    let l = c.args.lattice.now in
+    let l = c.args.sweep.now.lattice.now in
     let sites = c.args.sites.now in
     let i = site_at l c.args.at.0 c.args.at.1 c.args.at.2 in
     let site : c.site-site.result ≡ i = c.site-site.ensures.value in
     let inside = rw site at c.site-site.ensures.within in
     let colours = colours_of l sites b in
-    let values = c.args.row.now.values in
+    let values = c.args.sweep.now.row.now.values in
     let v = c.args.second in
     let sees = seen c.near-near.result c.negative-negative.result b in
-    let view = around l (bonds_of c.args.couplings.now b) colours i in
+    let view = around l (bonds_of c.args.sweep.now.couplings.now b) colours i in
     let agree : AgreeAround sees view = record {
       colours = λ k below. ap (λ s. colour_in s b) (c.near-near.ensures.near k below) ∙ sym (colour-at l sites b (neighbour l i k) (c.near-near.ensures.within k below));
       bonds = λ k below. c.negative-negative.ensures b k below;
