@@ -11,6 +11,20 @@ use multispin_word::Planes;
 use report_text::kind_word;
 use scalar_rule::Plan;
 
+/// What is measured of a replica at one time.
+#[derive(Clone, Copy)]
+pub(crate) struct Measured<'a> {
+    pub(crate) slot: u32,
+    /// Which of the two replicas of its slot, 0 or 1.
+    pub(crate) copy: u32,
+    /// Sweeps since the spins were kept.
+    pub(crate) time: u64,
+    /// In each sample, how many sites have the spins that were kept.
+    pub(crate) agreeing: &'a Planes<20>,
+    /// The number of all sites.
+    pub(crate) sites: u32,
+}
+
 /// Puts the first line, of a run whose spins are kept after `wait` sweeps.
 pub(crate) fn write_header<O: Sink>(
     out: &mut O,
@@ -53,59 +67,47 @@ fn fill_header(line: &mut Line, plan: &Plan, samples: u32, wait: u64)
 pub(crate) fn add_overlap<O: Sink>(
     out: &mut O,
     text: &mut Line,
-    slot: u32,
-    copy: u32,
-    time: u64,
+    measured: &Measured,
     sample: u32,
-    totals: &Planes<20>,
-    sites: u32,
 ) -> Result<(), Fault>
     requires { sample < 64 }
     ensures front { OnOk result (PutsFront (O.taken out.old) (O.taken out.new)
-        (text.old ++ lines.overlap_line slot copy time sample (overlap_in totals.now.words sites sample)) text.new) }
+        (text.old ++ lines.overlap_line measured.now.slot measured.now.copy measured.now.time sample (overlap_in measured.now.agreeing.now.words measured.now.sites sample)) text.new) }
     ensures prefix { OnErr result (AppendsPrefix (O.taken out.old) (O.taken out.new)
-        (text.old ++ lines.overlap_line slot copy time sample (overlap_in totals.now.words sites sample))) }
+        (text.old ++ lines.overlap_line measured.now.slot measured.now.copy measured.now.time sample (overlap_in measured.now.agreeing.now.words measured.now.sites sample))) }
     ensures cause { HasCause (O.faults out.old) (O.faults out.new) result }
 {
     let mut line = Line::new();
-    fill_overlap(&mut line, slot, copy, time, sample, totals, sites);
+    fill_overlap(&mut line, measured, sample);
     text.extend(out, line.as_slice())
 }
 
 // Fills an empty line with it.
 #[tactic(auto, unfolding(crate::specs::Aging::overlap_line))]
-fn fill_overlap(
-    line: &mut Line,
-    slot: u32,
-    copy: u32,
-    time: u64,
-    sample: u32,
-    totals: &Planes<20>,
-    sites: u32,
-)
+fn fill_overlap(line: &mut Line, measured: &Measured, sample: u32)
     requires line { line.old ≡ [] }
     requires sample { sample < 64 }
-    ensures { line.new ≡ lines.overlap_line slot copy time sample (overlap_in totals.now.words sites sample) }
+    ensures { line.new ≡ lines.overlap_line measured.now.slot measured.now.copy measured.now.time sample (overlap_in measured.now.agreeing.now.words measured.now.sites sample) }
 {
     line.add(b"age,");
-    line.number(slot as u64);
+    line.number(measured.slot as u64);
     line.add(b",");
-    line.number(copy as u64);
+    line.number(measured.copy as u64);
     line.add(b",");
-    line.number(time);
+    line.number(measured.time);
     line.add(b",");
     line.number(sample as u64);
     line.add(b",");
-    line.signed(overlap_of(totals, sample, sites));
+    line.signed(overlap_of(measured, sample));
     line.add(b"\n");
 }
 
 // Of one sample, twice the agreeing sites less all sites.
-fn overlap_of(totals: &Planes<20>, sample: u32, sites: u32) -> i64
+fn overlap_of(measured: &Measured, sample: u32) -> i64
     requires { sample < 64 }
-    ensures { result ≡ overlap_in totals.now.words sites sample }
+    ensures { result ≡ overlap_in measured.now.agreeing.now.words measured.now.sites sample }
 {
-    2 * totals.number_at(sample) as i64 - sites as i64
+    2 * measured.agreeing.number_at(sample) as i64 - measured.sites as i64
 }
 
 /// Puts the last line.

@@ -11,16 +11,27 @@ ghost use Rattle.scalar_rule.specs.Plan.{slots_of};
 
 use crate::aging::Aging;
 use crate::keeping::keep;
-use crate::lines::{add_overlap, write_end, write_header};
+use crate::lines::{Measured, add_overlap, write_end, write_header};
 use bit_totals::agreeing;
 use glass_edges::{Fault, Line, Sink};
-use multispin_word::Planes;
 use plane_sweep::{Duo, Replica, Stand, sweep_often};
 use scalar_rule::Plan;
 use std::thread::Threads;
 
 // The most runs into which the planes of a colour are cut for a sweep.
 const PIECES: u32 = 4;
+
+/// What is asked of an aging run.
+#[derive(Clone, Copy)]
+struct Order<'a> {
+    plan: &'a Plan,
+    /// How many samples have lines, from the first on.
+    samples: u32,
+    /// Sweeps before the spins are kept.
+    wait: u64,
+    /// Sweeps from there on, at which the overlaps are measured.
+    times: &'a [u64],
+}
 
 /// Puts the text of an aging run of the first `samples` samples: in each replica of each slot `wait`
 /// sweeps are made and the spins are kept; at each of the times, which are sweeps from there on, the
@@ -55,7 +66,13 @@ pub fn write_aging<R: Threads + Sync, O: Sink>(
         mut kept,
     } = aging;
     write_header(out, plan, samples, wait)?;
-    write_slots(rt, out, &mut stand, &mut kept, plan, samples, wait, times)?;
+    let order = Order {
+        plan,
+        samples,
+        wait,
+        times,
+    };
+    write_slots(rt, out, &mut stand, &mut kept, &order)?;
     write_end(out)
 }
 
@@ -65,33 +82,27 @@ fn write_slots<R: Threads + Sync, O: Sink>(
     out: &mut O,
     stand: &mut Stand,
     kept: &mut Replica,
-    plan: &Plan,
-    samples: u32,
-    wait: u64,
-    times: &[u64],
+    order: &Order,
 ) -> Result<(), Fault>
-    requires stand { StandFits plan.now stand.old }
-    requires kept { FitsReplica plan.now.size kept.old }
-    requires samples { samples ≤ 64 }
-    requires wait { wait ≤ most_sweeps }
-    requires times { text.AreTimes times.now }
+    requires stand { StandFits order.now.plan.now stand.old }
+    requires kept { FitsReplica order.now.plan.now.size kept.old }
+    requires samples { order.now.samples ≤ 64 }
+    requires wait { order.now.wait ≤ most_sweeps }
+    requires times { text.AreTimes order.now.times.now }
     ensures whole { OnOk result (O.taken out.new ≡ appended (O.taken out.old)
-        (text.all_lines plan.now samples wait times.now (λ b. part plan.now.size b stand.old) (slots_of plan.now))) }
+        (text.all_lines order.now.plan.now order.now.samples order.now.wait order.now.times.now (λ b. part order.now.plan.now.size b stand.old) (slots_of order.now.plan.now))) }
     ensures prefix { OnErr result (AppendsPrefix (O.taken out.old) (O.taken out.new)
-        (text.all_lines plan.now samples wait times.now (λ b. part plan.now.size b stand.old) (slots_of plan.now))) }
+        (text.all_lines order.now.plan.now order.now.samples order.now.wait order.now.times.now (λ b. part order.now.plan.now.size b stand.old) (slots_of order.now.plan.now))) }
     ensures cause { HasCause (O.faults out.old) (O.faults out.new) result }
 {
-    'slots: for slot in 0..plan.slots() {
+    'slots: for slot in 0..order.plan.slots() {
         write_slot(
             rt,
             out,
             stand.slots.at_mut(slot as usize),
             kept,
-            plan,
+            order,
             slot,
-            samples,
-            wait,
-            times,
         )?;
     }
     Ok(())
@@ -103,49 +114,24 @@ fn write_slot<R: Threads + Sync, O: Sink>(
     out: &mut O,
     duo: &mut Duo,
     kept: &mut Replica,
-    plan: &Plan,
+    order: &Order,
     slot: u32,
-    samples: u32,
-    wait: u64,
-    times: &[u64],
 ) -> Result<(), Fault>
-    requires duo { FitsDuo plan.now.size duo.old }
-    requires kept { FitsReplica plan.now.size kept.old }
-    requires slot { slot < slots_of plan.now }
-    requires samples { samples ≤ 64 }
-    requires wait { wait ≤ most_sweeps }
-    requires times { text.AreTimes times.now }
+    requires duo { FitsDuo order.now.plan.now.size duo.old }
+    requires kept { FitsReplica order.now.plan.now.size kept.old }
+    requires slot { slot < slots_of order.now.plan.now }
+    requires samples { order.now.samples ≤ 64 }
+    requires wait { order.now.wait ≤ most_sweeps }
+    requires times { text.AreTimes order.now.times.now }
     ensures whole { OnOk result (O.taken out.new ≡ appended (O.taken out.old)
-        (text.slot_lines plan.now samples wait times.now slot (λ b. part_slot plan.now.size b duo.old))) }
+        (text.slot_lines order.now.plan.now order.now.samples order.now.wait order.now.times.now slot (λ b. part_slot order.now.plan.now.size b duo.old))) }
     ensures prefix { OnErr result (AppendsPrefix (O.taken out.old) (O.taken out.new)
-        (text.slot_lines plan.now samples wait times.now slot (λ b. part_slot plan.now.size b duo.old))) }
+        (text.slot_lines order.now.plan.now order.now.samples order.now.wait order.now.times.now slot (λ b. part_slot order.now.plan.now.size b duo.old))) }
     ensures cause { HasCause (O.faults out.old) (O.faults out.new) result }
-    ensures room { FitsReplica plan.now.size kept.new }
+    ensures room { FitsReplica order.now.plan.now.size kept.new }
 {
-    write_replica(
-        rt,
-        out,
-        &mut duo.first,
-        kept,
-        plan,
-        slot,
-        0,
-        samples,
-        wait,
-        times,
-    )?;
-    write_replica(
-        rt,
-        out,
-        &mut duo.second,
-        kept,
-        plan,
-        slot,
-        1,
-        samples,
-        wait,
-        times,
-    )
+    write_replica(rt, out, &mut duo.first, kept, order, slot, 0)?;
+    write_replica(rt, out, &mut duo.second, kept, order, slot, 1)
 }
 
 // Puts the lines of a replica: its waiting sweeps, and then those from each time to the next.
@@ -154,59 +140,55 @@ fn write_replica<R: Threads + Sync, O: Sink>(
     out: &mut O,
     replica: &mut Replica,
     kept: &mut Replica,
-    plan: &Plan,
+    order: &Order,
     slot: u32,
     copy: u32,
-    samples: u32,
-    wait: u64,
-    times: &[u64],
 ) -> Result<(), Fault>
-    requires replica { FitsReplica plan.now.size replica.old }
-    requires kept { FitsReplica plan.now.size kept.old }
-    requires slot { slot < slots_of plan.now }
-    requires samples { samples ≤ 64 }
-    requires wait { wait ≤ most_sweeps }
-    requires times { text.AreTimes times.now }
+    requires replica { FitsReplica order.now.plan.now.size replica.old }
+    requires kept { FitsReplica order.now.plan.now.size kept.old }
+    requires slot { slot < slots_of order.now.plan.now }
+    requires samples { order.now.samples ≤ 64 }
+    requires wait { order.now.wait ≤ most_sweeps }
+    requires times { text.AreTimes order.now.times.now }
     ensures whole { OnOk result (O.taken out.new ≡ appended (O.taken out.old)
-        (text.replica_lines plan.now samples wait times.now slot copy (λ b. part_copy plan.now.size b replica.old))) }
+        (text.replica_lines order.now.plan.now order.now.samples order.now.wait order.now.times.now slot copy (λ b. part_copy order.now.plan.now.size b replica.old))) }
     ensures prefix { OnErr result (AppendsPrefix (O.taken out.old) (O.taken out.new)
-        (text.replica_lines plan.now samples wait times.now slot copy (λ b. part_copy plan.now.size b replica.old))) }
+        (text.replica_lines order.now.plan.now order.now.samples order.now.wait order.now.times.now slot copy (λ b. part_copy order.now.plan.now.size b replica.old))) }
     ensures cause { HasCause (O.faults out.old) (O.faults out.new) result }
-    ensures room { FitsReplica plan.now.size kept.new }
+    ensures room { FitsReplica order.now.plan.now.size kept.new }
 {
-    let lattice = plan.lattice();
-    sweep_often(rt, replica, plan, slot, PIECES, wait as u32);
+    let lattice = order.plan.lattice();
+    sweep_often(rt, replica, order.plan, slot, PIECES, order.wait as u32);
     keep(kept, replica);
     let mut done = 0;
-    'times: for k in 0..times.len() {
-        let time = times[k];
-        sweep_often(rt, replica, plan, slot, PIECES, (time - done) as u32);
+    'times: for k in 0..order.times.len() {
+        let time = order.times[k];
+        sweep_often(rt, replica, order.plan, slot, PIECES, (time - done) as u32);
         done = time;
         let totals = agreeing(kept, replica);
-        write_time(out, &totals, lattice.sites(), slot, copy, time, samples)?;
+        let measured = Measured {
+            slot,
+            copy,
+            time,
+            agreeing: &totals,
+            sites: lattice.sites(),
+        };
+        write_time(out, &measured, order.samples)?;
     }
     Ok(())
 }
 
 // Puts the lines of a replica at one time, from the agreeing sites of each sample.
-fn write_time<O: Sink>(
-    out: &mut O,
-    totals: &Planes<20>,
-    sites: u32,
-    slot: u32,
-    copy: u32,
-    time: u64,
-    samples: u32,
-) -> Result<(), Fault>
+fn write_time<O: Sink>(out: &mut O, measured: &Measured, samples: u32) -> Result<(), Fault>
     requires { samples ≤ 64 }
     ensures whole { OnOk result (O.taken out.new ≡ appended (O.taken out.old)
-        (text.time_lines slot copy time (overlap_in totals.now.words sites) samples)) }
+        (text.time_lines measured.now.slot measured.now.copy measured.now.time (overlap_in measured.now.agreeing.now.words measured.now.sites) samples)) }
     ensures prefix { OnErr result (AppendsPrefix (O.taken out.old) (O.taken out.new)
-        (text.time_lines slot copy time (overlap_in totals.now.words sites) samples)) }
+        (text.time_lines measured.now.slot measured.now.copy measured.now.time (overlap_in measured.now.agreeing.now.words measured.now.sites) samples)) }
     ensures cause { HasCause (O.faults out.old) (O.faults out.new) result }
 {
     let mut line = Line::new();
-    add_time(out, &mut line, totals, sites, slot, copy, time, samples)?;
+    add_time(out, &mut line, measured, samples)?;
     line.put(out)
 }
 
@@ -214,22 +196,18 @@ fn write_time<O: Sink>(
 fn add_time<O: Sink>(
     out: &mut O,
     line: &mut Line,
-    totals: &Planes<20>,
-    sites: u32,
-    slot: u32,
-    copy: u32,
-    time: u64,
+    measured: &Measured,
     samples: u32,
 ) -> Result<(), Fault>
     requires { samples ≤ 64 }
     ensures front { OnOk result (PutsFront (O.taken out.old) (O.taken out.new)
-        (line.old ++ text.time_lines slot copy time (overlap_in totals.now.words sites) samples) line.new) }
+        (line.old ++ text.time_lines measured.now.slot measured.now.copy measured.now.time (overlap_in measured.now.agreeing.now.words measured.now.sites) samples) line.new) }
     ensures prefix { OnErr result (AppendsPrefix (O.taken out.old) (O.taken out.new)
-        (line.old ++ text.time_lines slot copy time (overlap_in totals.now.words sites) samples)) }
+        (line.old ++ text.time_lines measured.now.slot measured.now.copy measured.now.time (overlap_in measured.now.agreeing.now.words measured.now.sites) samples)) }
     ensures cause { HasCause (O.faults out.old) (O.faults out.new) result }
 {
     'samples: for b in 0..samples {
-        add_overlap(out, line, slot, copy, time, b, totals, sites)?;
+        add_overlap(out, line, measured, b)?;
     }
     Ok(())
 }

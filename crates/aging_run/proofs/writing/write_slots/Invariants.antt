@@ -7,8 +7,8 @@ use Rattle.aging_run.proofs.writing.write_slots.Given as goal
 
 abbrev pub invariant-slots : goal.invariant-slots
 invariant-slots g l = record {
-  text : g.O.Sink.taken l.out ≡ appended (g.O.Sink.taken l.fn.out) (all_lines l.plan l.samples l.wait l.times (λ b. part l.plan.size b l.fn.stand) l.slot);
+  text : g.O.Sink.taken l.out ≡ appended (g.O.Sink.taken l.fn.out) (all_lines l.order.plan.now l.order.samples l.order.wait l.order.times.now (λ b. part l.order.plan.now.size b l.fn.stand) l.slot);
   passed : g.O.Sink.faults l.out ≡ g.O.Sink.faults l.fn.out;
   rest : ReachedTo l.slot l.fn.stand.slots l.stand.slots;
-  room : FitsReplica l.plan.size l.kept;
+  room : FitsReplica l.order.plan.now.size l.kept;
 }
