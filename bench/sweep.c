@@ -205,7 +205,7 @@ INLINE void sweep_colours(int heat, size_t size, const thresholds t) {
     }
 }
 
-/* A sweep by code of its own for each size and rule. */
+/* A sweep by code of its own for each rule and four of the sizes, and one for the others. */
 static __attribute__((noinline)) void sweep(int heat, size_t size) {
     switch (size) {
     case 8:
@@ -217,8 +217,11 @@ static __attribute__((noinline)) void sweep(int heat, size_t size) {
     case 32:
         heat ? sweep_colours(1, 32, heat_row) : sweep_colours(0, 32, metropolis_row);
         break;
-    default:
+    case 64:
         heat ? sweep_colours(1, 64, heat_row) : sweep_colours(0, 64, metropolis_row);
+        break;
+    default:
+        heat ? sweep_colours(1, size, heat_row) : sweep_colours(0, size, metropolis_row);
     }
 }
 
@@ -266,8 +269,8 @@ static uint64_t all_words(size_t size) {
 
 int main(int argc, char **argv) {
     size_t size = argc == 5 ? strtoul(argv[1], NULL, 10) : 0;
-    if (size != 8 && size != 16 && size != 32 && size != 64) {
-        fputs("usage: sweep_c 8|16|32|64 metropolis|heat SWEEPS PASSES\n", stderr);
+    if (size % 8 != 0 || size < 8 || size > 64) {
+        fputs("usage: sweep_c 8|16|..|64 metropolis|heat SWEEPS PASSES\n", stderr);
         return 2;
     }
     int heat = strcmp(argv[2], "heat") == 0;

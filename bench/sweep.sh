@@ -11,7 +11,7 @@ it prints the least picoseconds of a spin update on both sides and their ratio. 
 spin in one of the 64 samples, the random numbers included.
 
   --cpu CPU      x86-64-v2 (as if left out) or x86-64-v3, for both compilers
-  --sizes ..     of 8, 16, 32 and 64, all four if left out
+  --sizes ..     of 8, 16, 24 and so on to 64; 8, 16, 32 and 64 if left out
   --passes N     passes of a turn, 100 if left out, each of 262144 / SIZE^3 sweeps
   --turns N      turns, 5 if left out
   --limit RATIO  the greatest ratio that is right, 1.4 if left out
@@ -26,7 +26,7 @@ limit=1.4
 sizes="8 16 32 64"
 . "$(dirname "$0")/common.sh"
 read_words "$@"
-check_sizes
+check_sizes "8 16 24 32 40 48 56 64"
 build_sides sweep bench_sweep
 
 # One run of a side, in picoseconds.
@@ -34,7 +34,8 @@ run_side() {
     local side=$1 program=$2 size=$3 rule=$4
     local sweeps=$((262144 / size ** 3))
     "$program" "$size" "$rule" "$sweeps" "$passes" \
-        | awk -v name="$side $size $rule" '{ print name, $1 * 1000 / (64 * 262144), $2 }'
+        | awk -v name="$side $size $rule" -v updates=$((64 * size ** 3 * sweeps)) \
+            '{ print name, $1 * 1000 / updates, $2 }'
 }
 
 # Turns come first, so that a busy moment of the machine doesn't fall on all those of one size.
