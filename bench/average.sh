@@ -15,17 +15,10 @@ Status: 0 where that time is not above the limit, 1 where it is, 2 for a wrong w
 END
 }
 
-turns=5 limit=1.5
-while [ $# -gt 0 ]; do
-    case "$1" in
-        --help) usage; exit 0 ;;
-        --turns) turns=$2; shift 2 ;;
-        --limit) limit=$2; shift 2 ;;
-        *) usage >&2; exit 2 ;;
-    esac
-done
-cd "$(dirname "$0")/.." || exit 2
-[ -x ./glass ] || { echo "average.sh: there is no ./glass: make builds it" >&2; exit 2; }
+limit=1.5
+. "$(dirname "$0")/common.sh"
+read_words "$@"
+begin_with_glass
 exec python3 - "$turns" "$limit" <<'END'
 import os, random, resource, subprocess, sys, tempfile, time
 

@@ -5,6 +5,8 @@ set -euo pipefail
 script=${0##*/}
 cpu=x86-64-v2
 turns=5
+# Those of the runs of eight.
+temperatures="1.1 1.2 1.3 1.4 1.55 1.7 1.85 2.0"
 
 fail() {
     echo "$script: $1" >&2
@@ -73,6 +75,63 @@ build_crate() {
     (cd "crates/$crate" && rt run "--cpu=$cpu" "$@") > "$build/$crate.log" 2>&1 \
         || fail "rt run failed: see $build/$crate.log"
     cp "crates/$crate/out/$crate" "$build/$crate"
+}
+
+# Goes to the repository's folder, where ./glass has to stand.
+begin_with_glass() {
+    cd "$(dirname "$0")/.."
+    [ -x ./glass ] || fail "there is no ./glass: make builds it"
+}
+
+# What a script begins with that times whole runs: takes the words of the command line, and builds the program into $build.
+begin_runs() {
+    read_words "$@"
+    [ -z "${sizes-}" ] || check_sizes
+    begin_build
+    build_crate glass plain 4 0 0 0 0 0 0 0 0 0
+}
+
+# Makes the tables $build/$1_rules.csv and $build/$1_swaps.csv of the rule $2 at the temperatures that follow.
+make_tables() {
+    local name=$1 rule=$2
+    shift 2
+    python3 tools/make_tables.py "$rule" --temperatures "$@" \
+        --rules "$build/${name}_rules.csv" --swaps "$build/${name}_swaps.csv" > /dev/null || fail "make_tables.py failed"
+}
+
+# The epochs at size $1: a multiple of ten that has about as many spin updates as $passes at size 16 have, or $2 times as
+# many, and 10 at the least.
+epochs_at() {
+    local epochs=$((passes * 4096 / $1 ** 3 * ${2-1} / 10 * 10))
+    echo $((epochs < 10 ? 10 : epochs))
+}
+
+# Writes the run file $build/$1.toml. A caller sets its size, rule, tables (their name), sweeps and epochs before the call;
+# samples are 64 and each tenth epoch is recorded where it sets no other.
+write_run() {
+    cat > "$build/$1.toml" <<END
+size = $size
+rule = "$rule"
+rules = "${tables}_rules.csv"
+swaps = "${tables}_swaps.csv"
+couplings = "random"
+sweeps = $sweeps
+seed = 20240611
+samples = ${samples-64}
+epochs = $epochs
+every = ${every-10}
+start = "random"
+spins = false
+END
+}
+
+# Does the words behind $2 in $build, with their output in the file $2 there, and prints the milliseconds by $1: '%U %S' of
+# the processor, '%R' by the clock. A caller goes on only where it succeeds.
+timed() {
+    local TIMEFORMAT=$1 out=$2 took
+    shift 2
+    took=$(cd "$build" && { time "$@" > "$out"; } 2>&1) || fail "a run failed: $*: $took"
+    awk '{ print ($1 + $2) * 1000 }' <<< "$took"
 }
 
 # Builds bench/$1.c and the crate $2 into $build, for the same processor.

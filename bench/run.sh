@@ -41,59 +41,26 @@ limit=1.5
 sweeps=10
 sizes="8 16 32 64"
 . "$(dirname "$0")/common.sh"
-read_words "$@"
-check_sizes
-begin_build
+begin_runs "$@"
 g++ -std=c++20 -O3 "-march=$cpu" bench/run.cpp -o "$build/run_c" || fail "g++ failed"
-build_crate glass plain 4 0 0 0 0 0 0 0 0 0
-temperatures="1.1 1.2 1.3 1.4 1.55 1.7 1.85 2.0"
-for rule in metropolis heat; do
-    # shellcheck disable=SC2086
-    python3 tools/make_tables.py "$rule" --temperatures $temperatures \
-        --rules "$build/$rule.csv" --swaps "$build/swaps.csv" > /dev/null || fail "make_tables.py failed"
-done
-
-# The epochs at a size: a multiple of ten.
-epochs_at() {
-    local epochs=$((passes * 4096 / $1 ** 3 / 10 * 10))
-    echo $((epochs < 10 ? 10 : epochs))
-}
-
-write_run_file() {
-    cat > "$build/run_$1_$2.toml" <<END
-size = $1
-rule = "$2"
-rules = "$2.csv"
-swaps = "swaps.csv"
-couplings = "random"
-sweeps = $sweeps
-seed = 20240611
-samples = 64
-epochs = $(epochs_at "$1")
-every = 10
-start = "random"
-spins = false
-END
-}
 
 # One run of a side: the milliseconds of processor time, and the digest of its output.
 run_side() {
     local side=$1 name=$2 out="$1_$2.txt" took
     shift 2
-    took=$(
-        cd "$build"
-        TIMEFORMAT='%U %S'
-        { time "$@" "run_$name.toml" > "$out"; } 2>&1
-    ) || fail "a run failed: $side $name: $took"
-    echo "$side ${name/_/ } $(awk '{ print ($1 + $2) * 1000 }' <<< "$took") $(sha256sum < "$build/$out" | cut -d' ' -f1)"
+    took=$(timed '%U %S' "$out" "$@" "run_$name.toml") || exit 2
+    echo "$side ${name/_/ } $took $(sha256sum < "$build/$out" | cut -d' ' -f1)"
 }
 
-# Turns come first, so that a busy moment of the machine doesn't fall on all those of one size.
-for size in $sizes; do
-    for rule in metropolis heat; do
-        write_run_file "$size" "$rule"
+for rule in metropolis heat; do
+    # shellcheck disable=SC2086
+    make_tables "run_$rule" "$rule" $temperatures
+    for size in $sizes; do
+        tables=run_$rule epochs=$(epochs_at "$size") write_run "run_${size}_$rule"
     done
 done
+
+# Turns come first, so that a busy moment of the machine doesn't fall on all those of one size.
 for _ in $(seq "$turns"); do
     for size in $sizes; do
         for rule in metropolis heat; do

@@ -26,31 +26,10 @@ passes=500
 limit=4.1
 sizes="8 16 32 64"
 . "$(dirname "$0")/common.sh"
-read_words "$@"
-check_sizes
-begin_build
-build_crate glass plain 4 0 0 0 0 0 0 0 0 0
-python3 tools/make_tables.py metropolis --temperatures 1.1 1.2 1.3 1.4 1.55 1.7 1.85 2.0 \
-    --rules "$build/banks_rules.csv" --swaps "$build/banks_swaps.csv" > /dev/null || fail "make_tables.py failed"
-
-# The run file of a size and a number of samples.
-write_run() {
-    local epochs=$((passes * 4096 / $1 ** 3 / 10 * 10))
-    cat > "$build/banks_$1_$2.toml" <<END
-size = $1
-rule = "metropolis"
-rules = "banks_rules.csv"
-swaps = "banks_swaps.csv"
-couplings = "random"
-sweeps = 10
-seed = 20240611
-samples = $2
-epochs = $((epochs < 10 ? 10 : epochs))
-every = 10
-start = "random"
-spins = false
-END
-}
+begin_runs "$@"
+rule=metropolis
+# shellcheck disable=SC2086
+make_tables banks "$rule" $temperatures
 
 # One run: its size, its samples, the milliseconds of processor time, the most kilobytes, and the digest of the rows of
 # the samples below 64.
@@ -67,8 +46,9 @@ print(1000 * (used.ru_utime + used.ru_stime), used.ru_maxrss)' ./glass run "bank
 }
 
 for size in $sizes; do
-    write_run "$size" 64
-    write_run "$size" 256
+    for samples in 64 256; do
+        tables=banks sweeps=10 epochs=$(epochs_at "$size") write_run "banks_${size}_$samples"
+    done
 done
 for _ in $(seq "$turns"); do
     for size in $sizes; do

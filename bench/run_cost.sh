@@ -28,55 +28,23 @@ passes=500
 limit=1
 sizes="8 16 32 64"
 . "$(dirname "$0")/common.sh"
-read_words "$@"
-check_sizes
-begin_build
-build_crate glass plain 4 0 0 0 0 0 0 0 0 0
-for rule in metropolis heat; do
-    python3 tools/make_tables.py "$rule" --temperatures 1.1 1.2 1.3 1.4 1.55 1.7 1.85 2.0 \
-        --rules "$build/cost_$rule.csv" --swaps "$build/cost_swaps.csv" > /dev/null || fail "make_tables.py failed"
-done
-
-# The epochs at a size: a multiple of ten.
-epochs_at() {
-    local epochs=$((passes * 4096 / $1 ** 3 / 10 * 10))
-    echo $((epochs < 10 ? 10 : epochs))
-}
-
-# The run file of a size, a rule and a number of sweeps.
-write_run() {
-    cat > "$build/cost_$1_$2_$3.toml" <<END
-size = $1
-rule = "$2"
-rules = "cost_$2.csv"
-swaps = "cost_swaps.csv"
-couplings = "random"
-sweeps = $3
-seed = 20240611
-samples = 64
-epochs = $(epochs_at "$1")
-every = 10
-start = "random"
-spins = false
-END
-}
+begin_runs "$@"
 
 # One run: its size, rule and sweeps, and the milliseconds of processor time.
 time_run() {
     local size=$1 rule=$2 sweeps=$3 took
     shift 3
-    took=$(
-        cd "$build"
-        TIMEFORMAT='%U %S'
-        { time ./glass run "cost_${size}_${rule}_${sweeps/none/1}.toml" "$@" > cost.txt; } 2>&1
-    ) || fail "a run failed: $size $rule $sweeps: $took"
-    echo "$size $rule $sweeps $(awk '{ print ($1 + $2) * 1000 }' <<< "$took") $(epochs_at "$size")"
+    took=$(timed '%U %S' cost.txt ./glass run "cost_${size}_${rule}_${sweeps/none/1}.toml" "$@") || exit 2
+    echo "$size $rule $sweeps $took $(epochs_at "$size")"
 }
 
-for size in $sizes; do
-    for rule in metropolis heat; do
-        write_run "$size" "$rule" 1
-        write_run "$size" "$rule" 10
+for rule in metropolis heat; do
+    # shellcheck disable=SC2086
+    make_tables "cost_$rule" "$rule" $temperatures
+    for size in $sizes; do
+        for sweeps in 1 10; do
+            tables=cost_$rule epochs=$(epochs_at "$size") write_run "cost_${size}_${rule}_$sweeps"
+        done
     done
 done
 for _ in $(seq "$turns"); do

@@ -25,58 +25,32 @@ END
 passes=500
 limit=1
 . "$(dirname "$0")/common.sh"
-read_words "$@"
-begin_build
-build_crate glass plain 4 0 0 0 0 0 0 0 0 0
-temperatures="1.1 1.2 1.3 1.4 1.55 1.7 1.85 2.0"
-make_tables() {
-    # shellcheck disable=SC2086
-    python3 tools/make_tables.py metropolis --temperatures $2 \
-        --rules "$build/$1_rules.csv" --swaps "$build/$1_swaps.csv" > /dev/null || fail "make_tables.py failed"
-}
-make_tables 8 "$temperatures"
-make_tables 1 1.1
-
-# The run NAME of so many slots, sweeps and epochs, each `every`th of them recorded.
-write_run() {
-    cat > "$build/share_$1.toml" <<END
-size = 16
-rule = "metropolis"
-rules = "$2_rules.csv"
-swaps = "$2_swaps.csv"
-couplings = "random"
-sweeps = $3
-seed = 20240611
-samples = 64
-epochs = $4
-every = $5
-start = "random"
-spins = false
-END
-}
+begin_runs "$@"
+size=16
+rule=metropolis
+# shellcheck disable=SC2086
+make_tables shares_8 "$rule" $temperatures
+make_tables shares_1 "$rule" 1.1
 
 never=1000000000
-for sweeps in 1 10; do
-    write_run "whole_$sweeps" 8 "$sweeps" "$passes" 10
-    write_run "more_$sweeps" 8 $((2 * sweeps)) "$passes" 10
-    write_run "silent_$sweeps" 8 "$sweeps" "$passes" "$never"
-    write_run "alone_$sweeps" 1 "$sweeps" $((8 * passes)) "$never"
+for n in 1 10; do
+    sweeps=$n
+    tables=shares_8 epochs=$passes write_run "share_whole_$n"
+    tables=shares_8 epochs=$passes sweeps=$((2 * n)) write_run "share_more_$n"
+    tables=shares_8 epochs=$passes every=$never write_run "share_silent_$n"
+    tables=shares_1 epochs=$((8 * passes)) every=$never write_run "share_alone_$n"
 done
-write_run start 8 1 0 10
-write_run start_alone 1 1 0 10
+tables=shares_8 epochs=0 sweeps=1 write_run share_start
+tables=shares_1 epochs=0 sweeps=1 write_run share_start_alone
 
 for _ in $(seq "$turns"); do
     for file in "$build"/share_*.toml; do
         name=${file##*/share_}
-        took=$(
-            cd "$build"
-            TIMEFORMAT='%U %S'
-            { time ./glass run "${file##*/}" > /dev/null; } 2>&1
-        ) || fail "a run failed: $name: $took"
+        took=$(timed '%U %S' share.txt ./glass run "${file##*/}") || exit 2
         echo "${name%.toml} $took"
     done
 done | awk -v cpu="$cpu" '
-    { t = ($2 + $3) * 1000; if (!($1 in least) || t < least[$1]) least[$1] = t }
+    !($1 in least) || $2 + 0 < least[$1] { least[$1] = $2 + 0 }
     END {
         for (sweeps = 1; sweeps <= 10; sweeps += 9) {
             whole = least["whole_" sweeps]

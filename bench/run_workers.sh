@@ -31,54 +31,25 @@ passes=500
 limit=3.3
 sizes="16 64"
 . "$(dirname "$0")/common.sh"
-read_words "$@"
-check_sizes
-begin_build
-build_crate glass plain 4 0 0 0 0 0 0 0 0 0
-make_tables() {
-    # shellcheck disable=SC2086
-    python3 tools/make_tables.py metropolis --temperatures $2 \
-        --rules "$build/workers_$1_rules.csv" --swaps "$build/workers_$1_swaps.csv" > /dev/null \
-        || fail "make_tables.py failed"
-}
-make_tables 16 "1.0 1.05 1.1 1.15 1.2 1.25 1.3 1.35 1.4 1.45 1.5 1.55 1.6 1.65 1.7 1.75"
-make_tables 2 "1.1 1.2"
-
-# The run file of a size, a number of temperatures and one of sweeps: as many epochs as make the work alike.
-write_run() {
-    local epochs=$((passes * 4096 / $1 ** 3 * 16 / $2 * 10 / $3 / 10 * 10))
-    cat > "$build/workers_$1_$2_$3.toml" <<END
-size = $1
-rule = "metropolis"
-rules = "workers_$2_rules.csv"
-swaps = "workers_$2_swaps.csv"
-couplings = "random"
-sweeps = $3
-seed = 20240611
-samples = 64
-epochs = $((epochs < 10 ? 10 : epochs))
-every = 10
-start = "random"
-spins = false
-END
-}
+begin_runs "$@"
+make_tables workers_16 metropolis 1.0 1.05 1.1 1.15 1.2 1.25 1.3 1.35 1.4 1.45 1.5 1.55 1.6 1.65 1.7 1.75
+make_tables workers_2 metropolis 1.1 1.2
 
 # One run: its name, what it is done with, the milliseconds by the clock, and the digest of its output.
 time_run() {
     local name=$1 with=$2 took
     shift 2
-    took=$(
-        cd "$build"
-        TIMEFORMAT='%R'
-        { time ./glass run "workers_$name.toml" "$@" > workers.txt; } 2>&1
-    ) || fail "a run failed: $name $*: $took"
-    echo "$name $with $(awk '{ print $1 * 1000 }' <<< "$took") $(sha256sum < "$build/workers.txt" | cut -d' ' -f1)"
+    took=$(timed '%R' workers.txt ./glass run "workers_$name.toml" "$@") || exit 2
+    echo "$name $with $took $(sha256sum < "$build/workers.txt" | cut -d' ' -f1)"
 }
 
+# As many epochs as make the work of each run alike.
+rule=metropolis
 for size in $sizes; do
     for sweeps in 10 1; do
-        write_run "$size" 16 "$sweeps"
-        write_run "$size" 2 "$sweeps"
+        for slots in 16 2; do
+            tables=workers_$slots epochs=$(epochs_at "$size" $((16 / slots * 10 / sweeps))) write_run "workers_${size}_${slots}_$sweeps"
+        done
     done
 done
 for _ in $(seq "$turns"); do
