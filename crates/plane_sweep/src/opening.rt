@@ -15,7 +15,7 @@ use glass_edges::NoMemory;
 use lattice_geometry::Lattice;
 use plain_list::Items;
 use pr_generator::Wheel;
-use scalar_rule::{Plan, Start};
+use scalar_rule::{Beginning, Plan, Start};
 use std::alloc::Global;
 
 /// All slots, slot 0 first.
@@ -69,33 +69,37 @@ fn opening_duo(
     requires { slot < slots_of plan.now }
     ensures { IfOk result (BeginsDuo plan.now start bank slot) }
 {
+    let first = Beginning {
+        start,
+        bank,
+        slot,
+        replica: 0,
+    };
+    let second = Beginning {
+        replica: 1,
+        ..first
+    };
     Ok(Duo {
-        first: opening_replica(alloc, plan, start, bank, slot, 0)?,
-        second: opening_replica(alloc, plan, start, bank, slot, 1)?,
+        first: opening_replica(alloc, plan, first)?,
+        second: opening_replica(alloc, plan, second)?,
     })
 }
 
 // One replica of a slot; the label of every sample is the number of the slot.
-fn opening_replica(
-    alloc: Global,
-    plan: &Plan,
-    start: Start,
-    bank: u32,
-    slot: u32,
-    replica: u32,
-) -> Result<Replica, NoMemory>
-    requires slot { slot < slots_of plan.now }
-    requires replica { replica < 2 }
-    ensures { IfOk result (BeginsReplica plan.now start bank slot replica) }
+fn opening_replica(alloc: Global, plan: &Plan, beginning: Beginning) -> Result<Replica, NoMemory>
+    requires slot { beginning.slot < slots_of plan.now }
+    requires replica { beginning.replica < 2 }
+    ensures { IfOk result (BeginsReplica plan.now
+        beginning.start beginning.bank beginning.slot beginning.replica) }
 {
     // A plan has at most 32 slots.
     let _ = plan.slots();
     let mut planes = Vec::with_capacity(alloc, 2 * plan.lattice().size() as usize)?;
-    push_colour(alloc, &mut planes, plan, start, bank, slot, replica, 0)?;
-    push_colour(alloc, &mut planes, plan, start, bank, slot, replica, 1)?;
+    push_colour(alloc, &mut planes, plan, beginning, 0)?;
+    push_colour(alloc, &mut planes, plan, beginning, 1)?;
     Ok(Replica {
         planes: Items::of(planes),
-        labels: labels_of(slot as u8),
+        labels: labels_of(beginning.slot as u8),
     })
 }
 
@@ -111,23 +115,36 @@ fn push_colour(
     alloc: Global,
     planes: &mut Vec<Plane>,
     plan: &Plan,
-    start: Start,
-    bank: u32,
-    slot: u32,
-    replica: u32,
+    beginning: Beginning,
     colour: u32,
 ) -> Result<(), NoMemory>
-    requires replica { replica < 2 }
+    requires replica { beginning.replica < 2 }
     requires colour { colour < 2 }
-    requires before { Each (BeginsPlane plan.now start bank slot replica) (colour * plan.now.size) planes.old.items }
-    ensures { OnOk result (Each (BeginsPlane plan.now start bank slot replica) ((colour + 1) * plan.now.size) planes.new.items) }
+    requires before { Each (BeginsPlane plan.now
+        beginning.start beginning.bank beginning.slot beginning.replica)
+        (colour * plan.now.size) planes.old.items }
+    ensures { OnOk result (Each (BeginsPlane plan.now
+        beginning.start beginning.bank beginning.slot beginning.replica)
+        ((colour + 1) * plan.now.size) planes.new.items) }
 {
     let lattice = plan.lattice();
-    let mut wheel = Wheel::seeded(plan.seed(), 4, slot, replica, bank);
+    let mut wheel = Wheel::seeded(
+        plan.seed(),
+        4,
+        beginning.slot,
+        beginning.replica,
+        beginning.bank,
+    );
     'planes: for z in 0..lattice.size() {
         planes.push(Plane {
-            words: opening_words(alloc, &lattice, start, &mut wheel, colour, z)?,
-            wheel: seeded(plan.seed(), 1, slot, 2 * replica + colour, z),
+            words: opening_words(alloc, &lattice, beginning.start, &mut wheel, colour, z)?,
+            wheel: seeded(
+                plan.seed(),
+                1,
+                beginning.slot,
+                2 * beginning.replica + colour,
+                z,
+            ),
         })?;
     }
     Ok(())

@@ -30,6 +30,6 @@ pub use laws::{
 pub use plain::{PlainOut, plain_run};
 pub use plain_copy::PlainCopy;
 pub use plan::Plan;
-pub use sample::{PlainPair, PlainSlot, Record, Sample, Start};
+pub use sample::{Beginning, PlainPair, PlainSlot, Record, Sample, Start};
 pub use sums::{agreeing, excess, unsatisfied};
 pub use sweeps::{half_sweep, sweep};

@@ -10,7 +10,7 @@ ghost use Rattle.scalar_rule.specs.Shape.{Fits};
 
 use crate::plain_copy::PlainCopy;
 use crate::plan::Plan;
-use crate::sample::{PlainPair, PlainSlot, Sample, Start};
+use crate::sample::{Beginning, PlainPair, PlainSlot, Sample, Start};
 use glass_edges::NoMemory;
 use lattice_geometry::Lattice;
 use multispin_word::bit;
@@ -112,9 +112,19 @@ fn opening_slot(
     requires slot { slot < slots_of plan.now }
     ensures { IfOk result (λ s. s ≡ model.opening_slot plan.now start bank bit slot) }
 {
+    let first = Beginning {
+        start,
+        bank,
+        slot,
+        replica: 0,
+    };
+    let second = Beginning {
+        replica: 1,
+        ..first
+    };
     Ok(PlainSlot {
-        first: opening_copy(alloc, plan, bit, start, bank, slot, 0)?,
-        second: opening_copy(alloc, plan, bit, start, bank, slot, 1)?,
+        first: opening_copy(alloc, plan, bit, first)?,
+        second: opening_copy(alloc, plan, bit, second)?,
     })
 }
 
@@ -123,22 +133,26 @@ fn opening_copy(
     alloc: Global,
     plan: &Plan,
     bit: u32,
-    start: Start,
-    bank: u32,
-    slot: u32,
-    replica: u32,
+    beginning: Beginning,
 ) -> Result<PlainCopy, NoMemory>
     requires bit { bit < 64 }
-    requires slot { slot < slots_of plan.now }
-    requires replica { replica < 2 }
-    ensures { IfOk result (λ copy. copy ≡ model.opening_copy plan.now start bank bit slot replica) }
+    requires slot { beginning.slot < slots_of plan.now }
+    requires replica { beginning.replica < 2 }
+    ensures { IfOk result (λ copy. copy ≡ model.opening_copy plan.now
+        beginning.start beginning.bank bit beginning.slot beginning.replica) }
 {
     // A plan has at most 32 slots.
     let _ = plan.slots();
     Ok(PlainCopy {
-        spins: start_spins(alloc, plan, bit, start, bank, slot, replica)?,
-        wheels: seeded_wheels(alloc, &plan.lattice(), plan.seed(), slot, replica)?,
-        replica: slot as u8,
+        spins: start_spins(alloc, plan, bit, beginning)?,
+        wheels: seeded_wheels(
+            alloc,
+            &plan.lattice(),
+            plan.seed(),
+            beginning.slot,
+            beginning.replica,
+        )?,
+        replica: beginning.slot as u8,
     })
 }
 
@@ -147,19 +161,23 @@ fn start_spins(
     alloc: Global,
     plan: &Plan,
     bit: u32,
-    start: Start,
-    bank: u32,
-    slot: u32,
-    replica: u32,
+    beginning: Beginning,
 ) -> Result<Items<bool>, NoMemory>
     requires bit { bit < 64 }
-    ensures { IfOk result (λ spins. spins ≡ model.start_spins plan.now start bank bit slot replica) }
+    ensures { IfOk result (λ spins. spins ≡ model.start_spins plan.now
+        beginning.start beginning.bank bit beginning.slot beginning.replica) }
 {
     let lattice = plan.lattice();
-    match start {
+    match beginning.start {
         Start::Up => all_up(alloc, &lattice),
         Start::Random => {
-            let mut wheel = Wheel::seeded(plan.seed(), 4, slot, replica, bank);
+            let mut wheel = Wheel::seeded(
+                plan.seed(),
+                4,
+                beginning.slot,
+                beginning.replica,
+                beginning.bank,
+            );
             random_spins(alloc, &lattice, &mut wheel, bit)
         }
     }

@@ -13,6 +13,15 @@ pub enum Start {
     Random,
 }
 
+/// Whose beginning it is, and how its spins start: a replica of a slot in the samples of a bank.
+#[derive(Clone, Copy, Debug, PartialEq, Eq)]
+pub struct Beginning {
+    pub start: Start,
+    pub bank: u32,
+    pub slot: u32,
+    pub replica: u32,
+}
+
 /// The two real replicas of a temperature slot.
 #[derive(Drop)]
 pub struct PlainSlot {

@@ -7,6 +7,6 @@ use Rattle.plane_sweep.proofs.opening.push_colour.Given as goal
 
 abbrev pub invariant-planes : goal.invariant-planes
 invariant-planes l = record {
-  planes : Each (BeginsPlane l.plan l.start l.bank l.slot l.replica) (l.colour * l.plan.size + l.z) l.planes.items;
-  wheel : l.start ≡ Random → l.wheel ≡ advanced (start_words l.plan.seed l.slot l.replica l.bank) (2 * (l.plan.size * l.plan.size) * l.z);
+  planes : Each (BeginsPlane l.plan l.beginning.start l.beginning.bank l.beginning.slot l.beginning.replica) (l.colour * l.plan.size + l.z) l.planes.items;
+  wheel : l.beginning.start ≡ Random → l.wheel ≡ advanced (start_words l.plan.seed l.beginning.slot l.beginning.replica l.beginning.bank) (2 * (l.plan.size * l.plan.size) * l.z);
 }
