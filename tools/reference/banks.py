@@ -3,8 +3,7 @@ bytes of their checkpoint. Sample b of the whole is bit b mod 64 of bank b div 6
 from collections import namedtuple
 from functools import lru_cache
 
-from reference.words import monus
-from reference.seeding import big_bytes
+from reference.words import big_bytes, monus
 from reference.opening import slots_of
 from reference.epoch import measured_from, serial
 from reference.checkpoint import encoding, encoding_len, sealed

@@ -3,8 +3,7 @@
 `states` is a function from a sample's number to its state, as in the definitions."""
 from hashlib import sha256
 
-from reference.words import monus, slice_index_or, table
-from reference.seeding import big_bytes
+from reference.words import big_bytes, monus, slice_index_or, table, words_32, words_64
 from reference.lattice import from_compact, half_plane, half_volume
 from reference.sums import spin
 from reference.opening import slots_of
@@ -18,14 +17,6 @@ def word_of(test, n):
 
 def site_of(l, c, z, k):
     return from_compact(l, c * half_volume(l) + z * half_plane(l) + k)
-
-
-def words_32(words):
-    return b"".join(big_bytes(4, word) for word in words)
-
-
-def words_64(words):
-    return b"".join(big_bytes(8, word) for word in words)
 
 
 def spin_word(spins, site):

@@ -9,6 +9,7 @@ from reference.opening import PlainCopy, PlainPair, PlainSlot, Record, Sample, d
 from reference.exchange import cold_side, drawn_pair, hot_side
 
 NOTHING = PlainCopy((), (), 0)
+no_record = Record(0, 0, 0, 0, 0)
 
 
 def slot_at(slots, t):
@@ -88,6 +89,10 @@ def serial(plan, s, e):
 
 def is_recorded(every, e):
     return e % every == monus(every, 1)
+
+
+def record_at(records, j):
+    return slice_index_or(records, j, no_record)
 
 
 def records_at(measured, samples, e):

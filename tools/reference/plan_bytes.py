@@ -2,10 +2,9 @@
 import hashlib
 
 from reference.lattice import bond_count
-from reference.seeding import big_bytes
 from reference.bonds import bond_word
 from reference.opening import slots_of
-from reference.words import table
+from reference.words import big_bytes, table, words_64
 
 
 def kind_number(rule):
@@ -17,13 +16,9 @@ def header_bytes(plan):
             + big_bytes(4, plan.sweeps) + big_bytes(8, plan.seed))
 
 
-def number_bytes(numbers):
-    return b"".join(big_bytes(8, n) for n in numbers)
-
-
 def entry_bytes(entries):
     """`pair_bytes` of CanonicalPlan.antt."""
-    return big_bytes(4, len(entries)) + number_bytes(entries)
+    return big_bytes(4, len(entries)) + words_64(entries)
 
 
 def bond_words(couplings):
@@ -31,8 +26,8 @@ def bond_words(couplings):
 
 
 def canonical(plan):
-    return (header_bytes(plan) + b"".join(map(number_bytes, plan.rows)) + b"".join(map(entry_bytes, plan.swaps))
-            + number_bytes(bond_words(plan.couplings)))
+    return (header_bytes(plan) + b"".join(map(words_64, plan.rows)) + b"".join(map(entry_bytes, plan.swaps))
+            + words_64(bond_words(plan.couplings)))
 
 
 def canonical_length(plan):

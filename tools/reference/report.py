@@ -1,7 +1,7 @@
 """The report of a run: glass_engine/specs/Report.antt, over the lines of report_text/specs/Lines.antt."""
-from reference.words import slice_index_or, table
-from reference.opening import Record, slots_of
-from reference.epoch import is_recorded, measured_from, serial, slot_at
+from reference.words import table
+from reference.opening import slots_of
+from reference.epoch import is_recorded, measured_from, record_at, serial, slot_at
 from reference.plain import spin_digits
 from reference.positions import floor_of, uneven_record
 from reference.uneven import all_ready
@@ -31,10 +31,6 @@ def spins_head(sample, slot, copy):
 
 def spins_line(l, sample, slot, copy, spins):
     return spins_head(sample, slot, copy) + spin_digits(l, spins) + "\n"
-
-
-def record_at(records, t):
-    return slice_index_or(records, t, Record(0, 0, 0, 0, 0))
 
 
 def sample_rows(epoch, sample, records):

@@ -2,11 +2,7 @@
 import hashlib
 from functools import lru_cache
 
-from reference.words import table
-
-
-def big_bytes(n, x):
-    return (x % 256 ** n).to_bytes(n, "big")
+from reference.words import big_bytes, table
 
 
 def block_message(seed, kind, a, b, c, j):

@@ -25,6 +25,18 @@ def slice_set(xs, i, x):
 
 
 
+def big_bytes(n, x):
+    return (x % 256 ** n).to_bytes(n, "big")
+
+
+def words_32(words):
+    return b"".join(big_bytes(4, word) for word in words)
+
+
+def words_64(words):
+    return b"".join(big_bytes(8, word) for word in words)
+
+
 def word_sum(x, y):
     return (x + y) % 2 ** 32
 

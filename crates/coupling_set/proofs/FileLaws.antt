@@ -1,25 +1,22 @@
 -- What is read is a file, and a file is read as what it was written from.
-use Rattle.std.proofs.Common.{inl, inr, ◌≡◌, ℕ, ◌+◌, ◌-◌, ◌*◌, ◌/◌, ◌%◌, ◌<◌, ◌≤◌, ◌^◌, Bool, true, false, ◌&&◌, List, ◌++◌, length, take, drop, get_or, get_or-drop, Option, Some, None, refl, sym, ap, ◌∙◌, arith}
-use Rattle.std.specs.Prelude.{◌==◌, nat_lt, nat_le, cond}
-use Rattle.std.specs.Int.{w32, from_be_bytes}
-use Rattle.std.specs.Str.{bytes_eq}
-use Rattle.std.proofs.lemmas.Bool.{cases_lt, eqb-true}
-use Rattle.std.proofs.lemmas.Bool.Decides.{nat_tests}
+use Rattle.std.proofs.Common.{inl, inr, ◌≡◌, ℕ, ◌+◌, ◌-◌, ◌*◌, ◌/◌, ◌%◌, ◌<◌, ◌≤◌, ◌^◌, false, ◌&&◌, List, ◌++◌, length, take, drop, get_or, get_or-drop, Option, Some, None, refl, sym, ap, ◌∙◌, arith}
+use Rattle.std.specs.Prelude.{◌==◌, nat_le}
+use Rattle.std.proofs.lemmas.Bool.{and_parts, cases_lt, eqb-true, eq-eqb, leb-true, le-leb, lt-ltb, le-ltb}
 use Rattle.std.proofs.lemmas.Slice.Eq.{bytes_eq-Decides}
-use Rattle.std.proofs.lemmas.List.{take_at, drop_at, take-append-drop, length-append, length-take, length-drop, drop-drop, get_or-take, get_or_past, get_or_append_left, append_assoc}
-use Rattle.std.proofs.lemmas.Nat.{be_bytes_4, from_be_bytes-to_be_bytes_4, mul-add-lt, div_below, mod_below, div-add-mod', div-mul-add, mod-mul-add}
+use Rattle.std.proofs.lemmas.List.{take_at, drop_at, take-append-drop, length-append, length-take, length-drop, drop-drop, get_or-take, get_or_append_left, append_assoc}
+use Rattle.std.proofs.lemmas.Nat.{mul-add-lt, div_below, mod_below, div-add-mod', div-mul-add, mod-mul-add}
 use Rattle.std.proofs.Math.Nat.{mul_comm}
 use Rattle.byteorder.specs.Endian.{big_bytes}
 use Rattle.sha2.specs.Sha256.{sha256}
 use Rattle.sha2.proofs.Facts256.{length-sha256}
-use Rattle.glass_edges.specs.Refusals.{or_else}
+use Rattle.glass_edges.proofs.FirstRefusals.{or-none, if-none}
+use Rattle.glass_edges.proofs.NumberBytes.{IsBytes, bytes-drop, word-back, word-read, join}
 use Rattle.spin_model.specs.Couplings.{Bonds}
 use Rattle.spin_model.specs.Lattice.{IsLawfulSize, bond_count}
 use Rattle.spin_model.specs.Steps.{table}
 use Rattle.spin_model.specs.Words.{is_set}
 use Rattle.spin_model.proofs.Tables.{length-table, get_or-table, table-same, table-of_items}
 use Rattle.multispin_word.proofs.Bits.{is_set-zero}
-use Rattle.coupling_set.specs.declared.refused.CouplingsRefused.{CouplingsRefused}
 use Rattle.glass_edges.specs.Sealed.{body_of, digest_of}
 use Rattle.coupling_set.specs.CouplingsFile.{magic, sample_bytes, coupling_byte, coupling_bytes, body_with, file_with, file_bytes, file_length, size_in, samples_in, byte_at, of_file, short, other_kind, other_size, other_samples, other_length, damaged, file_refusal, IsFileOf}
 use Rattle.coupling_set.proofs.BondsAsWords.{word-of_bits, is_set-word_of, word_of-same}
@@ -36,75 +33,39 @@ pub record HasForm (l : ℕ) (bytes : List ℕ) : Type 0 where
   pub len : length bytes ≡ file_length l (samples_in bytes)
   pub digest : digest_of bytes ≡ sha256 (body_of bytes)
 
-both-none : {E : Type 0} (a b : Option E) → None ≡ or_else a b → (None ≡ a) × (None ≡ b)
-both-none None b e = (refl, e)
-both-none (Some x) b e = absurd cc
-
-none-both : {E : Type 0} (a b : Option E) → None ≡ a → None ≡ b → None ≡ or_else a b
-none-both a b p q = rw (← p) q
-
-passed : (b : Bool) (x : CouplingsRefused) → None ≡ cond b None (Some x) → b ≡ true
-passed true x e = refl
-passed false x e = absurd cc
-
-both-true : (a b : Bool) → (a && b) ≡ true → (a ≡ true) × (b ≡ true)
-both-true true b e = (refl, e)
-both-true false b e = absurd cc
-
-same-text : (a b : List ℕ) → a ≡ b → bytes_eq a b ≡ true
-same-text a b e = (bytes_eq-Decides a b).1 e
-
-is-same : (a b : List ℕ) → bytes_eq a b ≡ true → a ≡ b
-is-same a b e = (bytes_eq-Decides a b).0 e
-
-eq-true : (a b : ℕ) → a ≡ b → (a == b) ≡ true
-eq-true a b e = grind (arith, nat_tests)
-
-le-true : (a b : ℕ) → a ≤ b → nat_le a b ≡ true
-le-true a b h = grind (arith, nat_tests)
-
-true-le : (a b : ℕ) → nat_le a b ≡ true → a ≤ b
-true-le a b h = grind (arith, nat_tests)
-
-lt-true : (a b : ℕ) → a < b → nat_lt a b ≡ true
-lt-true a b h = grind (arith, nat_tests)
-
-lt-false : (a b : ℕ) → b ≤ a → nat_lt a b ≡ false
-lt-false a b h = grind (arith, nat_tests)
-
 pub not-both : {E : Type 0} (e : E) (found : Option E) → Some e ≡ found → None ≡ found → ⊥
 not-both e found some none = absurd cc
 
 pub refusal-form : (l : ℕ) (bytes : List ℕ) → None ≡ file_refusal l bytes → HasForm l bytes
 unfolding file_refusal other_kind other_size other_samples other_length damaged
 refusal-form l bytes none =
-    let a = both-none (short bytes) _ none in
-    let b = both-none (other_kind bytes) _ a.1 in
-    let c = both-none (other_size l bytes) _ b.1 in
-    let d = both-none (other_samples bytes) _ c.1 in
-    let e = both-none (other_length l bytes) _ d.1 in
-    let samples = both-true (nat_le 1 (samples_in bytes)) (nat_le (samples_in bytes) 256) (passed _ _ d.0) in
+    let a = or-none (short bytes) _ none in
+    let b = or-none (other_kind bytes) _ a.1 in
+    let c = or-none (other_size l bytes) _ b.1 in
+    let d = or-none (other_samples bytes) _ c.1 in
+    let e = or-none (other_length l bytes) _ d.1 in
+    let samples = and_parts (nat_le 1 (samples_in bytes)) (nat_le (samples_in bytes) 256) (if-none _ None _ d.0).0 in
     record {
-      kind = is-same (take 8 bytes) magic (passed _ _ b.0);
-      size = eqb-true _ _ (passed _ _ c.0);
-      some = true-le 1 (samples_in bytes) samples.0;
-      few = true-le (samples_in bytes) 256 samples.1;
-      len = eqb-true _ _ (passed _ _ e.0);
-      digest = is-same (digest_of bytes) (sha256 (body_of bytes)) (passed _ _ e.1);
+      kind = (bytes_eq-Decides (take 8 bytes) magic).0 (if-none _ None _ b.0).0;
+      size = eqb-true _ _ (if-none _ None _ c.0).0;
+      some = leb-true 1 (samples_in bytes) samples.0;
+      few = leb-true (samples_in bytes) 256 samples.1;
+      len = eqb-true _ _ (if-none _ None _ e.0).0;
+      digest = (bytes_eq-Decides (digest_of bytes) (sha256 (body_of bytes))).0 (if-none _ None _ e.1).0;
     }
 
 pub form-refusal : (l : ℕ) (bytes : List ℕ) → HasForm l bytes → None ≡ file_refusal l bytes
 unfolding file_refusal short other_kind other_size other_samples other_length damaged
 form-refusal l bytes form =
-    let long = lt-false (length bytes) 48 (omega (arith, form.len)) in
+    let long = le-ltb (length bytes) 48 (omega (arith, form.len)) in
     rw (
       long,
-      same-text (take 8 bytes) magic form.kind,
-      eq-true (size_in bytes) l form.size,
-      le-true 1 (samples_in bytes) form.some,
-      le-true (samples_in bytes) 256 form.few,
-      eq-true (length bytes) (file_length l (samples_in bytes)) form.len,
-      same-text (digest_of bytes) (sha256 (body_of bytes)) form.digest,
+      (bytes_eq-Decides (take 8 bytes) magic).1 form.kind,
+      eq-eqb (size_in bytes) l form.size,
+      le-leb 1 (samples_in bytes) form.some,
+      le-leb (samples_in bytes) 256 form.few,
+      eq-eqb (length bytes) (file_length l (samples_in bytes)) form.len,
+      (bytes_eq-Decides (digest_of bytes) (sha256 (body_of bytes))).1 form.digest,
     ) refl
 
 -- ---- the parts
@@ -143,25 +104,14 @@ parts-joined bytes m z t behind p =
 
 -- ---- bytes and bits
 
-abbrev pub IsBytes : List ℕ → Type 0
-IsBytes bytes = (i : ℕ) → get_or bytes i 0 < 256
-
-word-back : (bytes : List ℕ) (place : ℕ) → IsBytes bytes → place + 4 ≤ length bytes → big_bytes 4 (from_be_bytes w32 (take 4 (drop place bytes))) ≡ take 4 (drop place bytes)
-word-back bytes place fits long =
-    be_bytes_4 (take 4 (drop place bytes)) _ (omega (arith, length-take 4 (drop place bytes), length-drop place bytes))
-    (λ i. elim (cases_lt i 4) [
-      | inl lt ↦ rw (get_or-take 4 (drop place bytes) i 0 lt, get_or-drop place bytes i 0) (fits (place + i))
-      | inr le ↦ rw (get_or_past (take 4 (drop place bytes)) i 0 (omega (arith, length-take 4 (drop place bytes)))) (omega arith)
-    ]) refl
-
 -- a byte of a sample that the file has
 byte_at-held : (l : ℕ) (bytes : List ℕ) (b k : ℕ) → b < samples_in bytes → byte_at l bytes b k ≡ get_or bytes (16 + b * sample_bytes l + k) 0
 unfolding byte_at
-byte_at-held l bytes b k held = rw (lt-true b (samples_in bytes) held) refl
+byte_at-held l bytes b k held = rw (lt-ltb b (samples_in bytes) held) refl
 
 byte_at-absent : (l : ℕ) (bytes : List ℕ) (b k : ℕ) → samples_in bytes ≤ b → byte_at l bytes b k ≡ 0
 unfolding byte_at
-byte_at-absent l bytes b k absent = rw (lt-false b (samples_in bytes) absent) refl
+byte_at-absent l bytes b k absent = rw (le-ltb b (samples_in bytes) absent) refl
 
 pub of_file-absent : (l : ℕ) (bytes : List ℕ) (b n : ℕ) → samples_in bytes ≤ b → of_file l bytes b n ≡ false
 of_file-absent l bytes b n absent = ap (λ byte. is_set byte (7 - n % 8)) (byte_at-absent l bytes b (n / 8) absent) ∙ is_set-zero (7 - n % 8)
@@ -204,9 +154,6 @@ stored-all l bytes lawful fits form =
 grouped : (m z t s d : List ℕ) → m ++ (z ++ (t ++ (s ++ d))) ≡ (m ++ (z ++ (t ++ s))) ++ d
 grouped m z t s d = simp append_assoc
 
-same-joined : (a b c d : List ℕ) → a ≡ c → b ≡ d → a ++ b ≡ c ++ d
-same-joined a b c d p q = cc
-
 pub form-file : (l : ℕ) (bytes : List ℕ) → IsLawfulSize l → IsBytes bytes → HasForm l bytes → bytes ≡ file_bytes l (samples_in bytes) (of_file l bytes)
 unfolding file_with
 form-file l bytes lawful fits form =
@@ -216,14 +163,14 @@ form-file l bytes lawful fits form =
     let d = digest_of bytes in
     let parts : InParts bytes magic (big_bytes 4 l) (big_bytes 4 n) (drop 16 bytes) = record {
       kind = form.kind;
-      size = sym (ap (big_bytes 4) (sym form.size) ∙ word-back bytes 8 fits (omega (arith, form.len)));
-      samples = sym (word-back bytes 12 fits (omega (arith, form.len)));
+      size = sym (ap (big_bytes 4) (sym form.size) ∙ word-back (drop 8 bytes) (bytes-drop 8 bytes fits) (omega (arith, form.len, length-drop 8 bytes)));
+      samples = sym (word-back (drop 12 bytes) (bytes-drop 12 bytes fits) (omega (arith, form.len, length-drop 12 bytes)));
       rest = refl;
     } in
     let end : 16 + count ≡ length bytes - 32 = omega (arith, form.len) in
     let behind : drop count (drop 16 bytes) ≡ d = drop-drop count 16 bytes ∙ ap (λ i. drop i bytes) end in
     let rest : drop 16 bytes ≡ stored ++ d = sym (take-append-drop count (drop 16 bytes))
-    ∙ same-joined _ _ _ _ (stored-all l bytes lawful fits form) behind in
+    ∙ join _ _ _ _ (stored-all l bytes lawful fits form) behind in
     let whole : bytes ≡ body_with l n stored ++ d = parts-joined bytes _ _ _ _ parts
     ∙ ap (λ x. magic ++ (big_bytes 4 l ++ (big_bytes 4 n ++ x))) rest ∙ grouped magic (big_bytes 4 l) (big_bytes 4 n) stored d in
     let digest : length d ≡ 32 = ap length form.digest ∙ length-sha256 (body_of bytes) in
@@ -266,7 +213,7 @@ unfolding coupling_bytes
 length-stored l n bonds = length-table _ (n * sample_bytes l)
 
 whole-samples : (l n : ℕ) (stored bytes : List ℕ) → n ≤ 256 → IsWhole l n stored bytes → samples_in bytes ≡ n
-whole-samples l n stored bytes few whole = ap (from_be_bytes w32) whole.parts.samples ∙ from_be_bytes-to_be_bytes_4 n (omega arith)
+whole-samples l n stored bytes few whole = word-read n (drop 12 bytes) (omega arith) whole.parts.samples
 
 pub file-form : (l n : ℕ) (bonds : ℕ → Bonds) (bytes : List ℕ) → IsLawfulSize l → IsFileOf l n bonds bytes → HasForm l bytes
 file-form l n bonds bytes lawful is =
@@ -274,7 +221,7 @@ file-form l n bonds bytes lawful is =
     let samples = whole-samples l n _ bytes is.few whole in
     record {
       kind = whole.parts.kind;
-      size = ap (from_be_bytes w32) whole.parts.size ∙ from_be_bytes-to_be_bytes_4 l (omega arith);
+      size = word-read l (drop 8 bytes) (omega arith) whole.parts.size;
       some = rw samples is.some;
       few = rw samples is.few;
       len = whole.len ∙ ap (λ k. 48 + k) (length-stored l n bonds) ∙ ap (λ k. 48 + k * sample_bytes l) (sym samples);

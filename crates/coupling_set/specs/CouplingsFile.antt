@@ -1,10 +1,10 @@
 -- A couplings file: the couplings of 1 to 256 disorder samples on one lattice, as bytes; and what bytes say that are such a
 -- file, or the first reason to refuse them. Numbers are big-endian and unsigned.
-use Rattle.std.specs.Prelude.{◌≡◌, ℕ, ◌+◌, ◌-◌, ◌*◌, ◌/◌, ◌%◌, ◌≤◌, ◌==◌, ◌&&◌, nat_le, nat_lt, if◌then◌else◌, List, ◌++◌, length, take, drop, codes, slice_index, Option, Some, None, Result}
-use Rattle.std.specs.Int.{w32, from_be_bytes}
+use Rattle.std.specs.Prelude.{◌≡◌, ℕ, ◌+◌, ◌-◌, ◌*◌, ◌/◌, ◌%◌, ◌≤◌, ◌==◌, ◌&&◌, nat_le, nat_lt, if◌then◌else◌, List, ◌++◌, length, take, codes, slice_index, Option, Some, None, Result}
 use Rattle.std.specs.Str.{bytes_eq}
 use Rattle.byteorder.specs.Endian.{big_bytes}
 use Rattle.sha2.specs.Sha256.{sha256}
+use Rattle.glass_edges.specs.Numbers.{number_at}
 use Rattle.glass_edges.specs.Refusals.{or_else, unless}
 use Rattle.glass_edges.specs.Sealed.{body_of, digest_of}
 use Rattle.spin_model.specs.Couplings.{Bonds, plus}
@@ -57,10 +57,10 @@ written couplings n = file_bytes couplings.size n (bonds_of couplings)
 -- ---- what bytes say
 
 abbrev pub size_in : List ℕ → ℕ
-size_in bytes = from_be_bytes w32 (take 4 (drop 8 bytes))
+size_in bytes = number_at 4 8 bytes
 
 abbrev pub samples_in : List ℕ → ℕ
-samples_in bytes = from_be_bytes w32 (take 4 (drop 12 bytes))
+samples_in bytes = number_at 4 12 bytes
 
 -- byte k of a sample, and 0 where the file hasn't the sample
 unfoldable pub byte_at : ℕ → List ℕ → ℕ → ℕ → ℕ

@@ -1,13 +1,12 @@
 //! The tests of a couplings file, in their order.
 
-ghost use Rattle.std.specs.Prelude.{◌≡◌, ℕ, ◌+◌, ◌≤◌, length, take, drop, IfNone, IfSome};
-ghost use Rattle.std.specs.Int.{w32, from_be_bytes};
+ghost use Rattle.std.specs.Prelude.{◌≡◌, ◌≤◌, length, IfNone, IfSome};
 ghost use Rattle.coupling_set.specs.CouplingsFile as model;
 ghost use Rattle.coupling_set.specs.CouplingsFile.{sample_bytes, file_length, samples_in, IsNamed};
 ghost use Rattle.spin_model.specs.Lattice.{IsLawfulSize};
 
 use crate::refused::CouplingsRefused;
-use glass_edges::stored_digest;
+use glass_edges::{stored_digest, u32_at};
 use sha2::{Digest, Sha256};
 
 /// The most samples that a file has.
@@ -28,15 +27,6 @@ pub(crate) fn samples_in(bytes: &[u8]) -> u32
     ensures { result ≡ samples_in bytes.now }
 {
     u32_at(bytes, 12)
-}
-
-// The number in the four bytes from a place.
-fn u32_at(bytes: &[u8], place: usize) -> u32
-    requires { place + 4 ≤ length bytes.now }
-    ensures { result ≡ from_be_bytes w32 (take 4 (drop place bytes.now)) }
-{
-    let piece = &bytes[place..place + 4];
-    u32::from_be_bytes([piece[0], piece[1], piece[2], piece[3]])
 }
 
 #[tactic(auto, unfolding(crate::specs::CouplingsFile::short))]

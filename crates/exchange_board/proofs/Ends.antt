@@ -1,5 +1,5 @@
 -- A board with no slot in work, taken apart.
-use Rattle.std.proofs.Common.{arith, ◌≡◌, ◌≢◌, inl, inr, ℕ, ◌+◌, ◌<◌, ◌≤◌, Bool, true, false, cond, List, [], length, map, get_or, set, All, Option, Some, None, refl, sym, ap, ap₂, ◌∙◌, subst}
+use Rattle.std.proofs.Common.{arith, ◌≡◌, ◌≢◌, inl, inr, ℕ, ◌+◌, ◌<◌, ◌≤◌, true, List, [], length, map, get_or, set, All, Option, Some, None, refl, sym, ap, ap₂, ◌∙◌, subst}
 use Rattle.std.specs.Prelude.{is_some, ◌==◌}
 use Rattle.std.specs.Arc.{arc_value}
 use Rattle.std.proofs.lemmas.Bool.{cases_lt, false≢true}
@@ -31,9 +31,9 @@ use Rattle.exchange_board.proofs.Keeping.{place-read, places-long, taken-home}
 use Rattle.exchange_board.proofs.RowPlaces.{set-here}
 use Rattle.exchange_board.proofs.RowLists.{rows-whole}
 use Rattle.exchange_board.proofs.Cells.{floor-deep}
-
-pub no_duo : Duo
-no_duo = record { first = record { planes = []; labels = [] }; second = record { planes = []; labels = [] } }
+use Rattle.std.proofs.lemmas.Option.{same_Some}
+use Rattle.plane_sweep.proofs.Empties.{no_duo}
+use Rattle.scalar_rule.proofs.UnevenReached.{phase-waits}
 
 home-or : (h : Option Home) → phase_of h ≢ 1 → is_some h ≡ true
 home-or None h = absurd (h refl)
@@ -44,11 +44,7 @@ is-home None h = absurd (false≢true h)
 is-home (Some m) h = (m, refl)
 
 phase-told : (h : Option Home) (m : Home) → h ≡ Some m → (phase_of h == 2) ≡ is_some m.totals
-phase-told h m is = ap (λ x. phase_of x == 2) is ∙ told (is_some m.totals)
-  where
-    told : (a : Bool) → (cond a 2 0 == 2) ≡ a
-    told true = refl
-    told false = refl
+phase-told h m is = ap (λ x. phase_of x == 2) is ∙ phase-waits (is_some m.totals)
 
 -- no slot in work: all are at home
 pub all-home : (b : board.Inside) → KeepsBoard b → NoneOut (places_of b) → (t : ℕ) (d : Slot) → t < length b.slots → is_some (get_or b.slots t d).home ≡ true
@@ -154,9 +150,6 @@ end-is b duos keeps ended moved =
           (λ t h. let e = ended t (omega arith) in let e0 = e.0 in let e1 = e.1 in omega arith);
     }
 
-some-same : {A : Type 0} {x y : A} → Some x ≡ Some y → x ≡ y
-some-same e = cc
-
 -- one more slot is moved
 pub moved-more : (first slots : List Slot) (duos : List Duo) (t : ℕ) (s now : Slot) (h : Home) → t < length slots → t < length duos → length slots ≡ length first → s ≡ get_or slots t s → s.home ≡ Some h
     → ((k : ℕ) (d : Slot) → t ≤ k → get_or slots k d ≡ get_or first k d)
@@ -167,6 +160,6 @@ moved-more first slots duos t s now h in_slots in_duos long read is rest done k 
   | inr more ↦
       let here : k ≡ t = omega arith in
       let first_is : get_or first k d ≡ s = ap (λ i. get_or first i d) here ∙ (sym (rest t d (omega arith)) ∙ (get_or_default slots t d s in_slots ∙ sym read)) in
-      let same : h ≡ m = some-same (sym is ∙ (ap (λ (x : Slot). x.home) (sym first_is) ∙ there)) in
+      let same : h ≡ m = same_Some _ _ (sym is ∙ (ap (λ (x : Slot). x.home) (sym first_is) ∙ there)) in
       set-here duos t k h.duo e here in_duos ∙ ap (λ (x : Home). x.duo) same
 ]

@@ -25,6 +25,7 @@ use Rattle.exchange_board.specs.BoardKeeps.{phase_of, place_of, places_of, board
 use Rattle.exchange_board.proofs.Machines.{OneMoved, TwoMoved, taken-rule}
 use Rattle.exchange_board.proofs.RowPlaces.{set-here, rows-same}
 use Rattle.plane_sweep.proofs.LabelSteps.{HaveSameLabels, same-labels, permutes-kept}
+use Rattle.std.proofs.lemmas.Option.{same_Some}
 
 pub one-set : (ps : List Stage) (t : ℕ) (x : Stage) → t < length ps → OneMoved t x.epoch x.phase (epochs ps) (phases ps) (epochs (set ps t x)) (phases (set ps t x))
 one-set ps t x h = λ j. elim (eqb_tells j t) [
@@ -196,9 +197,6 @@ pub ready-home : (h : Option Home) → phase_of h ≡ 0 → (m : Home) × (h ≡
 ready-home None h = absurd (omega arith)
 ready-home (Some m) h = (m, refl, option-tells m.totals h)
 
-some-same : {A : Type 0} {x y : A} → Some x ≡ Some y → x ≡ y
-some-same e = cc
-
 -- a slot at rest has a home with its content
 pub record IsRested (o : Origin) (t e : ℕ) (h : Home) : Type 0 where
   pub same : arc_value h.share ≡ o
@@ -211,7 +209,7 @@ rested b t s h keeps known read is_ready some =
     let o : Origin = arc_value b.origin in
     let phase : phase_of s.home ≡ 0 = sym (ap (λ (p : Stage). p.phase) (place-read b t s known read)) ∙ is_ready in
     let m = ready-home s.home phase in
-    let same : m.0 ≡ h = some-same (sym m.1 ∙ some) in
+    let same : m.0 ≡ h = same_Some _ _ (sym m.1 ∙ some) in
     let none : is_some h.totals ≡ false = ap (λ (z : Home). is_some z.totals) (sym same) ∙ m.2 in
     let home = taken-home b t s h keeps known read some in
     record { same = home.same; fits = home.fits; right = λ i small. home.right i small ∙ ap (rule_content o i t s.epoch) none }

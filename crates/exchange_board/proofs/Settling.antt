@@ -34,6 +34,7 @@ use Rattle.exchange_board.proofs.RowPlaces.{set-here, Recorded, rows-written}
 use Rattle.plane_sweep.proofs.LabelSteps.{HaveSameLabels, same-labels, exchange-permutes}
 use Rattle.exchange_board.proofs.Keeping.{two-set, homes-set, place-read, places-long, taken-home}
 use Rattle.exchange_board.proofs.Arriving.{Coming, known-of, Written, value-is, came-labels, taken-same}
+use Rattle.std.proofs.lemmas.Bool.{not_from_false, not_from_true}
 
 abbrev waiting : Bool → ℕ
 waiting a = cond a 2 0
@@ -60,12 +61,6 @@ side-half plan b e t pair own other = refl
 half-same : (plan : Plan) (b k k' : ℕ) (a a' : Bool) (w w' : PlainPair) (x x' y y' : PlainSlot) → k ≡ k' → a ≡ a' → w ≡ w' → x ≡ x' → y ≡ y' → half plan b k a w x y ≡ half plan b k' a' w' x' y'
 half-same plan b k k' a a' w w' x x' y y' ek ea ew ex ey = rw (ek, ea, ew, ex, ey) refl
 
-not-true : (a : Bool) → a ≡ true → not a ≡ false
-not-true a h = rw h refl
-
-not-false : (a : Bool) → a ≡ false → not a ≡ true
-not-false a h = rw h refl
-
 -- the pair of t and u at e, where both are at e
 pub record PairAt (o : Origin) (ps : List Stage) (t u e k : ℕ) : Type 0 where
   pub known : k + 1 < slots_in o
@@ -85,7 +80,7 @@ pair-at o ps t u e known has u_is bk et eu st su = elim (sides t e) [
         low = l.low;
         since = st;
         one_of = inl refl;
-        other = λ j c n. elim c [ inl a ↦ absurd (n a) | inr a ↦ subst (λ i. has_turn i e ≡ false) (sym a) (bk.low ∙ not-true _ l.low) ];
+        other = λ j c n. elim c [ inl a ↦ absurd (n a) | inr a ↦ subst (λ i. has_turn i e ≡ false) (sym a) (bk.low ∙ not_from_true _ l.low) ];
       } in subst (λ k. PairAt o ps t u e k) (sym l.pair_is) here
   | inr l ↦
       let pos = high-partner (slots_in o) t e l has in
@@ -93,7 +88,7 @@ pair-at o ps t u e known has u_is bk et eu st su = elim (sides t e) [
       let here : PairAt o ps t u e u = record {
         known = omega arith;
         epoch = eu;
-        low = bk.low ∙ not-false _ l.low;
+        low = bk.low ∙ not_from_false _ l.low;
         since = su;
         one_of = inr refl;
         other = λ j c n. elim c [ inl a ↦ subst (λ i. has_turn i e ≡ false) (sym a) l.low | inr a ↦ absurd (n a) ];
@@ -284,9 +279,9 @@ settled-keeps b s plan rs u k was now mate y own low c written finds read low_is
       | inr d ↦ same-labels _ _ (ap₂ (λ a v. rule_content o i j a (v == 2)) d.2 d.3)
     ] in
     elim (sides t e) [
-      | inl l ↦ exchange-permutes p (slots_in o) i e t u (generators p (starts o i) (pair_of t e) e) F G _ _ f.in_range bk.known l.low (bk.low ∙ not-true _ l.low) bk.pair_is was_t' was_u
+      | inl l ↦ exchange-permutes p (slots_in o) i e t u (generators p (starts o i) (pair_of t e) e) F G _ _ f.in_range bk.known l.low (bk.low ∙ not_from_true _ l.low) bk.pair_is was_t' was_u
           (at_t ∙ ready_t i) (at_u ∙ (ready_u i ∙ ap (λ w. side p i e u w (arrived p (starts o i) e u) (arrived p (starts o i) e t)) (ap (λ n. generators p (starts o i) n e) bk.pair_is))) rest (keeps.labels i h)
-      | inr l ↦ exchange-permutes p (slots_in o) i e u t (generators p (starts o i) (pair_of u e) e) F G _ _ bk.known f.in_range (bk.low ∙ not-false _ l.low) l.low (sym bk.pair_is) was_u was_t'
+      | inr l ↦ exchange-permutes p (slots_in o) i e u t (generators p (starts o i) (pair_of u e) e) F G _ _ bk.known f.in_range (bk.low ∙ not_from_false _ l.low) l.low (sym bk.pair_is) was_u was_t'
           (at_u ∙ ready_u i) (at_t ∙ (ready_t i ∙ ap (λ w. side p i e t w (arrived p (starts o i) e t) (arrived p (starts o i) e u)) (ap (λ n. generators p (starts o i) n e) (sym bk.pair_is)))) (λ j nu nt. rest j nt nu) (keeps.labels i h)
     ] in
     let recorded_two : Recorded t e (numbers ps) (numbers qs) = λ j. elim (moved j) [

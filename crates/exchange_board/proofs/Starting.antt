@@ -1,5 +1,5 @@
 -- The slots of a board that begins.
-use Rattle.std.proofs.Common.{arith, ◌≡◌, inl, inr, ◌⊎◌, ℕ, ◌+◌, ◌-◌, ◌*◌, ◌/◌, ◌%◌, ◌<◌, ◌≤◌, Bool, true, false, cond, List, [], ◌∷◌, ◌++◌, length, map, take, get_or, All, Option, refl, sym, ap, ap₂, ◌∙◌, subst}
+use Rattle.std.proofs.Common.{arith, ◌≡◌, inl, inr, ℕ, ◌+◌, ◌-◌, ◌*◌, ◌/◌, ◌%◌, ◌<◌, ◌≤◌, Bool, true, false, cond, List, [], ◌∷◌, ◌++◌, length, map, take, get_or, All, Option, refl, sym, ap, ap₂, ◌∙◌, subst}
 use Rattle.std.specs.Prelude.{IfSome, IsSomeAnd, is_some, ◌==◌}
 use Rattle.std.specs.Arc.{arc_value}
 use Rattle.std.proofs.Math.ListN.{get_or-map as get_or-map_of}
@@ -34,7 +34,9 @@ use Rattle.exchange_board.specs.Views.{Stage, ready_at, arrived_at}
 use Rattle.exchange_board.specs.Views as views
 use Rattle.exchange_board.proofs.RowPlaces.{rows-same}
 use Rattle.exchange_board.proofs.Settling.{some-and}
-use Rattle.exchange_board.proofs.Origins.{position-at, done-reach}
+use Rattle.exchange_board.proofs.Origins.{done-reach}
+use Rattle.scalar_rule.proofs.UnevenReached.{bit-tells, phase-waits}
+use Rattle.plane_sweep.proofs.LevelStands.{position-at}
 
 pub kept-more : (o : Origin) (xs : List Slot) (v : Slot) (n : ℕ) → length xs ≡ n → KeepsSlot o n v
     → ((k : ℕ) (d : Slot) → k < n → KeepsSlot o k (get_or xs k d))
@@ -113,23 +115,12 @@ begun-at o t =
     let position : position_in (positions_in o) t ≡ position_of p = get_or-map_of position_of o.base.places t none in
     (ap (λ (s : Stage). s.epoch) stage ∙ (start-epoch p ∙ sym (ap (λ (q : Position). q.epoch) position)), ap (λ (s : Stage). s.phase) stage ∙ (start-phase p ∙ ap (λ (q : Position). cond q.waits 2 0) (sym position)))
 
-told : (a : Bool) → (cond a 2 0 == 2) ≡ a
-told true = refl
-told false = refl
-
 pub begun-done : (e : ℕ) (a : Bool) → (4 * e + cond a 2 0 + 3) / 4 ≡ e + cond a 1 0
 begun-done e true = omega arith
 begun-done e false = omega arith
 
-abbrev bit : Bool → ℕ
-bit a = cond a 2 0
-
 abbrev unit : Bool → ℕ
 unit a = cond a 1 0
-
-bit-tells : (a : Bool) → ((a ≡ true) × (bit a ≡ 2)) ⊎ ((a ≡ false) × (bit a ≡ 0))
-bit-tells true = inl (refl, refl)
-bit-tells false = inr (refl, refl)
 
 -- as many hand-outs as the starting state has behind it lead to its places
 pub taken-begun : (o : Origin) → IsLawfulOrigin o → taken (map start_place o.base.places) ≡ taken_before o
@@ -202,7 +193,7 @@ made-keeps b m =
     let A : List PairWheels → Type 0 = λ q. All ArePairGenerators q in
     let number : (j : ℕ) → numbers ps j ≡ started o j = λ j. let s = begun-at o j in ap₂ (λ x y. 4 * x + y) s.0 s.1 in
     let content_is : (i t : ℕ) → content_at o (epochs ps) (phases ps) i t ≡ slot_at (starts o i).slots t = λ i t.
-    let s = begun-at o t in ap₂ (λ e a. rule_content o i t e a) s.0 (ap (λ n. n == 2) s.1 ∙ told (position_in (positions_in o) t).waits) ∙ content-start (plan_of o) (starts o i) t in
+    let s = begun-at o t in ap₂ (λ e a. rule_content o i t e a) s.0 (ap (λ n. n == 2) s.1 ∙ phase-waits (position_in (positions_in o) t).waits) ∙ content-start (plan_of o) (starts o i) t in
     let taken_is = taken-begun o l in
     record {
       lawful = l;

@@ -36,9 +36,10 @@ use Rattle.exchange_board.specs.Views.{RaggedEndedView}
 use Rattle.exchange_board.proofs.Cells.{IsKeptCell}
 use Rattle.exchange_board.proofs.Ends.{all-fit, slot-moved, pair-moved}
 use Rattle.exchange_board.proofs.Keeping.{places-long}
-use Rattle.exchange_board.proofs.Origins.{position-at, floor-upto}
+use Rattle.exchange_board.proofs.Origins.{floor-upto, epoch-done}
 use Rattle.exchange_board.proofs.RowPlaces.{started-done}
 use Rattle.exchange_board.proofs.RowLists.{rows-upto}
+use Rattle.plane_sweep.proofs.LevelStands.{position-at}
 
 -- one more record
 pub all-push : (xs : List Record) (x : Record) → All FitsRecord xs → FitsRecord x → All FitsRecord (xs ++ x ∷ [])
@@ -52,9 +53,6 @@ all-push xs x each last = λ i d h.
 -- the test of a record that is kept ahead
 abbrev pub kept_of : Origin → List Position → ℕ → Bool
 kept_of o ps j = is_pending (λ t. done (position_in ps t)) (floor_of ps) o.window.samples o.window.every (length ps) j
-
-epoch-done : (e : ℕ) (w : Bool) → e ≤ e + cond w 1 0
-epoch-done e w = omega arith
 
 pub ahead-short : (o : Origin) (places : List Place) (t : ℕ) → IsLawfulOrigin o → IsAhead o (map position_of places) → t < length places → (place_at places t).epoch ≤ 1000000000
 ahead-short o places t l a h =

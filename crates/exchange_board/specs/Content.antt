@@ -1,11 +1,12 @@
 -- What an origin gives: the states of its samples, the content of its slots, and the records.
-use Rattle.std.specs.Prelude.{◌≡◌, ℕ, ◌+◌, ◌-◌, ◌*◌, ◌/◌, ◌<◌, ◌≤◌, List, [], slice_index_or, true, pos}
+use Rattle.std.specs.Prelude.{◌≡◌, ℕ, ◌+◌, ◌-◌, ◌*◌, ◌/◌, ◌<◌, ◌≤◌, List, [], slice_index_or, true}
 use Rattle.std.specs.Arc.{arc_value}
 use Rattle.spin_model.specs.Limits.{last_epoch, most_rows}
 use Rattle.scalar_rule.specs.Plan.{Plan, slots_of, IsLawfulPlan}
 use Rattle.scalar_rule.specs.Ragged.{Position, UnevenState}
 use Rattle.scalar_rule.specs.Positions.{position_in, done, rank, floor_of, deepest_of, sum_below, uneven_record}
 use Rattle.scalar_rule.specs.Records.{is_recorded}
+pub use Rattle.scalar_rule.specs.Records.{no_record, record_at}
 use Rattle.scalar_rule.specs.declared.sample.Record.{Record}
 use Rattle.plane_sweep.specs.Uneven.{positions_of, uneven_part, RaggedStandFits}
 use Rattle.plane_sweep.specs.declared.stand.PairWheels.{PairWheels}
@@ -50,14 +51,6 @@ row_place o f i t = (rows_before o f * o.window.samples + i) * slots_in o + t
 -- how many records there are
 abbrev pub row_total : Origin → ℕ
 row_total o = rows_before o o.window.until * o.window.samples * slots_in o
-
--- a row that is not written
-abbrev pub no_record : Record
-no_record = record { first_energy = pos 0; second_energy = pos 0; overlap = pos 0; first_replica = 0; second_replica = 0 }
-
--- record j of a list; zeros where there is none
-abbrev pub record_at : List Record → ℕ → Record
-record_at rows j = slice_index_or rows j no_record
 
 -- the record of sample i at epoch f in slot t, by the rule
 abbrev pub rule_record : Origin → ℕ → ℕ → ℕ → Record

@@ -1,6 +1,6 @@
 -- The first refusal of a list, one item after the other, and what a reader answers.
-use Rattle.std.proofs.Common.{◌≡◌, ℕ, ◌+◌, List, [], ◌∷◌, Option, Some, None, Result, Ok, Err, refl, sym, ap, ◌∙◌}
-use Rattle.std.specs.Prelude.{IfOk, IfErr}
+use Rattle.std.proofs.Common.{◌≡◌, ℕ, ◌+◌, Bool, true, false, List, [], ◌∷◌, Option, Some, None, Result, Ok, Err, refl, sym, ap, ◌∙◌}
+use Rattle.std.specs.Prelude.{IfOk, IfErr, if◌then◌else◌}
 use Rattle.glass_edges.specs.Refusals.{or_else, first_found, unless, Refuses, Gives, GivesAfterTests}
 
 -- ---- a loop over the items that are left
@@ -28,7 +28,22 @@ or-first e first later found = rw (← found) refl
 pub or-later : {E : Type 0} (first later total : Option E) → None ≡ first → total ≡ later → total ≡ or_else first later
 or-later first later total none found = rw (← none) found
 
+-- where there is none, neither refuses
+pub or-none : {E : Type 0} (first later : Option E) → None ≡ or_else first later → (None ≡ first) × (None ≡ later)
+or-none None later none = (refl, none)
+or-none (Some e) later none = absurd cc
+
+-- a test that passed
+pub if-none : {E : Type 0} (test : Bool) (x : Option E) (e : E) → None ≡ (if test then x else Some e) → (test ≡ true) × (None ≡ x)
+if-none true x e none = (refl, none)
+if-none false x e none = absurd cc
+
 -- ---- what a reader answers
+
+-- a value is that of a reader who found no refusal
+pub unless-ok : {A E : Type 0} (found : Option E) (x y : A) → unless found x ≡ Ok y → (None ≡ found) × (x ≡ y)
+unless-ok None x y is = (refl, cc)
+unless-ok (Some e) x y is = absurd cc
 
 pub is-found : {B E : Type 0} (found : Option E) (x y : B) → None ≡ found → x ≡ y → unless found x ≡ Ok y
 is-found found x y none same = rw (← none, same) refl

@@ -3,6 +3,7 @@ pub mod FirstRefusals
 pub mod Firsts
 pub mod KnownBytes
 pub mod Maps
+pub mod NumberBytes
 pub mod Numerals
 pub mod Puts
 pub mod Putting

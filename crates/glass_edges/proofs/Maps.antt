@@ -4,6 +4,7 @@ use Rattle.std.specs.Ordering.{nat_cmp}
 use Rattle.std.specs.Cmp.Lexicographic.{slice_cmp}
 use Rattle.std.specs.Str.{bytes_eq}
 use Rattle.std.specs.FinMap as map
+use Rattle.std.proofs.lemmas.Bool.{false_from_ne_true}
 use Rattle.std.proofs.lemmas.Cmp.{nat_list_cmp_total}
 use Rattle.std.proofs.lemmas.Map.Lookups.{exact_bytes}
 use Rattle.std.proofs.lemmas.Map.Text.{is_eq-slice_cmp}
@@ -12,10 +13,6 @@ use Rattle.glass_edges.specs.Entries.{set_to, map_of}
 
 abbrev pub Texts : Type 0 → Type 0
 Texts X = map.FinMap (slice_cmp nat_cmp) X
-
-not_true : (b : Bool) → (b ≡ true → ⊥) → b ≡ false
-not_true true h = absurd (h refl)
-not_true false h = refl
 
 module _ {X : Type 0} where
   pub same_texts : (m n : Texts X) → ((q : List ℕ) → map.get m q ≡ map.get n q) → m ≡ n
@@ -56,7 +53,7 @@ module _ {X : Type 0} where
   get-set_to-here m k o = get-set_to m k o k ∙ ap (λ b. cond b o (map.get m k)) ((bytes_eq-Decides k k).1 refl)
 
   pub get-set_to-apart : (m : Texts X) (k : List ℕ) (o : Option X) (q : List ℕ) → (k ≡ q → ⊥) → map.get (set_to m k o) q ≡ map.get m q
-  get-set_to-apart m k o q h = get-set_to m k o q ∙ ap (λ b. cond b o (map.get m q)) (not_true (bytes_eq q k) (λ is. h (sym ((bytes_eq-Decides q k).0 is))))
+  get-set_to-apart m k o q h = get-set_to m k o q ∙ ap (λ b. cond b o (map.get m q)) (false_from_ne_true (bytes_eq q k) (λ is. h (sym ((bytes_eq-Decides q k).0 is))))
 
 module _ {E X : Type 0} (named : E → List ℕ) (has : E → Option X) where
   -- what the map has at the first entry of a name

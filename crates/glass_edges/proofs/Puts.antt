@@ -1,7 +1,7 @@
 -- What one put after another has appended.
 use Rattle.std.proofs.Common.{◌≡◌, ℕ, ◌+◌, ◌-◌, ◌<◌, List, [], ◌++◌, length, take, drop, Option, Some, None, refl, sym, ap, subst, ◌∙◌, arith, append_assoc, append-nil, length-append, length-drop}
 use Rattle.std.proofs.Math.Seq.{take-add, take-append-add}
-use Rattle.std.proofs.lemmas.List.{take_rest, take-append-le}
+use Rattle.std.proofs.lemmas.List.{take_rest, take-append-le, take-append-drop}
 use Rattle.std.specs.Prelude.{Result, Ok, Err, OnErr}
 use Rattle.glass_edges.specs.Contents.{appended, AppendsPrefix, PutsFront}
 
@@ -38,6 +38,10 @@ prefix_past before mid now xs ys whole p = record {
 }
 
 -- ---- a text that goes out front by front, with its rest in a line
+
+-- the text so far and all that follows
+pub text-rest : (first text : List ℕ) (k : ℕ) → (first ++ take k text) ++ drop k text ≡ first ++ text
+text-rest first text k = append_assoc first (take k text) (drop k text) ∙ ap (λ (xs : List ℕ). first ++ xs) (take-append-drop k text)
 
 -- nothing is put, and all of the text is the rest
 pub front-none : (before : Option (List ℕ)) (text : List ℕ) → PutsFront before before text text

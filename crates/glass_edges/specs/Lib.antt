@@ -3,8 +3,10 @@ pub mod Contents
 pub mod Decimal
 pub mod Entries
 pub mod FileBytes
+pub mod FileNames
 pub mod MemoryOutput
 pub mod MemoryStore
+pub mod Numbers
 pub mod Refusals
 pub mod Sealed
 pub mod StoreView

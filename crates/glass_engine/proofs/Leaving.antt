@@ -19,13 +19,13 @@ use Rattle.shared_board.specs.Words.{taken_at, IsFinished, IsStopped}
 use Rattle.shared_board.proofs.Words.{word-at, words-long, taken-words}
 use Rattle.shared_board.proofs.Stores.{SeatView}
 use Rattle.shared_board.specs.Shared.{lock_id}
-use Rattle.turn_cell.proofs.Keeping.{one_some}
 use Rattle.turn_cell.proofs.Seating.{idle-base, written}
 use Rattle.glass_engine.specs.KeptRun.{KeepsRun}
 use Rattle.glass_engine.specs.Working.{Seat, AreAtRest, HaveLeft}
 use Rattle.glass_engine.specs.declared.run.Run.TheInside as run
 use Rattle.glass_engine.proofs.Driven.{HasEnded}
 use Rattle.glass_engine.proofs.WholeRuns.{later, later-lawful}
+use Rattle.std.proofs.lemmas.Option.{same_Some}
 
 -- a lock is opened with seats at rest
 pub rest-opened : (id : TableId) (plan : Plan) (o : Origin) (places n k : ℕ) (ps : List Seat) → plan_of o ≡ plan → AreOpened id o places n k ps
@@ -179,7 +179,7 @@ module _ (r : run.Inside) (plan : Plan) (qs : List Seat) (keeps : KeepsRun r) (w
 
   -- and is then the run's, at its end
   pub run-origin : (b : BoardView) → Some b.origin ≡ base_of (back r.seats.items qs r.seats.len) → b.origin ≡ r.opened.value.origin
-  run-origin b base = one_some (base ∙ (ap base_of are ∙ first-base))
+  run-origin b base = same_Some _ _ (base ∙ (ap base_of are ∙ first-base))
 
   pub run-ended : (b : BoardView) (d : RaggedEndedView) → Some b.origin ≡ base_of (back r.seats.items qs r.seats.len)
       → All (λ q. AtMost (seat_view q).seen (words_of b)) (back r.seats.items qs r.seats.len) → stages_of d.stand ≡ b.places → IsStop b.origin d

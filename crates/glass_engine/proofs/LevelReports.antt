@@ -1,5 +1,5 @@
 -- From a level starting state the report of a run to its end is that of the serial dynamics.
-use Rattle.std.proofs.Common.{arith, ◌≡◌, ℕ, ◌+◌, ◌-◌, ◌<◌, ◌≤◌, Bool, true, false, cond, List, [], ◌++◌, refl, sym, ap, ap₂, ◌∙◌, subst, lit<}
+use Rattle.std.proofs.Common.{arith, ◌≡◌, ℕ, ◌+◌, ◌-◌, ◌<◌, ◌≤◌, true, cond, List, [], ◌++◌, refl, sym, ap, ap₂, ◌∙◌, subst, lit<}
 use Rattle.std.specs.Prelude.{◌&&◌}
 use Rattle.std.proofs.lemmas.Bool.{eq-eqb}
 use Rattle.report_text.specs.Lines.{header_line, end_line}
@@ -30,6 +30,7 @@ use Rattle.glass_engine.specs.Runs.{RunView, starts, IsEnd}
 use Rattle.spin_model.proofs.Joined.{joined-same}
 use Rattle.glass_engine.proofs.Reporting.{floor-tells, spins-same}
 use Rattle.glass_engine.proofs.WholeRuns.{level-serial, whole-floor}
+use Rattle.scalar_rule.proofs.LevelStart.{and-true}
 
 -- the rows of epochs from c on, of the same measurements there
 rows-from : (m n : ℕ → ℕ → List Record) (samples every c e : ℕ) → ((b f : ℕ) → c ≤ f → b < samples → m b f ≡ n b f) → rows_in_order m samples every c e ≡ rows_in_order n samples every c e
@@ -44,10 +45,6 @@ record AreLevel (plan : Plan) (start : ℕ → Sample) (samples e : ℕ) : Type 
   epochs : (b : ℕ) → b < samples → (start b).epoch ≡ (start 0).epoch
   fit : (b : ℕ) → b < samples → Fits plan (start b)
   from : (start 0).epoch ≤ e
-
-and-true : (a : Bool) → (a && true) ≡ a
-and-true true = refl
-and-true false = refl
 
 report-level : (plan : Plan) (start : ℕ → Sample) (orders : Orders) (e : ℕ) (ends : List Position) → AreLevel plan start orders.samples e
     → floor_of (level_start plan (start 0)).positions ≡ (start 0).epoch → floor_of ends ≡ e → all_rest e ends ≡ true

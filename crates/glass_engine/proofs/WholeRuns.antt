@@ -21,7 +21,7 @@ use Rattle.plane_sweep.specs.declared.stand.Stand.{Stand}
 use Rattle.plane_sweep.specs.declared.uneven.Place.{Place}
 use Rattle.plane_sweep.specs.declared.uneven.RaggedStand.{RaggedStand}
 use Rattle.plane_sweep.proofs.SampleParts.{part-fits}
-use Rattle.plane_sweep.proofs.LevelStands.{level-part, level-floor}
+use Rattle.plane_sweep.proofs.LevelStands.{level-part, level-floor, position-at}
 use Rattle.exchange_board.specs.declared.origin.Origin.{Origin}
 use Rattle.exchange_board.specs.Answers.{start_place, stages_of}
 use Rattle.exchange_board.specs.Content as board
@@ -31,7 +31,6 @@ use Rattle.exchange_board.specs.Stops.{IsStop}
 use Rattle.exchange_board.specs.Views.{Stage, RaggedEndedView}
 use Rattle.scalar_rule.proofs.LevelRuns.{all_ready-serial, level-records}
 use Rattle.exchange_board.proofs.Machines.{no-dead-end}
-use Rattle.exchange_board.proofs.Origins.{position-at}
 use Rattle.exchange_board.proofs.Cells.{floor-deep}
 use Rattle.exchange_board.proofs.RowPlaces.{quotient-upto}
 use Rattle.exchange_board.proofs.Starting.{begun-ruled}

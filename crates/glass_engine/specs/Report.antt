@@ -1,13 +1,13 @@
 -- The report of a run: the text of what the rule gives from the states that the disorder samples start with, as far as
 -- every slot came.
-use Rattle.std.specs.Prelude.{ℕ, ◌+◌, ◌-◌, ◌++◌, Bool, not, ◌&&◌, ◌==◌, if◌then◌else◌, List, [], length, flat_map, slice_index_or, pos}
+use Rattle.std.specs.Prelude.{ℕ, ◌+◌, ◌-◌, ◌++◌, Bool, not, ◌&&◌, ◌==◌, if◌then◌else◌, List, [], length, flat_map}
 use Rattle.std.specs.List.{list_all}
 use Rattle.spin_model.specs.Steps.{table}
 use Rattle.scalar_rule.specs.Plan.{Plan, slots_of}
 use Rattle.scalar_rule.specs.Epoch.{slot_at}
 use Rattle.scalar_rule.specs.Positions.{floor_of, uneven_record}
 use Rattle.scalar_rule.specs.Ragged.{Position, UnevenState, all_ready}
-use Rattle.scalar_rule.specs.Records.{is_recorded, measured_from}
+use Rattle.scalar_rule.specs.Records.{is_recorded, measured_from, record_at}
 use Rattle.scalar_rule.specs.Serial.{serial}
 use Rattle.scalar_rule.specs.declared.sample.PlainSlot.{PlainSlot}
 use Rattle.scalar_rule.specs.declared.sample.Record.{Record}
@@ -17,10 +17,6 @@ use Rattle.report_text.specs.Lines.{header_line, row_line, end_line, spins_line}
 use Rattle.glass_engine.specs.Runs.{RunView, starts}
 
 -- ---- rows
-
--- record t of a list; zeros where there is none
-abbrev pub record_at : List Record → ℕ → Record
-record_at records t = slice_index_or records t (record { first_energy = pos 0; second_energy = pos 0; overlap = pos 0; first_replica = 0; second_replica = 0 })
 
 -- the rows of a sample at an epoch, slot by slot
 abbrev pub sample_rows : ℕ → ℕ → List Record → List ℕ

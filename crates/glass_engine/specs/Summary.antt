@@ -6,7 +6,7 @@ use Rattle.spin_model.specs.SignedSums.{sum_of}
 use Rattle.report_text.specs.Lines.{summary_line, slot_line, end_line}
 use Rattle.scalar_rule.specs.Epoch.{slot_at}
 use Rattle.scalar_rule.specs.Plan.{Plan, slots_of}
-use Rattle.scalar_rule.specs.Records.{measured_from}
+use Rattle.scalar_rule.specs.Records.{measured_from, record_at}
 use Rattle.scalar_rule.specs.Serial.{serial}
 use Rattle.scalar_rule.specs.declared.sample.PlainSlot.{PlainSlot}
 use Rattle.scalar_rule.specs.declared.sample.Record.{Record}
@@ -14,7 +14,6 @@ use Rattle.scalar_rule.specs.declared.sample.Sample.{Sample}
 use Rattle.plane_sweep.specs.Packed.{StandFits, StandsFor}
 use Rattle.plane_sweep.specs.Uneven.{level_stand}
 use Rattle.plane_sweep.specs.declared.stand.Stand.{Stand}
-use Rattle.glass_engine.specs.Report.{record_at}
 use Rattle.glass_engine.specs.Runs.{RunView}
 
 -- the energies of both replicas in the record of slot t

@@ -8,7 +8,7 @@ use Rattle.run_checkpoint.specs.Encoding.{encoding}
 use Rattle.run_checkpoint.proofs.LevelClauses.{encoding-same}
 use Rattle.run_plan.specs.RunFile.{AreLawfulOrders}
 use Rattle.spin_model.proofs.Tables.{table-same, table-of_items, length-table, get_or-table}
-use Rattle.spin_model.specs.Steps.{steps, table}
+use Rattle.spin_model.specs.Steps.{table}
 use Rattle.scalar_rule.specs.Laws.{IsReached, AreReached, level_start}
 use Rattle.scalar_rule.specs.Plan.{Plan, IsLawfulPlan, slots_of, pairs_of}
 use Rattle.scalar_rule.specs.Positions.{position_in, done, rank, content, floor_of, deepest_of, HasSameTurns, pending_record, uneven_record}
@@ -21,9 +21,9 @@ use Rattle.scalar_rule.specs.declared.sample.PlainSlot.{PlainSlot}
 use Rattle.scalar_rule.specs.declared.sample.Record.{Record}
 use Rattle.scalar_rule.specs.declared.sample.Sample.{Sample}
 use Rattle.scalar_rule.proofs.Extremes.{least-some, greatest-at}
-use Rattle.scalar_rule.proofs.LevelRuns.{level-record}
+use Rattle.scalar_rule.proofs.LevelRuns.{level-record, length-slots, length-pairs}
 use Rattle.scalar_rule.proofs.LevelStart.{ready-serial, generators-serial}
-use Rattle.scalar_rule.proofs.Resuming.{epochs, epochs-bit, epoch-serial}
+use Rattle.scalar_rule.proofs.Resuming.{epochs-bit, epoch-serial}
 use Rattle.scalar_rule.proofs.ReachedRuns.{rank-upto, all_ready-reached, record-reached}
 use Rattle.plane_sweep.specs.Packed.{part, part_slot, part_pair}
 use Rattle.plane_sweep.specs.Uneven.{position_of, positions_of}
@@ -110,16 +110,6 @@ start-floor plan (Level start) some =
 start-floor plan (Uneven stand) some = refl
 
 -- ---- the state at one epoch
-
-length-slots : (plan : Plan) (a n : ℕ) (s : Sample) → length s.slots ≡ slots_of plan → length (epochs plan a n s).slots ≡ slots_of plan
-unfolding steps
-length-slots plan a zero s long = long
-length-slots plan a (suc n) s long = length-table _ (slots_of plan)
-
-length-pairs : (plan : Plan) (a n : ℕ) (s : Sample) → length s.pairs ≡ pairs_of plan → length (epochs plan a n s).pairs ≡ pairs_of plan
-unfolding steps
-length-pairs plan a zero s long = long
-length-pairs plan a (suc n) s long = length-table _ (pairs_of plan)
 
 -- by the rule, slot by slot, it is that of the serial dynamics
 serial-ready : (plan : Plan) (s : Sample) (e : ℕ) → length s.slots ≡ slots_of plan → length s.pairs ≡ pairs_of plan → s.epoch ≤ e → serial plan s e ≡ all_ready plan (level_start plan s) e

@@ -1,6 +1,6 @@
 -- The times of an aging run, one after the other.
-use Rattle.std.proofs.Common.{◌≡◌, ℕ, zero, suc, ◌+◌, ◌-◌, ◌<◌, ◌≤◌, Bool, true, false, ◌&&◌, nat_lt, List, [], ◌∷◌, ◌++◌, length, slice_index, All, Option, Some, None, refl, sym, ap, subst, ⊎_elim, arith, rules, add-zero, add-suc}
-use Rattle.std.proofs.lemmas.Bool.{cases_lt, ltb-true}
+use Rattle.std.proofs.Common.{◌≡◌, ℕ, zero, suc, ◌+◌, ◌-◌, ◌<◌, ◌≤◌, true, false, ◌&&◌, nat_lt, List, [], ◌∷◌, ◌++◌, length, slice_index, All, Option, Some, None, refl, sym, ap, subst, ⊎_elim, arith, rules, add-zero, add-suc}
+use Rattle.std.proofs.lemmas.Bool.{cases_lt, ltb-true, and_parts}
 use Rattle.std.proofs.lemmas.Bool.Decides.{nat_tests}
 use Rattle.std.proofs.lemmas.List.Elements.{All-nil, All-push}
 use Rattle.std.proofs.lemmas.List.{length_push}
@@ -29,15 +29,11 @@ rises-past times n all within h =
     let whole : n + (all - n) ≡ all = omega arith in
     subst (λ k. rises_to times k ≡ false) whole (none-further times n (all - n) h)
 
-both : (a b : Bool) → (a && b) ≡ true → (a ≡ true) × (b ≡ true)
-both true b h = (refl, h)
-both false b h = absurd (search rules)
-
 rises-each : (times : List ℕ) (n : ℕ) → rises_to times n ≡ true → (k : ℕ) → k < n → slice_index times k < slice_index times (k + 1)
 unfolding rises_to
 rises-each times zero h k below = absurd (omega arith)
 rises-each times (suc n) h k below =
-    let parts = both (rises_to times n) (nat_lt (slice_index times n) (slice_index times (n + 1))) h in
+    let parts = and_parts (rises_to times n) (nat_lt (slice_index times n) (slice_index times (n + 1))) h in
     ⊎_elim
     (λ less. rises-each times n parts.0 k less)
     (λ least. let same : k ≡ n = omega arith in

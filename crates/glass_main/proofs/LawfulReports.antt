@@ -12,11 +12,11 @@ use Rattle.threshold_table.specs.declared.rule_table.RuleKind.TheVariants as kin
 use Rattle.scalar_rule.specs.Epoch.{slot_at, swept_slot, swept_slots, record_of, epoch_records}
 use Rattle.scalar_rule.specs.Opening.{opening, opening_pair}
 use Rattle.scalar_rule.specs.Plan.{Plan, IsLawfulPlan, slots_of, pairs_of}
-use Rattle.scalar_rule.specs.Records.{is_recorded, measured_from}
+use Rattle.scalar_rule.specs.Records.{is_recorded, measured_from, record_at}
 use Rattle.scalar_rule.specs.Serial.{serial}
 use Rattle.scalar_rule.specs.Sums.{is_unsatisfied, energy, overlap}
 use Rattle.scalar_rule.specs.Neighbours.{agree, spin}
-use Rattle.scalar_rule.proofs.Extremes.{count-most}
+use Rattle.spin_model.proofs.Counts.{count-most}
 use Rattle.scalar_rule.specs.declared.sample.PlainSlot.{PlainSlot}
 use Rattle.scalar_rule.specs.declared.sample.Record.{Record}
 use Rattle.scalar_rule.specs.declared.sample.Sample.{Sample}
@@ -25,7 +25,7 @@ use Rattle.plane_sweep.proofs.BeginningStates.{opening-labels}
 use Rattle.plane_sweep.proofs.LabelEpochs.{serial-permutes}
 use Rattle.report_text.specs.Lines as text
 use Rattle.run_plan.specs.RunFile.{AreLawfulOrders}
-use Rattle.glass_engine.specs.Report.{record_at, sample_rows, epoch_rows, rows_in_order, all_spins, report}
+use Rattle.glass_engine.specs.Report.{sample_rows, epoch_rows, rows_in_order, all_spins, report}
 use Rattle.sample_average.specs.declared.header.Header.{Header}
 use Rattle.sample_average.specs.declared.header.Rule.{Rule}
 use Rattle.sample_average.specs.declared.header.Rule.TheVariants as rules_of

@@ -16,10 +16,8 @@ use Rattle.run_checkpoint.specs.declared.refused.CheckpointRefused.{CheckpointRe
 use Rattle.run_checkpoint.specs.declared.refused.CheckpointRefused.TheVariants as checkpoint
 use Rattle.run_checkpoint.proofs.LevelClauses.{states-packed, none-is}
 use Rattle.run_checkpoint.proofs.LevelForm.{form-again as level_form-again}
-use Rattle.run_checkpoint.proofs.Tested.{Tells, same-text, unless-ok}
-use Rattle.run_checkpoint.proofs.WrittenAgain.{IsBytes}
+use Rattle.run_checkpoint.proofs.Tested.{Tells}
 use Rattle.run_checkpoint.specs.Tests.{short}
-use Rattle.run_checkpoint.proofs.FirstOf.{both-none}
 use Rattle.run_checkpoint.proofs.UnevenClauses.{any-tells, any-found, any-uneven}
 use Rattle.run_checkpoint.proofs.UnevenForm.{uneven-packed, uneven_form-again, uneven-again}
 use Rattle.run_plan.specs.RunFile.{AreLawfulOrders}
@@ -29,6 +27,9 @@ use Rattle.glass_main.specs.Beginnings.{Beginning, Level, Uneven, states_in, res
 use Rattle.glass_main.specs.StopLaws.{IsEncodingOf}
 use Rattle.glass_main.specs.Stops.{stopped_checkpoint}
 use Rattle.glass_main.specs.declared.planned.Planned.{Planned}
+use Rattle.glass_edges.proofs.FirstRefusals.{or-none, unless-ok}
+use Rattle.glass_edges.proofs.NumberBytes.{IsBytes}
+use Rattle.std.proofs.lemmas.Slice.Eq.{bytes_eq-Decides}
 
 -- ---- what is read is an encoding
 
@@ -61,7 +62,7 @@ accepted planned until bytes from lawful orders are is =
     let plan = planned.plan in
     let o = planned.orders in
     let h = unless-ok (any_refusal plan o.samples o.every until bytes) (states_in plan bytes) from is in
-    let none = both-none (short 88 bytes) _ h.0 in
+    let none = or-none (short 88 bytes) _ h.0 in
     let read : any_decoded plan o.samples o.every until bytes ≡ Ok (any_in plan bytes) = ap (λ r. unless r (any_in plan bytes)) (sym h.0) in
     let found : IsAnyEncoded plan o.samples o.every until bytes (any_in plan bytes) =
     any-found plan o.samples o.every until bytes (Ok (any_in plan bytes)) lawful orders.some_samples orders.few_samples orders.some_every are read in
@@ -76,7 +77,7 @@ saved-uneven planned came lawful fits =
     let o = planned.orders in
     let whole = uneven-packed plan o.samples o.every came lawful fits in
     let has = uneven_form-again plan o.samples o.every came lawful fits in (
-      same-text (take 8 (stopped_checkpoint planned came)) uneven_kind (ap (take 8) whole ∙ has.kind),
+      (bytes_eq-Decides (take 8 (stopped_checkpoint planned came)) uneven_kind).1 (ap (take 8) whole ∙ has.kind),
       ap (uneven_in plan) whole ∙ uneven-again plan o.samples o.every came lawful fits,
     )
 

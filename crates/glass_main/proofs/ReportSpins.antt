@@ -13,6 +13,7 @@ use Rattle.report_text.specs.Lines as text
 use Rattle.spin_model.proofs.Joined.{joined-zero, joined-more, length-joined}
 use Rattle.sample_average.specs.declared.header.Header.{Header}
 use Rattle.sample_average.specs.LawfulReport.{AreDigits, AreSpins, is_hex, spin_head, spin_line, spin_lines}
+use Rattle.sample_average.proofs.Fitting.{all-append}
 
 -- ---- digits
 
@@ -46,10 +47,6 @@ digits-are : (h : Header) (spins : List Bool) → AreDigits h (spin_digits h.siz
 digits-are h spins = record { count = length-table (λ k. four_spins spins (4 * k)) (volume h.size / 4); hex = digits-hex spins (volume h.size / 4) }
 
 -- ---- all of a list that is joined
-
-all-append : {A : Type 0} (P : A → Type 0) (xs ys : List A) → AllByRecursion P xs → AllByRecursion P ys → AllByRecursion P (xs ++ ys)
-all-append P [] ys p q = q
-all-append P (x ∷ xs) ys p q = (p.0, all-append P xs ys p.1 q)
 
 all-joined : {A : Type 0} (P : A → Type 0) (item : ℕ → List A) (n : ℕ) → ((j : ℕ) → AllByRecursion P (item j)) → AllByRecursion P (flat_map item (table (λ j. j) n))
 all-joined P item zero each = subst (AllByRecursion P) (sym (joined-zero item (λ j. j))) tt

@@ -16,8 +16,7 @@ use Rattle.run_checkpoint.specs.UnevenEncoding.{uneven_kind}
 use Rattle.run_checkpoint.specs.declared.refused.CheckpointRefused.{CheckpointRefused}
 use Rattle.run_checkpoint.specs.declared.refused.CheckpointRefused.TheVariants as checkpoint
 use Rattle.run_checkpoint.proofs.LevelClauses.{none-is, is-only, level-tells}
-use Rattle.run_checkpoint.proofs.Tested.{Tells, is-same, unless-ok}
-use Rattle.run_checkpoint.proofs.WrittenAgain.{IsBytes}
+use Rattle.run_checkpoint.proofs.Tested.{Tells}
 use Rattle.glass_edges.specs.declared.shelf.Fetched.{Fetched}
 use Rattle.glass_edges.specs.declared.shelf.Fetched.TheVariants as answer
 use Rattle.glass_main.specs.Endings.{IsOfCheckpoint, IsOfOneEpoch}
@@ -31,6 +30,9 @@ use Rattle.glass_main.specs.declared.ending.Ending.TheVariants.{Refused}
 use Rattle.glass_main.specs.declared.role.Role.TheVariants as roles
 use Rattle.glass_main.specs.SavedLaws.{IsRead}
 use Rattle.glass_main.specs.declared.refusal.Refusal.TheVariants.{Checkpoint}
+use Rattle.glass_edges.proofs.FirstRefusals.{unless-ok}
+use Rattle.glass_edges.proofs.NumberBytes.{IsBytes}
+use Rattle.std.proofs.lemmas.Slice.Eq.{bytes_eq-Decides}
 
 -- ---- refusals
 
@@ -52,7 +54,7 @@ apart = refl
 kind-first : (plan : Plan) (until : ℕ) (bytes : List ℕ) → short 88 bytes ≡ None → is_uneven bytes ≡ true → level_refusal plan until bytes ≡ Some checkpoint.Magic
 unfolding level_refusal level_form other_kind
 kind-first plan until bytes none uneven =
-    let other : bytes_eq (take 8 bytes) level_kind ≡ false = ap (λ x. bytes_eq x level_kind) (is-same (take 8 bytes) uneven_kind uneven) ∙ apart in
+    let other : bytes_eq (take 8 bytes) level_kind ≡ false = ap (λ x. bytes_eq x level_kind) ((bytes_eq-Decides (take 8 bytes) uneven_kind).0 uneven) ∙ apart in
     rw (none, other) refl
 
 -- 88 bytes 0 are of no kind

@@ -20,11 +20,12 @@ use Rattle.plane_sweep.specs.declared.uneven.RaggedStand.{RaggedStand}
 use Rattle.exchange_board.specs.Content.{plan_of}
 use Rattle.exchange_board.specs.Views.{RaggedEndedView}
 use Rattle.exchange_board.proofs.Settling.{partner-known}
-use Rattle.glass_engine.specs.Report.{record_at, uneven_measured, all_rest, uneven_report, run_report}
+use Rattle.glass_engine.specs.Report.{uneven_measured, all_rest, uneven_report, run_report}
 use Rattle.glass_engine.specs.Runs.{RunView, starts, IsEnd}
 use Rattle.sample_average.specs.LawfulReport.{IsInRange}
 use Rattle.glass_main.specs.LawfulRuns.{IsLawfulText, IsWithin}
 use Rattle.glass_main.proofs.LawfulReports.{header_as, row_as, composed, record-within, swept-labels}
+use Rattle.scalar_rule.specs.Records.{record_at}
 
 -- ---- labels stay numbers of slots
 

@@ -1,7 +1,8 @@
 -- The command that the words after the program's name ask for.
-use Rattle.std.specs.Prelude.{ℕ, ◌^◌, ◌+◌, ◌-◌, Bool, true, false, not, ◌&&◌, ◌==◌, nat_le, nat_lt, if◌then◌else◌, List, length, take, drop, codes, Option, Some, None, option_map, unwrap_or}
+use Rattle.std.specs.Prelude.{ℕ, ◌^◌, ◌+◌, ◌-◌, Bool, true, false, not, ◌&&◌, ◌==◌, nat_lt, if◌then◌else◌, List, length, take, drop, codes, Option, Some, None, option_map, unwrap_or}
 use Rattle.std.specs.List.{fold, position_or_len, before_first, after_first}
 use Rattle.std.specs.Str.{bytes_eq}
+use Rattle.glass_edges.specs.FileNames.{is_file_name}
 use Rattle.spin_model.specs.Limits.{certain, greatest_demo, last_epoch, most_sweeps}
 use Rattle.glass_main.specs.PottsWords.{PottsOrder, potts_order}
 use Rattle.glass_main.specs.AgeWords.{AgeOrder, times_of}
@@ -62,10 +63,6 @@ plain_order words =
 -- a word that begins with two hyphens is an option
 abbrev pub is_option : List ℕ → Bool
 is_option word = bytes_eq (take 2 word) (codes "--")
-
--- a word that can name a file: 1 to 255 bytes
-abbrev pub is_file_name : List ℕ → Bool
-is_file_name word = nat_le 1 (length word) && nat_le (length word) 255
 
 -- a word that names a file and is no option
 abbrev pub name_word : List ℕ → Option (List ℕ)

@@ -5,7 +5,8 @@ ghost use Rattle.glass_main.specs.CommandLine as model;
 ghost use Rattle.glass_main.specs.ReadCommand.{name_bytes, read_run_order, read_said, IsLawfulOrder, AreLawfulWords};
 ghost use Rattle.glass_main.specs.Words.{texts};
 
-use crate::words::{is_file_name, number_word, word_at};
+use crate::words::{number_word, word_at};
+use glass_edges::is_file_name;
 use spin_model::LAST_EPOCH;
 
 /// What `run` asks for.

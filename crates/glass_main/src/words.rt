@@ -5,11 +5,10 @@ ghost use Rattle.std.specs.Char.{is_ascii_digit};
 ghost use Rattle.std.specs.List.{list_all};
 ghost use Rattle.glass_edges.specs.Decimal.{value_of};
 ghost use Rattle.glass_main.specs.CommandLine as commands;
-ghost use Rattle.glass_main.specs.CommandLine.{is_file_name};
 ghost use Rattle.glass_main.specs.Words as model;
 ghost use Rattle.glass_main.specs.Words.{texts};
 
-use glass_edges::is_numeral;
+use glass_edges::{is_file_name, is_numeral};
 
 /// Word `k`, counted from 0; empty where there is none.
 pub(crate) fn word_at(words: &[String], k: usize) -> &str
@@ -19,13 +18,6 @@ pub(crate) fn word_at(words: &[String], k: usize) -> &str
         Some(word) => word.as_str(),
         None => "",
     }
-}
-
-/// Whether a word can name a file: 1 to 255 bytes.
-pub(crate) fn is_file_name(word: &str) -> bool
-    ensures { result ≡ is_file_name word.now }
-{
-    1 <= word.len() && word.len() <= 255
 }
 
 /// A word that can name a file and is no option.

@@ -53,7 +53,7 @@ agreeing-six (x₀ ∷ x₁ ∷ x₂ ∷ x₃ ∷ x₄ ∷ x₅ ∷ x₆ ∷ xs)
 pub row-whole : (l y : ℕ) → y < l → y * (l / 2) + l / 2 ≤ half_plane l
 row-whole l y row = row_fits y (l / 2) l (l / 2) row (omega arith)
 
-half_plane-few : (l : ℕ) → l ≤ 64 → half_plane l ≤ 2048
+pub half_plane-few : (l : ℕ) → l ≤ 64 → half_plane l ≤ 2048
 half_plane-few l few = mul-le l (l / 2) 64 32 few (omega arith)
 
 -- the rows of a plane lie in the words lent

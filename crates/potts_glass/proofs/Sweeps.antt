@@ -1,5 +1,5 @@
 -- A half sweep in rows and pairs of sites: of two neighbours in x one has the class.
-use Rattle.std.proofs.Common.{◌≡◌, ◌≢◌, ℕ, zero, suc, ◌+◌, ◌*◌, ◌/◌, ◌%◌, ◌<◌, ◌≤◌, Bool, true, false, cond, ◌==◌, if◌then◌else◌, List, [], get_or, set, refl, sym, ap, ◌∙◌, subst, arith, zero-add, add-one}
+use Rattle.std.proofs.Common.{◌≡◌, ◌≢◌, ℕ, zero, suc, ◌+◌, ◌*◌, ◌/◌, ◌%◌, ◌<◌, ◌≤◌, true, false, cond, ◌==◌, if◌then◌else◌, List, [], get_or, set, refl, sym, ap, ◌∙◌, subst, arith, zero-add, add-one}
 use Rattle.std.proofs.lemmas.Bool.{eqb-true}
 use Rattle.std.proofs.lemmas.Nat.{div-mul-add, mul-add-lt}
 use Rattle.std.proofs.lemmas.List.{get_or-set_other}
@@ -11,7 +11,7 @@ use Rattle.spin_model.specs.Stream.{draw, draws}
 use Rattle.spin_model.proofs.Colours.{colour-site_at}
 use Rattle.spin_model.proofs.Counts.{count-same}
 use Rattle.spin_model.proofs.Sites.{x_of-site_at, y_of-site_at, site_at-planes}
-use Rattle.spin_model.proofs.Stepping.{steps-same, steps-add, steps-more}
+use Rattle.spin_model.proofs.Stepping.{steps-same, steps-add, steps-more, cond-same}
 use Rattle.spin_model.proofs.Tables.{get_or-table}
 use Rattle.potts_glass.specs.Potts.{Dynamics, Surroundings, favours, votes, is_made, proposed, new_colour, step_of, around, updated, visit, site_draw, plane_drawn}
 
@@ -123,11 +123,6 @@ pair-more d xs c y z k s now new lawful chosen row column before wrote =
     ∙ sym (pair-visits d (listed l xs) c y z k ((c + y + z) % 2) s lawful chosen row column (omega arith) refl)
 
 -- ---- planes
-
--- where the test holds the two choices agree
-cond-same : {A : Type 0} (b : Bool) (x y z : A) → (b ≡ true → x ≡ y) → cond b x z ≡ cond b y z
-cond-same true x y z h = h refl
-cond-same false x y z h = refl
 
 -- both draws of a site are among those of its plane
 place-below : (l i m : ℕ) → IsLawfulSize l → m < 2 → 2 * place_in_plane l i + m < l * l

@@ -2,7 +2,7 @@
 use Rattle.std.proofs.Common.{◌≡◌, ℕ, ◌+◌, ◌*◌, ◌<◌, ◌≤◌, List, ◌++◌, All, length, take, drop, get_or, Some, None, Result, Ok, Err, refl, sym, ap, subst, ◌∙◌, arith, append_assoc, inl, inr}
 use Rattle.std.specs.Prelude.{IfOk, IfErr, ◌==◌}
 use Rattle.std.specs.Global.{Vec}
-use Rattle.std.proofs.lemmas.Bool.{eqb-true}
+use Rattle.std.proofs.lemmas.Bool.{eqb-true, eq-eqb}
 use Rattle.std.proofs.lemmas.List.{length-append, length-drop, take-append-drop}
 use Rattle.sha2.specs.Sha256.{sha256}
 use Rattle.byteorder.specs.Endian.{big_bytes, big_number}
@@ -21,21 +21,21 @@ use Rattle.run_checkpoint.specs.declared.refused.CheckpointRefused.{CheckpointRe
 use Rattle.run_checkpoint.specs.declared.refused.CheckpointRefused.TheVariants as refused
 use Rattle.run_checkpoint.proofs.BankForm.{Lens, banks_packed, banks-long, banks-again, banks-pass, first-stored, epochs-pass, banks-back, banks-fit, first-in_time, tells-banks, tells-epochs, packing}
 use Rattle.run_checkpoint.proofs.BankSteps.{shape-at, shape-len}
-use Rattle.run_checkpoint.proofs.FirstOf.{both-none, none-both}
 use Rattle.run_checkpoint.proofs.Forms.{next-part, cut, tail-at, sealed-digest, sealed-back, length-sealed}
-use Rattle.run_checkpoint.proofs.Pieces.{length-big_bytes}
-use Rattle.run_checkpoint.proofs.Tested.{Tells, tells-or, tells-if, tells-short, tells-kind, tells-length, tells-digest, long-enough, kind-right, kind-is, length-right, length-is, digest-right, digest-is, passed, eq-true, unless-ok, memory-or}
-use Rattle.run_checkpoint.proofs.WrittenAgain.{IsBytes, bytes-drop, word-back}
+use Rattle.run_checkpoint.proofs.Tested.{Tells, tells-or, tells-if, tells-short, tells-kind, tells-length, tells-digest, long-enough, kind-right, kind-is, length-right, length-is, digest-right, digest-is, memory-or}
+use Rattle.glass_edges.proofs.FirstRefusals.{if-none, or-later, or-none, unless-ok}
+use Rattle.glass_edges.proofs.NumberBytes.{IsBytes, bytes-drop, word-back}
+use Rattle.spin_model.proofs.WordBytes.{length-big_bytes}
 
 -- ---- the frame
 
 banks-are : (wanted : ℕ) (bytes : List ℕ) → None ≡ other_banks wanted bytes → number_at 4 8 bytes ≡ wanted
 unfolding other_banks
-banks-are wanted bytes e = eqb-true _ _ (passed _ _ e)
+banks-are wanted bytes e = eqb-true _ _ (if-none _ None _ e).0
 
 banks-right : (wanted : ℕ) (bytes : List ℕ) → number_at 4 8 bytes ≡ wanted → None ≡ other_banks wanted bytes
 unfolding other_banks
-banks-right wanted bytes e = rw (eq-true (number_at 4 8 bytes) wanted e) refl
+banks-right wanted bytes e = rw (eq-eqb (number_at 4 8 bytes) wanted e) refl
 
 tells-other : (wanted : ℕ) (bytes : List ℕ) → Tells (other_banks wanted bytes)
 unfolding other_banks
@@ -52,19 +52,19 @@ record HasFrame (plans : List Plan) (bytes : List ℕ) : Type 0 where
 frame-is : (plans : List Plan) (bytes : List ℕ) → None ≡ banks_form plans bytes → HasFrame plans bytes
 unfolding banks_form
 frame-is plans bytes e =
-    let a = both-none (short 44 bytes) _ e in
-    let b = both-none (other_kind banks_kind bytes) _ a.1 in
-    let c = both-none (other_banks (length plans) bytes) _ b.1 in
-    let d = both-none (other_length (banks_len plans) bytes) (damaged bytes) c.1 in
+    let a = or-none (short 44 bytes) _ e in
+    let b = or-none (other_kind banks_kind bytes) _ a.1 in
+    let c = or-none (other_banks (length plans) bytes) _ b.1 in
+    let d = or-none (other_length (banks_len plans) bytes) (damaged bytes) c.1 in
     record { kind = kind-is banks_kind bytes b.0; count = banks-are (length plans) bytes c.0; len = length-is _ bytes d.0; digest = digest-is bytes d.1 }
 
 frame-right : (plans : List Plan) (bytes : List ℕ) → HasFrame plans bytes → None ≡ banks_form plans bytes
 unfolding banks_form
 frame-right plans bytes has =
-    none-both _ _ (long-enough 44 bytes (omega (arith, has.len)))
-    (none-both _ _ (kind-right banks_kind bytes has.kind)
-    (none-both _ _ (banks-right (length plans) bytes has.count)
-    (none-both _ _ (length-right _ bytes has.len) (digest-right bytes has.digest))))
+    or-later _ _ None (long-enough 44 bytes (omega (arith, has.len)))
+    (or-later _ _ None (kind-right banks_kind bytes has.kind)
+    (or-later _ _ None (banks-right (length plans) bytes has.count)
+    (or-later _ _ None (length-right _ bytes has.len) (digest-right bytes has.digest))))
 
 pub banks-tells : (plans : List Plan) (until : ℕ) (bytes : List ℕ) → Tells (banks_refusal plans until bytes)
 unfolding banks_refusal banks_form
@@ -127,8 +127,8 @@ banks-none epoch until plans stands some few lawful shape fit le =
     epochs-pass len epoch 0 plans stands parts.banks.0 fit lens
     ∙ ap (epochs_refused len epoch 0 (length plans)) (sym parts.banks.1)
     ∙ ap (λ e. epochs_refused len e 0 (length plans) (drop 12 bytes)) (sym first) in
-    none-both _ _ (frame-right plans bytes has)
-    (none-both _ _ (banks-pass len epoch until plans stands parts.banks.0 lawful fit lens le ∙ ap (banks_refused len until plans) (sym parts.banks.1)) same)
+    or-later _ _ None (frame-right plans bytes has)
+    (or-later _ _ None (banks-pass len epoch until plans stands parts.banks.0 lawful fit lens le ∙ ap (banks_refused len until plans) (sym parts.banks.1)) same)
 
 banks-read : (epoch until : ℕ) (plans : List Plan) (stands : List Stand) → 0 < length plans → length plans ≤ 4 → All IsLawfulPlan plans → HaveOneShape plans → BanksFit epoch plans stands → epoch ≤ until
     → banks_decoded plans until (whole_packed plans stands) ≡ Ok stands
@@ -161,8 +161,8 @@ none-encoded : (plans : List Plan) (until : ℕ) (bytes : List ℕ) → 0 < leng
 unfolding banks_refusal
 none-encoded plans until bytes some lawful are none =
     let len = bank_len plans in
-    let a = both-none (banks_form plans bytes) _ none in
-    let b = both-none (banks_refused len until plans (drop 12 bytes)) _ a.1 in
+    let a = or-none (banks_form plans bytes) _ none in
+    let b = or-none (banks_refused len until plans (drop 12 bytes)) _ a.1 in
     let has = frame-is plans bytes a.0 in
     let are_rest = bytes-drop 12 bytes are in
     let long : length bytes ≡ 44 + len * length plans = has.len in

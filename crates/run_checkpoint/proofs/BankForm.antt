@@ -1,7 +1,7 @@
 -- The checkpoints of banks one after the other, in both directions.
 use Rattle.std.proofs.Common.{◌≡◌, ℕ, zero, suc, ◌+◌, ◌*◌, ◌<◌, ◌≤◌, List, [], ◌∷◌, ◌++◌, All, length, take, drop, Some, None, refl, sym, ap, ◌∙◌, arith, append_assoc, take-add}
 use Rattle.std.specs.Prelude.{◌==◌}
-use Rattle.std.proofs.lemmas.Bool.{eqb-true}
+use Rattle.std.proofs.lemmas.Bool.{eqb-true, eq-eqb}
 use Rattle.std.proofs.lemmas.List.{take_at, drop_at, length-append, length-drop}
 use Rattle.std.proofs.lemmas.List.Elements.{All-head, All-tail}
 use native.Mathlib.Nat.{mul-suc, mul-zero}
@@ -16,12 +16,12 @@ use Rattle.run_checkpoint.specs.Encoding.{sealed}
 use Rattle.run_checkpoint.specs.Lengths.{encoding_len}
 use Rattle.run_checkpoint.specs.Reading.{piece, number_at, stand_in}
 use Rattle.run_checkpoint.specs.declared.refused.CheckpointRefused.TheVariants as refused
-use Rattle.run_checkpoint.proofs.FirstOf.{both-none, none-both}
 use Rattle.run_checkpoint.proofs.Forms.{length-sealed}
 use Rattle.run_checkpoint.proofs.LevelClauses.{none-is, packed-none, states-packed, states-epoch, level-tells}
 use Rattle.run_checkpoint.proofs.LevelForm.{packed_body, stand-again, length-packed}
-use Rattle.run_checkpoint.proofs.Tested.{Tells, tells-or, tells-if, passed, eq-true}
-use Rattle.run_checkpoint.proofs.WrittenAgain.{IsBytes, bytes-drop, bytes-take}
+use Rattle.run_checkpoint.proofs.Tested.{Tells, tells-or, tells-if}
+use Rattle.glass_edges.proofs.FirstRefusals.{if-none, or-later, or-none}
+use Rattle.glass_edges.proofs.NumberBytes.{IsBytes, bytes-drop, bytes-take, join}
 
 -- the checkpoints of packed states one after the other
 unfoldable pub banks_packed : List Plan → List Stand → List ℕ
@@ -85,7 +85,7 @@ module _ (len : ℕ) where
       let long = length-one plan stand len fit.0 (lens-head plan plans lens) in
       let first : None ≡ level_refusal plan until (piece 0 len ((one ++ rest) ++ tail)) =
       packed-none plan until stand (All-head IsLawfulPlan plan plans lawful) fit.0 (omega (arith, fit.1, le)) ∙ ap (level_refusal plan until) (sym (first-piece one rest tail len long)) in
-      none-both _ _ first
+      or-later _ _ None first
       (banks-pass epoch until plans stands tail (All-tail IsLawfulPlan plan plans lawful) fit.2 (lens-tail plan plans lens) le
       ∙ ap (banks_refused len until plans) (sym (rest-pieces one rest tail len long)))
 
@@ -107,11 +107,11 @@ module _ (len : ℕ) where
 
   epoch-right : (first g : ℕ) (bytes : List ℕ) → number_at 8 40 (piece 0 len bytes) ≡ first → None ≡ other_epoch first g len bytes
   unfolding other_epoch
-  epoch-right first g bytes e = rw (eq-true (number_at 8 40 (piece 0 len bytes)) first e) refl
+  epoch-right first g bytes e = rw (eq-eqb (number_at 8 40 (piece 0 len bytes)) first e) refl
 
   epoch-is : (first g : ℕ) (bytes : List ℕ) → None ≡ other_epoch first g len bytes → number_at 8 40 (piece 0 len bytes) ≡ first
   unfolding other_epoch
-  epoch-is first g bytes e = eqb-true _ _ (passed _ _ e)
+  epoch-is first g bytes e = eqb-true _ _ (if-none _ None _ e).0
 
   pub epochs-pass : (epoch g : ℕ) (plans : List Plan) (stands : List Stand) (tail : List ℕ) → BanksFit epoch plans stands → Lens plans → None ≡ epochs_refused len epoch g (length plans) (banks_packed plans stands ++ tail)
   unfolding BanksFit banks_packed epochs_refused
@@ -122,14 +122,11 @@ module _ (len : ℕ) where
       let one = sealed (packed_body plan stand) in
       let rest = banks_packed plans stands in
       let is = lens-head plan plans lens in
-      none-both _ _ (epoch-right epoch g _ (stored-epoch plan stand rest tail fit.0 is ∙ fit.1))
+      or-later _ _ None (epoch-right epoch g _ (stored-epoch plan stand rest tail fit.0 is ∙ fit.1))
       (epochs-pass epoch (g + 1) plans stands tail fit.2 (lens-tail plan plans lens)
       ∙ ap (epochs_refused len epoch (g + 1) (length plans)) (sym (rest-pieces one rest tail len (length-one plan stand len fit.0 is))))
 
   -- ---- what was read
-
-  join : (a b c d : List ℕ) → a ≡ c → b ≡ d → a ++ b ≡ c ++ d
-  join a b c d p q = cc
 
   pub banks-back : (until : ℕ) (plans : List Plan) (bytes : List ℕ) → All IsLawfulPlan plans → IsBytes bytes → len * length plans ≤ length bytes → None ≡ banks_refused len until plans bytes
       → banks_bytes plans (banks_parts plans (banks_in len plans bytes)) ≡ take (len * length plans) bytes
@@ -137,7 +134,7 @@ module _ (len : ℕ) where
   banks-back until [] bytes lawful are long none = sym (ap (λ k. take k bytes) (mul-zero len))
   banks-back until (plan ∷ plans) bytes lawful are long none =
       let step : len * suc (length plans) ≡ len + len * length plans = omega (arith, mul-suc len (length plans)) in
-      let both = both-none (level_refusal plan until (piece 0 len bytes)) _ none in
+      let both = or-none (level_refusal plan until (piece 0 len bytes)) _ none in
       let first = none-is plan until (piece 0 len bytes) (All-head IsLawfulPlan plan plans lawful) (bytes-take len bytes are) both.0 in
       let rest = banks-back until plans (drop len bytes) (All-tail IsLawfulPlan plan plans lawful) (bytes-drop len bytes are) (omega (arith, step, length-drop len bytes)) both.1 in
       join _ _ _ _ (sym first.bytes_are) rest ∙ sym (take-add len (len * length plans) bytes) ∙ ap (λ k. take k bytes) (sym step)
@@ -147,8 +144,8 @@ module _ (len : ℕ) where
   unfolding banks_refused epochs_refused banks_in BanksFit
   banks-fit until first g [] bytes lawful are none same = tt
   banks-fit until first g (plan ∷ plans) bytes lawful are none same =
-      let both = both-none (level_refusal plan until (piece 0 len bytes)) _ none in
-      let epochs = both-none (other_epoch first g len bytes) _ same in
+      let both = or-none (level_refusal plan until (piece 0 len bytes)) _ none in
+      let epochs = or-none (other_epoch first g len bytes) _ same in
       let one = none-is plan until (piece 0 len bytes) (All-head IsLawfulPlan plan plans lawful) (bytes-take len bytes are) both.0 in
       (one.fits, own-epoch plan (piece 0 len bytes) ∙ epoch-is first g bytes epochs.0, banks-fit until first (g + 1) plans (drop len bytes) (All-tail IsLawfulPlan plan plans lawful) (bytes-drop len bytes are) both.1 epochs.1)
 
@@ -156,7 +153,7 @@ module _ (len : ℕ) where
   unfolding banks_refused
   first-in_time until [] bytes some lawful are none = absurd (omega arith)
   first-in_time until (plan ∷ plans) bytes some lawful are none =
-      let both = both-none (level_refusal plan until (piece 0 len bytes)) _ none in
+      let both = or-none (level_refusal plan until (piece 0 len bytes)) _ none in
       let one = none-is plan until (piece 0 len bytes) (All-head IsLawfulPlan plan plans lawful) (bytes-take len bytes are) both.0 in
       omega (arith, own-epoch plan (piece 0 len bytes), one.in_time)
 
@@ -199,8 +196,5 @@ packing epoch (plan ∷ plans) (s ∷ more) lawful are =
       stands = one.stand ∷ rest.stands;
       fit = (one.fits, states-epoch plan s one ∙ are.1, rest.fit);
       stand_for = (one.stands, rest.stand_for);
-      bytes_are = join-two _ _ _ _ (states-packed plan s one (All-head IsLawfulPlan plan plans lawful)) rest.bytes_are;
+      bytes_are = join _ _ _ _ (states-packed plan s one (All-head IsLawfulPlan plan plans lawful)) rest.bytes_are;
     }
-  where
-    join-two : (a b c d : List ℕ) → a ≡ c → b ≡ d → a ++ b ≡ c ++ d
-    join-two a b c d p q = cc

@@ -1,7 +1,7 @@
 -- One bank after the other.
 use Rattle.std.proofs.Common.{◌≡◌, ℕ, zero, suc, ◌+◌, ◌*◌, ◌<◌, ◌≤◌, List, [], ◌∷◌, ◌++◌, length, map, drop, get_or, Option, Some, None, refl, sym, ap, subst, ◌∙◌, arith, add-one, inl, inr, append_assoc}
 use Rattle.std.proofs.Math.Seq.{drop-cons}
-use Rattle.std.proofs.lemmas.Bool.{cases_lt}
+use Rattle.std.proofs.lemmas.Bool.{cases_lt, eq-eqb, ne_eqb}
 use Rattle.std.proofs.lemmas.List.{drop-map, drop-drop, drop_all, get_or-map, length-map, append-nil}
 use native.Mathlib.Nat.{mul-suc, mul-zero}
 use Rattle.scalar_rule.specs.Plan.{Plan, slots_of, IsLawfulPlan}
@@ -12,7 +12,6 @@ use Rattle.run_checkpoint.specs.Decoding.{level_refusal}
 use Rattle.run_checkpoint.specs.Lengths.{encoding_len}
 use Rattle.run_checkpoint.specs.Reading.{piece, number_at, stand_in}
 use Rattle.run_checkpoint.specs.declared.refused.CheckpointRefused.TheVariants as refused
-use Rattle.run_checkpoint.proofs.FirstOf.{same, other}
 use Rattle.run_checkpoint.specs.declared.refused.CheckpointRefused.{CheckpointRefused}
 
 -- the bytes of the next bank
@@ -152,11 +151,11 @@ stand-same p q x y e f = cc
 -- the test of an epoch that was read
 pub epoch-differs : (first g len epoch : ℕ) (bytes : List ℕ) → epoch ≡ number_at 8 40 (piece 0 len bytes) → (epoch ≡ first → ⊥) → Some (refused.BankEpoch g epoch first) ≡ other_epoch first g len bytes
 unfolding other_epoch
-epoch-differs first g len epoch bytes is differs = rw (← is, other epoch first differs) refl
+epoch-differs first g len epoch bytes is differs = rw (← is, ne_eqb epoch first differs) refl
 
 pub epoch-agrees : (first g len epoch : ℕ) (bytes : List ℕ) → epoch ≡ number_at 8 40 (piece 0 len bytes) → epoch ≡ first → None ≡ other_epoch first g len bytes
 unfolding other_epoch
-epoch-agrees first g len epoch bytes is agrees = rw (← is, same epoch first agrees) refl
+epoch-agrees first g len epoch bytes is agrees = rw (← is, eq-eqb epoch first agrees) refl
 
 pub two-shapes : (l n : ℕ) (a b : Plan) → a.size ≡ l → slots_of a ≡ n → b.size ≡ l → slots_of b ≡ n → HaveOneShape (a ∷ b ∷ [])
 unfolding HaveShape

@@ -1,10 +1,9 @@
 -- The first of some places that a test refuses, and whether one of some numbers passes.
-use Rattle.std.proofs.Common.{◌≡◌, ◌⊎◌, ℕ, zero, suc, ◌+◌, ◌<◌, ◌≤◌, Bool, true, false, ◌||◌, Option, Some, None, refl, sym, ◌∙◌, arith, inl, inr, add-one}
-use Rattle.std.specs.Prelude.{◌==◌}
-use Rattle.std.proofs.lemmas.Bool.{cases_lt}
-use Rattle.std.proofs.lemmas.Bool.Decides.{nat_tests}
-use Rattle.glass_edges.specs.Refusals.{first_of, or_else}
+use Rattle.std.proofs.Common.{◌≡◌, ℕ, zero, suc, ◌+◌, ◌<◌, ◌≤◌, Bool, true, false, ◌||◌, Option, Some, None, refl, sym, ◌∙◌, arith, inl, inr, add-one}
+use Rattle.std.proofs.lemmas.Bool.{cases_lt, cases_Bool, or_cases, or_right}
+use Rattle.glass_edges.specs.Refusals.{first_of}
 use Rattle.run_checkpoint.specs.Tests.{some_below}
+use Rattle.glass_edges.proofs.FirstRefusals.{or-none}
 
 -- ---- the first of some places
 
@@ -23,18 +22,11 @@ pub first-none : {E : Type 0} (f : ℕ → Option E) (k n : ℕ) (total : Option
 unfolding first_of
 first-none f k n total e so_far = let step : first_of f k n ≡ None = rw e refl in sym step ∙ so_far
 
-pub both-none : {E : Type 0} (a b : Option E) → None ≡ or_else a b → (None ≡ a) × (None ≡ b)
-both-none None b e = (refl, e)
-both-none (Some x) b e = absurd cc
-
-pub none-both : {E : Type 0} (a b : Option E) → None ≡ a → None ≡ b → None ≡ or_else a b
-none-both a b p q = rw (← p) q
-
 pub first-all : {E : Type 0} (f : ℕ → Option E) (k n : ℕ) → None ≡ first_of f k n → (j : ℕ) → k ≤ j → j < k + n → None ≡ f j
 unfolding first_of
 first-all f k zero e j ge lt = absurd (omega arith)
 first-all f k (suc n) e j ge lt =
-    let both = both-none (f k) (first_of f (k + 1) n) e in
+    let both = or-none (f k) (first_of f (k + 1) n) e in
     elim (cases_lt k j) [
       | inl later ↦ first-all f (k + 1) n both.1 j (omega arith) (omega arith)
       | inr here ↦ let is : j ≡ k = omega arith in rw is both.0
@@ -47,32 +39,16 @@ all-none f k (suc n) none = rw (← none k (omega arith) (omega arith)) (all-non
 
 -- ---- tests below a number
 
-pub cases-bool : (b : Bool) → (b ≡ true) ⊎ (b ≡ false)
-cases-bool true = inl refl
-cases-bool false = inr refl
-
-pub or-true : (a : Bool) → (a || true) ≡ true
-or-true true = refl
-or-true false = refl
-
-pub or-cases : (a b : Bool) → (a || b) ≡ true → (a ≡ true) ⊎ (b ≡ true)
-or-cases true b e = inl refl
-or-cases false b e = inr e
-
-pub or-none : (a b : Bool) → (a || b) ≡ false → (a ≡ false) × (b ≡ false)
-or-none true b e = absurd cc
-or-none false b e = (refl, e)
-
 pub some-found : (p : ℕ → Bool) (n k : ℕ) → k < n → p k ≡ true → some_below p n ≡ true
 unfolding some_below
 some-found p zero k lt passes = absurd (omega arith)
 some-found p (suc n) k lt passes = elim (cases_lt k n) [
   | inl below ↦ rw (some-found p n k below passes) refl
-  | inr above ↦ let e : n ≡ k = omega arith in rw (e, passes) (or-true (some_below p k))
+  | inr above ↦ let e : n ≡ k = omega arith in rw (e, passes) (or_right (some_below p k) true refl)
 ]
 
 pub is-true : (a b : Bool) → b ≡ true → true ≡ (a || b)
-is-true a b found = rw (found, or-true) refl
+is-true a b found = sym (or_right a b found)
 
 pub some-none : (p : ℕ → Bool) → some_below p 0 ≡ false
 unfolding some_below
@@ -83,7 +59,7 @@ unfolding some_below
 some-more p n so_far fails = rw (add-one, some_below, so_far, fails) refl
 
 pub none-below : (p : ℕ → Bool) (n k : ℕ) → some_below p n ≡ false → k < n → p k ≡ false
-none-below p n k none lt = elim (cases-bool (p k)) [
+none-below p n k none lt = elim (cases_Bool (p k)) [
   | inl passes ↦ let found : some_below p n ≡ true = some-found p n k lt passes in absurd cc
   | inr fails ↦ fails
 ]
@@ -91,7 +67,7 @@ none-below p n k none lt = elim (cases-bool (p k)) [
 pub found-below : (p : ℕ → Bool) (n : ℕ) → some_below p n ≡ true → (k : ℕ) × (k < n) × (p k ≡ true)
 unfolding some_below
 found-below p zero e = absurd cc
-found-below p (suc n) e = elim (or-cases (some_below p n) (p n) e) [
+found-below p (suc n) e = elim (or_cases (some_below p n) (p n) e) [
   | inl found ↦ let k = found-below p n found in (k.0, omega arith, k.2)
   | inr passes ↦ (n, omega arith, passes)
 ]
@@ -100,9 +76,3 @@ pub all-fail : (p : ℕ → Bool) (n : ℕ) → ((k : ℕ) → k < n → p k ≡
 unfolding some_below
 all-fail p zero fails = refl
 all-fail p (suc n) fails = rw (all-fail p n (λ k lt. fails k (omega arith)), fails n (omega arith)) refl
-
-pub other : (a b : ℕ) → (a ≡ b → ⊥) → (a == b) ≡ false
-other a b differ = grind (arith, nat_tests)
-
-pub same : (a b : ℕ) → a ≡ b → (a == b) ≡ true
-same a b e = grind (arith, nat_tests)

@@ -10,7 +10,7 @@ use Rattle.run_checkpoint.specs.Lengths.{replica_len, slot_len}
 use Rattle.run_checkpoint.specs.Reading.{replica_in, slot_in, slots_in, parts_in}
 use Rattle.run_checkpoint.specs.Tests.{label}
 use Rattle.run_checkpoint.proofs.Items.{item-room}
-use Rattle.run_checkpoint.proofs.FirstOf.{cases-bool}
+use Rattle.std.proofs.lemmas.Bool.{cases_Bool}
 
 slot-part : (l n slot b : ℕ) (bytes : List ℕ) → slot < n → slot_at (parts_in l n bytes b) slot ≡ part_slot l b (slot_in l (drop (slot_len l * slot) bytes))
 unfolding slots_in
@@ -40,7 +40,7 @@ pub label-at : (l n slot copy b : ℕ) (bytes : List ℕ) → slot < n → b < 6
 label-at l n slot copy b bytes within small =
     let place = slot_len l * slot in
     let part = slot-part l n slot b bytes within in
-    elim (cases-bool (copy == 0)) [
+    elim (cases_Bool (copy == 0)) [
       | inl first ↦ rw first (
           let at : place + 0 + b ≡ place + b = omega arith in
           ap (slice_index bytes) at ∙ sym (get_or-drop place bytes b 0) ∙ sym (first-label l b (drop place bytes) small) ∙ sym (ap (λ (s : PlainSlot). s.first.replica) part))
@@ -51,7 +51,7 @@ label-at l n slot copy b bytes within small =
 
 replica-within : (l copy b : ℕ) → b < 64 → replica_place l copy + b < slot_len l
 unfolding slot_len replica_len
-replica-within l copy b small = elim (cases-bool (copy == 0)) [
+replica-within l copy b small = elim (cases_Bool (copy == 0)) [
   | inl first ↦ rw first (omega arith)
   | inr second ↦ rw second (omega arith)
 ]

@@ -17,14 +17,15 @@ use Rattle.run_checkpoint.specs.Reading.{parts_in, stand_in}
 use Rattle.run_checkpoint.specs.Tests.{wrong_label}
 use Rattle.run_checkpoint.specs.declared.refused.CheckpointRefused.{CheckpointRefused}
 use Rattle.run_checkpoint.specs.declared.refused.CheckpointRefused.TheVariants as refused
-use Rattle.run_checkpoint.proofs.FirstOf.{both-none, none-both}
 use Rattle.run_checkpoint.proofs.LabelTests.{right-labels, labels-right}
 use Rattle.run_checkpoint.proofs.LevelForm.{HasForm, form-long, form-is, form-right, form-tells, packed_body, encoding-packed, form-again, stand-again, stand-back}
 use Rattle.run_checkpoint.proofs.PackedParts.{contents-same}
-use Rattle.run_checkpoint.proofs.Tested.{Tells, tells-or, tells-label, tells-late, late-is, in-time, unless-ok, memory-or}
-use Rattle.run_checkpoint.proofs.WrittenAgain.{IsBytes, bytes-drop, slots-fit, slots-count, pairs-count, pairs-fit}
+use Rattle.run_checkpoint.proofs.Tested.{Tells, tells-or, tells-label, tells-late, late-is, in-time, memory-or}
+use Rattle.run_checkpoint.proofs.WrittenAgain.{slots-fit, slots-count, pairs-count, pairs-fit}
+use Rattle.glass_edges.proofs.FirstRefusals.{or-later, or-none, unless-ok}
+use Rattle.glass_edges.proofs.NumberBytes.{IsBytes, bytes-drop}
 
-slots-first : (l n : ℕ) → slot_len l * n ≤ contents_len l n
+pub slots-first : (l n : ℕ) → slot_len l * n ≤ contents_len l n
 unfolding contents_len
 slots-first l n = omega arith
 
@@ -47,8 +48,8 @@ read-fits plan bytes are has none =
 pub none-is : (plan : Plan) (until : ℕ) (bytes : List ℕ) → IsLawfulPlan plan → IsBytes bytes → None ≡ level_refusal plan until bytes → IsEncoded plan until bytes (stand_in plan bytes)
 unfolding level_refusal
 none-is plan until bytes lawful are none =
-    let a = both-none (level_form plan bytes) _ none in
-    let b = both-none (wrong_label (slots_of plan) (parts_in plan.size (slots_of plan) (drop 56 bytes))) _ a.1 in
+    let a = or-none (level_form plan bytes) _ none in
+    let b = or-none (wrong_label (slots_of plan) (parts_in plan.size (slots_of plan) (drop 56 bytes))) _ a.1 in
     let has = form-is plan bytes a.0 in
     let fits = read-fits plan bytes are has b.0 in
     record {
@@ -72,8 +73,8 @@ packed-none plan until stand lawful fits le =
     let again = stand-again plan stand fits in
     let labels : (b : ℕ) → b < 64 → PermutesAt (slots_of plan) (λ t. slot_at (parts_in plan.size (slots_of plan) (drop 56 bytes) b) t) = λ b small.
     subst (λ (ss : List PlainSlot). PermutesAt (slots_of plan) (λ t. slot_at ss t)) (ap (λ (s : Stand). map (part_slot plan.size b) s.slots) (sym again) ∙ same-parts plan bytes b) (fit-labels plan stand fits b small) in
-    none-both _ _ (form-right plan bytes (form-again plan stand lawful fits))
-    (none-both _ _ (labels-right (slots_of plan) _ labels)
+    or-later _ _ None (form-right plan bytes (form-again plan stand lawful fits))
+    (or-later _ _ None (labels-right (slots_of plan) _ labels)
     (in-time until _ (subst (λ (s : Stand). s.epoch ≤ until) (sym again) le)))
 
 pub decoded-packed : (plan : Plan) (until : ℕ) (stand : Stand) → IsLawfulPlan plan → StandFits plan stand → stand.epoch ≤ until → decoded plan until (sealed (packed_body plan stand)) ≡ Ok stand

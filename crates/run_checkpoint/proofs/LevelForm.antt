@@ -17,14 +17,15 @@ use Rattle.run_checkpoint.specs.Lengths.{contents_len, encoding_len}
 use Rattle.run_checkpoint.specs.PackedBytes.{packed_contents}
 use Rattle.run_checkpoint.specs.Reading.{piece, number_at, body_of, digest_of, slots_in, pairs_in, stand_in}
 use Rattle.run_checkpoint.specs.Tests.{short, other_kind, other_shape, other_length, damaged, other_plan}
-use Rattle.run_checkpoint.proofs.FirstOf.{both-none, none-both}
 use Rattle.run_checkpoint.proofs.Forms.{next-part, cut, tail-at, sealed-digest, sealed-back, length-sealed}
 use Rattle.run_checkpoint.proofs.PackedParts.{contents-packed}
 use Rattle.run_checkpoint.proofs.PartLengths.{length-contents, length-header}
-use Rattle.run_checkpoint.proofs.Pieces.{length-big_bytes}
 use Rattle.run_checkpoint.proofs.ReadAgain.{slots-again, pairs-again}
 use Rattle.run_checkpoint.proofs.Tested.{Tells, tells-or, tells-short, tells-kind, tells-shape, tells-length, tells-digest, tells-plan, long-enough, kind-right, kind-is, shape-right, shape-is, length-right, length-is, digest-right, digest-is, plan-right, plan-is}
-use Rattle.run_checkpoint.proofs.WrittenAgain.{IsBytes, bytes-drop, word-back, long_word-back, contents-back}
+use Rattle.run_checkpoint.proofs.WrittenAgain.{contents-back}
+use Rattle.glass_edges.proofs.FirstRefusals.{or-later, or-none}
+use Rattle.glass_edges.proofs.NumberBytes.{IsBytes, bytes-drop, long_word-back, word-back}
+use Rattle.spin_model.proofs.WordBytes.{length-big_bytes}
 
 -- what the tests of the form say together
 pub record HasForm (plan : Plan) (bytes : List ℕ) : Type 0 where
@@ -42,20 +43,20 @@ form-long l n = omega arith
 pub form-right : (plan : Plan) (bytes : List ℕ) → HasForm plan bytes → None ≡ level_form plan bytes
 unfolding level_form
 form-right plan bytes has =
-    none-both _ _ (long-enough 88 bytes (omega (arith, form-long plan.size (slots_of plan), has.len)))
-    (none-both _ _ (kind-right level_kind bytes has.kind)
-    (none-both _ _ (shape-right plan 48 bytes has.size has.slots)
-    (none-both _ _ (length-right _ bytes has.len)
-    (none-both _ _ (digest-right bytes has.digest) (plan-right plan bytes has.own_plan)))))
+    or-later _ _ None (long-enough 88 bytes (omega (arith, form-long plan.size (slots_of plan), has.len)))
+    (or-later _ _ None (kind-right level_kind bytes has.kind)
+    (or-later _ _ None (shape-right plan 48 bytes has.size has.slots)
+    (or-later _ _ None (length-right _ bytes has.len)
+    (or-later _ _ None (digest-right bytes has.digest) (plan-right plan bytes has.own_plan)))))
 
 pub form-is : (plan : Plan) (bytes : List ℕ) → None ≡ level_form plan bytes → HasForm plan bytes
 unfolding level_form
 form-is plan bytes e =
-    let a = both-none (short 88 bytes) _ e in
-    let b = both-none (other_kind level_kind bytes) _ a.1 in
-    let c = both-none (other_shape plan 48 bytes) _ b.1 in
-    let d = both-none (other_length (encoding_len plan.size (slots_of plan)) bytes) _ c.1 in
-    let f = both-none (damaged bytes) (other_plan plan bytes) d.1 in
+    let a = or-none (short 88 bytes) _ e in
+    let b = or-none (other_kind level_kind bytes) _ a.1 in
+    let c = or-none (other_shape plan 48 bytes) _ b.1 in
+    let d = or-none (other_length (encoding_len plan.size (slots_of plan)) bytes) _ c.1 in
+    let f = or-none (damaged bytes) (other_plan plan bytes) d.1 in
     let shape = shape-is plan 48 bytes c.0 in
     record { kind = kind-is level_kind bytes b.0; size = shape.0; slots = shape.1; len = length-is _ bytes d.0; digest = digest-is bytes f.0; own_plan = plan-is plan bytes f.1 }
 
@@ -149,7 +150,7 @@ joined a p b q c r d s e t f m1 m2 m3 m4 m5 e1 e2 e3 e4 e5 i1 i2 i3 i4 i5 = cc
 front : (m d e z t b rest : List ℕ) → m ++ (d ++ (e ++ (z ++ (t ++ (b ++ rest))))) ≡ ((m ++ (d ++ (e ++ (z ++ t)))) ++ b) ++ rest
 front m d e z t b rest = simp append_assoc
 
-number-back : (n place : ℕ) (bytes : List ℕ) → IsBytes bytes → place + 4 ≤ length bytes → number_at 4 place bytes ≡ n → piece place 4 bytes ≡ big_bytes 4 n
+pub number-back : (n place : ℕ) (bytes : List ℕ) → IsBytes bytes → place + 4 ≤ length bytes → number_at 4 place bytes ≡ n → piece place 4 bytes ≡ big_bytes 4 n
 number-back n place bytes are long is =
     sym (word-back (drop place bytes) (bytes-drop place bytes are) (omega (arith, length-drop place bytes))) ∙ ap (big_bytes 4) is
 

@@ -8,7 +8,7 @@ use Rattle.std.proofs.lemmas.List.{append-nil, get_or-map}
 use Rattle.std.proofs.lemmas.List.Concat.{flat_map-cons}
 use Rattle.std.proofs.lemmas.List.Elements.{All-get_or}
 use Rattle.std.proofs.lemmas.Nat.{div_below, mod_below, div-add-mod'}
-use Rattle.spin_model.specs.Words.{is_set}
+use Rattle.spin_model.specs.Words.{is_set, words_32, words_64}
 use Rattle.spin_model.specs.Lattice.{IsLawfulSize, volume, half_plane, z_of, place_in_plane}
 use Rattle.spin_model.specs.Steps.{table}
 use Rattle.spin_model.proofs.Tables.{get_or-table, table-of_items, table-same}
@@ -27,8 +27,9 @@ use Rattle.plane_sweep.specs.declared.stand.PairWheels.{PairWheels}
 use Rattle.plane_sweep.proofs.Empties.{no_plane, no_duo, no_wheels}
 use Rattle.plane_sweep.proofs.PlaneNeighbours.{site_of-at}
 use Rattle.plane_sweep.proofs.PlaneSites.{site_of-below}
-use Rattle.run_checkpoint.specs.Encoding.{words_32, words_64, spin_word, plane_bytes, replica_bytes, slot_bytes, pair_bytes, contents}
+use Rattle.run_checkpoint.specs.Encoding.{spin_word, plane_bytes, replica_bytes, slot_bytes, pair_bytes, contents}
 use Rattle.run_checkpoint.specs.PackedBytes.{packed_plane, packed_replica, packed_slot, packed_pair, packed_contents}
+use Rattle.glass_edges.proofs.NumberBytes.{join}
 
 -- ---- a plane
 
@@ -71,9 +72,6 @@ plane-packed l k replica lawful fits below =
 
 flat-single : {X : Type 0} (f : X → List ℕ) (x : X) → flat_map f (x ∷ []) ≡ f x
 flat-single f x = flat_map-cons f x [] ∙ append-nil (f x)
-
-join : (a b c d : List ℕ) → a ≡ c → b ≡ d → a ++ b ≡ c ++ d
-join a b c d p q = cc
 
 flat-tables : {X : Type 0} (f : ℕ → List ℕ) (g : X → List ℕ) (item : ℕ → X) (n : ℕ) → ((k : ℕ) → k < n → f k ≡ g (item k)) → flat_map f (table (λ k. k) n) ≡ flat_map g (table item n)
 unfolding table

@@ -1,13 +1,11 @@
 -- How many bytes the packed parts take.
-use Rattle.std.proofs.Common.{◌≡◌, ℕ, ◌+◌, ◌-◌, ◌*◌, ◌/◌, ◌≤◌, List, [], ◌∷◌, ◌++◌, All, length, sym, ap, ◌∙◌, arith, length-append}
+use Rattle.std.proofs.Common.{◌≡◌, ℕ, ◌+◌, ◌-◌, ◌*◌, ◌≤◌, List, [], ◌∷◌, ◌++◌, All, length, sym, ap, ◌∙◌, arith, length-append}
 use Rattle.std.specs.List.{flat_map}
-use Rattle.std.proofs.Math.Nat.{mul-le-mul_right}
 use Rattle.std.proofs.lemmas.List.Concat.{flat_map-cons}
 use Rattle.std.proofs.lemmas.List.Elements.{All-head, All-tail}
 use Rattle.sha2.proofs.Facts256.{length-sha256}
 use Rattle.byteorder.specs.Endian.{big_bytes}
 use native.Mathlib.Nat.{mul-suc, mul-zero}
-use Rattle.spin_model.specs.Lattice.{half_plane}
 use Rattle.scalar_rule.specs.Plan.{Plan, slots_of}
 use Rattle.run_plan.specs.CanonicalPlan.{canonical}
 use Rattle.plane_sweep.specs.Packed.{FitsPlane, FitsReplica, FitsDuo, ArePairGenerators}
@@ -18,7 +16,8 @@ use Rattle.plane_sweep.specs.declared.stand.PairWheels.{PairWheels}
 use Rattle.run_checkpoint.specs.Encoding.{header, level_kind}
 use Rattle.run_checkpoint.specs.Lengths.{plane_len, replica_len, slot_len, contents_len}
 use Rattle.run_checkpoint.specs.PackedBytes.{packed_plane, packed_replica, packed_slot, packed_pair, packed_contents, IsShort, HasShortPlanes}
-use Rattle.run_checkpoint.proofs.Pieces.{length-words, length-big_bytes}
+use Rattle.spin_model.proofs.WordBytes.{length-big_bytes, length-words}
+use Rattle.plane_sweep.proofs.SixWords.{half_plane-few}
 
 -- so many items of one length
 pub flat-length : {X : Type 0} (f : X → List ℕ) (len : ℕ) (xs : List X) → All (λ x. length (f x) ≡ len) xs → length (flat_map f xs) ≡ len * length xs
@@ -77,13 +76,8 @@ length-header plan epoch =
 
 -- ---- planes are short
 
-half-few : (l : ℕ) → l ≤ 64 → half_plane l ≤ 2048
-half-few l few =
-    let bound : l * (l / 2) ≤ 64 * (l / 2) = mul-le-mul_right (l / 2) few in
-    omega arith
-
 planes-short : (l : ℕ) (planes : List Plane) → l ≤ 64 → All (FitsPlane l) planes → All IsShort planes
-planes-short l planes few fit = λ k d within. omega (arith, (fit k d within).sized, half-few l few)
+planes-short l planes few fit = λ k d within. omega (arith, (fit k d within).sized, half_plane-few l few)
 
 pub slots-short : (l : ℕ) (slots : List Duo) → l ≤ 64 → All (FitsDuo l) slots → All HasShortPlanes slots
 slots-short l slots few fit = λ k d within. let f = fit k d within in (planes-short l _ few f.first.planes, planes-short l _ few f.second.planes)

@@ -1,23 +1,11 @@
 -- Pieces that are put into a buffer one after the other.
-use Rattle.std.proofs.Common.{subst, All, ◌≡◌, ℕ, ◌+◌, ◌*◌, ◌<◌, ◌≤◌, List, [], ◌∷◌, ◌++◌, length, take, drop, get_or, refl, sym, ap, ◌∙◌, arith, append_assoc, length-append}
+use Rattle.std.proofs.Common.{subst, All, ◌≡◌, ℕ, ◌+◌, ◌<◌, ◌≤◌, List, [], ◌++◌, length, take, drop, get_or, refl, sym, ap, ◌∙◌, arith, append_assoc, length-append}
 use Rattle.std.specs.List.{flat_map}
 use Rattle.std.proofs.lemmas.List.{append-nil, drop_at, take_more, take_all, flat_map_more}
 use Rattle.std.proofs.lemmas.List.Folds.{length-flat_map-take}
-use Rattle.byteorder.specs.Endian.{big_bytes}
-use Rattle.byteorder.specs.Numbers.{length-bytes_high_first}
-use native.Mathlib.Nat.{mul-suc}
 use Rattle.sha2.specs.Sha256.{sha256}
 use Rattle.run_checkpoint.specs.Encoding.{sealed}
 use Rattle.run_checkpoint.specs.Rooms.{RoomView, Puts}
-
-pub length-big_bytes : (w x : ℕ) → length (big_bytes w x) ≡ w
-length-big_bytes w x = length-bytes_high_first w x
-
-pub length-words : (w : ℕ) (words : List ℕ) → length (flat_map (big_bytes w) words) ≡ w * length words
-length-words w [] = omega arith
-length-words w (x ∷ xs) =
-    length-append (big_bytes w x) (flat_map (big_bytes w) xs)
-    ∙ omega (arith, length-big_bytes w x, length-words w xs, mul-suc w (length xs))
 
 -- ---- two pieces
 

@@ -8,7 +8,7 @@ use Rattle.byteorder.specs.Endian.{big_bytes, big_number}
 use Rattle.byteorder.specs.Numbers.{big_number-reads_back}
 use native.Mathlib.Nat.{mul-suc, mul-zero}
 use Rattle.spin_model.specs.Lattice.{half_plane}
-use Rattle.spin_model.specs.Words.{AreGeneratorWords}
+use Rattle.spin_model.specs.Words.{AreGeneratorWords, words_32, words_64}
 use Rattle.spin_model.proofs.Tables.{table-of_items}
 use Rattle.plane_sweep.specs.Packed.{FitsPlane, FitsReplica, FitsDuo, ArePairGenerators}
 use Rattle.plane_sweep.specs.declared.replica.Plane.{Plane}
@@ -16,12 +16,11 @@ use Rattle.plane_sweep.specs.declared.replica.Replica.{Replica}
 use Rattle.plane_sweep.specs.declared.replica.Duo.{Duo}
 use Rattle.plane_sweep.specs.declared.stand.PairWheels.{PairWheels}
 use Rattle.plane_sweep.proofs.Empties.{no_plane, no_duo, no_wheels}
-use Rattle.run_checkpoint.specs.Encoding.{words_32, words_64}
 use Rattle.run_checkpoint.specs.Lengths.{plane_len, replica_len, slot_len}
 use Rattle.run_checkpoint.specs.PackedBytes.{packed_plane, packed_replica, packed_slot, packed_pair, packed_contents}
 use Rattle.run_checkpoint.specs.Reading.{piece, items_at, words_at, plane_in, replica_in, slot_in, pair_in, slots_in, pairs_in}
-use Rattle.run_checkpoint.proofs.Pieces.{length-words, length-big_bytes}
 use Rattle.run_checkpoint.proofs.PartLengths.{length-plane, length-replica, length-slot, length-pair, length-slots}
+use Rattle.spin_model.proofs.WordBytes.{length-big_bytes, length-words}
 
 -- item k stands behind the k items before it
 pub flat-drop : {X : Type 0} (f : X → List ℕ) (len : ℕ) (xs : List X) (rest : List ℕ) (k : ℕ) (d : X) → All (λ x. length (f x) ≡ len) xs → k < length xs

@@ -1,12 +1,12 @@
 -- What each test says, in both directions; and that no test answers that memory ran out.
-use Rattle.std.proofs.Common.{◌≡◌, ◌⊎◌, ℕ, zero, suc, ◌+◌, ◌*◌, ◌/◌, ◌%◌, ◌≤◌, Bool, true, false, ◌&&◌, cond, List, length, take, Option, Some, None, Ok, refl, arith, inl, inr}
+use Rattle.std.proofs.Common.{◌≡◌, ◌⊎◌, ℕ, zero, suc, ◌+◌, ◌*◌, ◌/◌, ◌%◌, ◌≤◌, Bool, true, false, ◌&&◌, cond, List, length, take, Option, Some, None, refl, arith, inl, inr}
 use Rattle.std.specs.Prelude.{◌==◌, nat_lt}
 use Rattle.std.specs.Str.{bytes_eq}
-use Rattle.std.proofs.lemmas.Bool.{eqb-true, ltb-false}
+use Rattle.std.proofs.lemmas.Bool.{eqb-true, ltb-false, and_parts, eq-eqb}
 use Rattle.std.proofs.lemmas.Bool.Decides.{nat_tests}
 use Rattle.std.proofs.lemmas.Slice.Eq.{bytes_eq-Decides}
 use Rattle.sha2.specs.Sha256.{sha256}
-use Rattle.glass_edges.specs.Refusals.{first_of, or_else, unless}
+use Rattle.glass_edges.specs.Refusals.{first_of, or_else}
 use Rattle.scalar_rule.specs.Plan.{Plan, slots_of}
 use Rattle.scalar_rule.specs.declared.sample.PlainSlot.{PlainSlot}
 use Rattle.run_plan.specs.CanonicalPlan.{canonical}
@@ -14,27 +14,11 @@ use Rattle.run_checkpoint.specs.declared.refused.CheckpointRefused.{CheckpointRe
 use Rattle.run_checkpoint.specs.declared.refused.CheckpointRefused.TheVariants as refused
 use Rattle.run_checkpoint.specs.Reading.{piece, number_at, body_of, digest_of}
 use Rattle.run_checkpoint.specs.Tests.{short, other_kind, other_shape, other_length, damaged, other_plan, is_wrong, wrong_at, wrong_label, late}
-
-pub passed : (b : Bool) (x : CheckpointRefused) → None ≡ cond b None (Some x) → b ≡ true
-passed true x e = refl
-passed false x e = absurd cc
+use Rattle.glass_edges.proofs.FirstRefusals.{if-none}
 
 pub held : (b : Bool) (x : CheckpointRefused) → None ≡ cond b (Some x) None → b ≡ false
 held true x e = absurd cc
 held false x e = refl
-
-pub both-true : (a b : Bool) → (a && b) ≡ true → (a ≡ true) × (b ≡ true)
-both-true true b e = (refl, e)
-both-true false b e = absurd cc
-
-pub same-text : (a b : List ℕ) → a ≡ b → bytes_eq a b ≡ true
-same-text a b e = (bytes_eq-Decides a b).1 e
-
-pub is-same : (a b : List ℕ) → bytes_eq a b ≡ true → a ≡ b
-is-same a b e = (bytes_eq-Decides a b).0 e
-
-pub eq-true : (a b : ℕ) → a ≡ b → (a == b) ≡ true
-eq-true a b e = grind (arith, nat_tests)
 
 -- ---- both directions
 
@@ -48,45 +32,45 @@ long-is least bytes e = ltb-false _ _ (held _ _ e)
 
 pub kind-right : (kind bytes : List ℕ) → take 8 bytes ≡ kind → None ≡ other_kind kind bytes
 unfolding other_kind
-kind-right kind bytes e = rw (same-text (take 8 bytes) kind e) refl
+kind-right kind bytes e = rw ((bytes_eq-Decides (take 8 bytes) kind).1 e) refl
 
 pub kind-is : (kind bytes : List ℕ) → None ≡ other_kind kind bytes → take 8 bytes ≡ kind
 unfolding other_kind
-kind-is kind bytes e = is-same (take 8 bytes) kind (passed _ _ e)
+kind-is kind bytes e = (bytes_eq-Decides (take 8 bytes) kind).0 (if-none _ None _ e).0
 
 pub shape-right : (plan : Plan) (place : ℕ) (bytes : List ℕ) → number_at 4 place bytes ≡ plan.size → number_at 4 (place + 4) bytes ≡ slots_of plan → None ≡ other_shape plan place bytes
 unfolding other_shape
-shape-right plan place bytes a b = rw (eq-true (number_at 4 place bytes) plan.size a, eq-true (number_at 4 (place + 4) bytes) (slots_of plan) b) refl
+shape-right plan place bytes a b = rw (eq-eqb (number_at 4 place bytes) plan.size a, eq-eqb (number_at 4 (place + 4) bytes) (slots_of plan) b) refl
 
 pub shape-is : (plan : Plan) (place : ℕ) (bytes : List ℕ) → None ≡ other_shape plan place bytes → (number_at 4 place bytes ≡ plan.size) × (number_at 4 (place + 4) bytes ≡ slots_of plan)
 unfolding other_shape
 shape-is plan place bytes e =
-    let h = both-true (number_at 4 place bytes == plan.size) (number_at 4 (place + 4) bytes == slots_of plan) (passed _ _ e) in
+    let h = and_parts (number_at 4 place bytes == plan.size) (number_at 4 (place + 4) bytes == slots_of plan) (if-none _ None _ e).0 in
     (eqb-true _ _ h.0, eqb-true _ _ h.1)
 
 pub length-right : (wanted : ℕ) (bytes : List ℕ) → length bytes ≡ wanted → None ≡ other_length wanted bytes
 unfolding other_length
-length-right wanted bytes e = rw (eq-true (length bytes) wanted e) refl
+length-right wanted bytes e = rw (eq-eqb (length bytes) wanted e) refl
 
 pub length-is : (wanted : ℕ) (bytes : List ℕ) → None ≡ other_length wanted bytes → length bytes ≡ wanted
 unfolding other_length
-length-is wanted bytes e = eqb-true _ _ (passed _ _ e)
+length-is wanted bytes e = eqb-true _ _ (if-none _ None _ e).0
 
 pub digest-right : (bytes : List ℕ) → digest_of bytes ≡ sha256 (body_of bytes) → None ≡ damaged bytes
 unfolding damaged
-digest-right bytes e = rw (same-text (digest_of bytes) (sha256 (body_of bytes)) e) refl
+digest-right bytes e = rw ((bytes_eq-Decides (digest_of bytes) (sha256 (body_of bytes))).1 e) refl
 
 pub digest-is : (bytes : List ℕ) → None ≡ damaged bytes → digest_of bytes ≡ sha256 (body_of bytes)
 unfolding damaged
-digest-is bytes e = is-same (digest_of bytes) (sha256 (body_of bytes)) (passed _ _ e)
+digest-is bytes e = (bytes_eq-Decides (digest_of bytes) (sha256 (body_of bytes))).0 (if-none _ None _ e).0
 
 pub plan-right : (plan : Plan) (bytes : List ℕ) → piece 8 32 bytes ≡ sha256 (canonical plan) → None ≡ other_plan plan bytes
 unfolding other_plan
-plan-right plan bytes e = rw (same-text (piece 8 32 bytes) (sha256 (canonical plan)) e) refl
+plan-right plan bytes e = rw ((bytes_eq-Decides (piece 8 32 bytes) (sha256 (canonical plan))).1 e) refl
 
 pub plan-is : (plan : Plan) (bytes : List ℕ) → None ≡ other_plan plan bytes → piece 8 32 bytes ≡ sha256 (canonical plan)
 unfolding other_plan
-plan-is plan bytes e = is-same (piece 8 32 bytes) (sha256 (canonical plan)) (passed _ _ e)
+plan-is plan bytes e = (bytes_eq-Decides (piece 8 32 bytes) (sha256 (canonical plan))).0 (if-none _ None _ e).0
 
 pub late-is : (until epoch : ℕ) → None ≡ late until epoch → epoch ≤ until
 unfolding late
@@ -175,10 +159,6 @@ not-memory e (Some x) tells same = λ is. tells (some-same e x same is)
 not-memory e None tells same = absurd cc
 
 -- ---- what a reader answers
-
-pub unless-ok : {B : Type 0} (q : Option CheckpointRefused) (x s : B) → unless q x ≡ Ok s → (None ≡ q) × (x ≡ s)
-unless-ok None x s e = (refl, cc)
-unless-ok (Some r) x s e = absurd cc
 
 -- a refusal is that of memory, or it isn't
 pub memory-or : (e : CheckpointRefused) → (e ≡ refused.NoMemory) ⊎ (¬ (e ≡ refused.NoMemory))

@@ -3,7 +3,7 @@ use Rattle.std.proofs.Common.{◌≡◌, ◌⊎◌, ℕ, ◌*◌, ◌<◌, ◌�
 use Rattle.std.specs.Prelude.{IfOk, IfErr, ◌==◌}
 use Rattle.std.specs.List.{flat_map}
 use Rattle.std.specs.Str.{bytes_eq}
-use Rattle.std.proofs.lemmas.Bool.{eqb-true}
+use Rattle.std.proofs.lemmas.Bool.{eqb-true, and_parts, eq-eqb}
 use Rattle.std.proofs.lemmas.List.{length-drop, length-map}
 use Rattle.glass_edges.specs.Refusals.{GivesAfterTests}
 use Rattle.scalar_rule.specs.Epoch.{slot_at}
@@ -23,43 +23,45 @@ use Rattle.plane_sweep.specs.declared.uneven.RaggedStand.{RaggedStand}
 use Rattle.plane_sweep.proofs.LevelStands.{level-part, level-fits}
 use Rattle.run_checkpoint.specs.Decoding.{level_refusal}
 use Rattle.run_checkpoint.specs.Encoding.{level_kind, contents, sealed, encoding, AreBankStates}
-use Rattle.run_checkpoint.specs.Lengths.{slot_len, contents_len}
+use Rattle.run_checkpoint.specs.Lengths.{slot_len}
 use Rattle.run_checkpoint.specs.Reading.{number_at, parts_in, stand_in}
 use Rattle.run_checkpoint.specs.Tests.{short, wrong_label}
 use Rattle.run_checkpoint.specs.UnevenDecoding.{epoch_in, phase_in, places_in, count_in, slots_place, records_place, uneven_in, is_wrong_place, wrong_place_at, wrong_place, HasRightPlaces, other_orders, other_count, uneven_form, uneven_refusal, is_uneven, any_refusal, any_in, any_decoded, IsUnevenEncoded, IsAnyEncoded}
 use Rattle.run_checkpoint.specs.UnevenEncoding.{uneven_kind, uneven_header, uneven_encoding, position_bytes, record_bytes, AreUnevenStates}
 use Rattle.run_checkpoint.specs.declared.refused.CheckpointRefused.{CheckpointRefused}
 use Rattle.run_checkpoint.specs.declared.refused.CheckpointRefused.TheVariants as refused
-use Rattle.run_checkpoint.proofs.FirstOf.{both-none, none-both}
 use Rattle.run_checkpoint.proofs.LabelTests.{right-labels, labels-right}
-use Rattle.run_checkpoint.proofs.LevelClauses.{none-is, packed-none, level-tells, states-packed, states-epoch}
+use Rattle.run_checkpoint.proofs.LevelClauses.{none-is, packed-none, level-tells, states-packed, states-epoch, slots-first}
 use Rattle.run_checkpoint.proofs.LevelForm.{packed_body, stand-again, form-again as level_form-again, form-long}
 use Rattle.run_checkpoint.proofs.PackedParts.{contents-same}
-use Rattle.run_checkpoint.proofs.Tested.{Tells, tells-or, tells-if, tells-first, tells-label, tells-late, tells-short, late-is, in-time, long-enough, unless-ok, memory-or, passed, both-true, eq-true, same-text}
+use Rattle.run_checkpoint.proofs.Tested.{Tells, tells-or, tells-if, tells-first, tells-label, tells-late, tells-short, late-is, in-time, long-enough, memory-or}
 use Rattle.run_checkpoint.proofs.UnevenForm.{HasUnevenForm, uneven-long, form-is, form-right, form-tells, uneven_body, uneven-packed, count-again, uneven_form-again, orders-again, uneven-again, uneven-back, phases-again}
 use Rattle.run_checkpoint.proofs.UnevenParts.{records-count, records-fit}
 use Rattle.run_checkpoint.proofs.UnevenPlaces.{positions-count, position-at, right-places, places-none, step-right}
-use Rattle.run_checkpoint.proofs.WrittenAgain.{IsBytes, bytes-drop, slots-fit, slots-count, pairs-count, pairs-fit}
+use Rattle.run_checkpoint.proofs.WrittenAgain.{slots-fit, slots-count, pairs-count, pairs-fit}
+use Rattle.glass_edges.proofs.FirstRefusals.{if-none, or-later, or-none, unless-ok}
+use Rattle.glass_edges.proofs.NumberBytes.{IsBytes, bytes-drop}
+use Rattle.std.proofs.lemmas.Slice.Eq.{bytes_eq-Decides}
 
 -- ---- orders and the number of records
 
 orders-are : (samples every : ℕ) (bytes : List ℕ) → None ≡ other_orders samples every bytes → (number_at 4 48 bytes ≡ samples) × (number_at 8 52 bytes ≡ every)
 unfolding other_orders
 orders-are samples every bytes e =
-    let h = both-true (number_at 4 48 bytes == samples) (number_at 8 52 bytes == every) (passed _ _ e) in
+    let h = and_parts (number_at 4 48 bytes == samples) (number_at 8 52 bytes == every) (if-none _ None _ e).0 in
     (eqb-true _ _ h.0, eqb-true _ _ h.1)
 
 orders-right : (samples every : ℕ) (bytes : List ℕ) → number_at 4 48 bytes ≡ samples → number_at 8 52 bytes ≡ every → None ≡ other_orders samples every bytes
 unfolding other_orders
-orders-right samples every bytes a b = rw (eq-true (number_at 4 48 bytes) samples a, eq-true (number_at 8 52 bytes) every b) refl
+orders-right samples every bytes a b = rw (eq-eqb (number_at 4 48 bytes) samples a, eq-eqb (number_at 8 52 bytes) every b) refl
 
 count-is : (samples every count : ℕ) (places : List Place) → None ≡ other_count samples every count places → count ≡ pending_count samples every (map position_of places)
 unfolding other_count
-count-is samples every count places e = eqb-true _ _ (passed _ _ e)
+count-is samples every count places e = eqb-true _ _ (if-none _ None _ e).0
 
 count-right : (samples every count : ℕ) (places : List Place) → count ≡ pending_count samples every (map position_of places) → None ≡ other_count samples every count places
 unfolding other_count
-count-right samples every count places e = rw (eq-true count _ e) refl
+count-right samples every count places e = rw (eq-eqb count _ e) refl
 
 -- ---- no test answers that memory ran out
 
@@ -97,10 +99,6 @@ any-tells plan samples every until bytes =
     tells-or _ _ (tells-short 88 bytes) (tells-if (is_uneven bytes) (uneven_refusal plan samples every until bytes) (level_refusal plan until bytes) (uneven-tells plan samples every until bytes) (level-tells plan until bytes))
 
 -- ---- what is read fits and is encoded so
-
-slots-first : (l n : ℕ) → slot_len l * n ≤ contents_len l n
-unfolding contents_len
-slots-first l n = omega arith
 
 uneven-fits : (plan : Plan) (samples every : ℕ) (bytes : List ℕ) → 1 ≤ samples → samples ≤ 64 → 1 ≤ every → IsBytes bytes → HasUnevenForm plan bytes
     → None ≡ wrong_label (slots_of plan) (parts_in plan.size (slots_of plan) (drop (slots_place (slots_of plan)) bytes)) → HasRightPlaces (slots_of plan) (drop 64 bytes)
@@ -146,11 +144,11 @@ uneven-none : (plan : Plan) (samples every until : ℕ) (bytes : List ℕ) → I
 unfolding uneven_refusal
 uneven-none plan samples every until bytes lawful some few one are none =
     let n = slots_of plan in
-    let a = both-none (uneven_form plan bytes) _ none in
-    let b = both-none (wrong_label n (parts_in plan.size n (drop (slots_place n) bytes))) _ a.1 in
-    let c = both-none (wrong_place n (drop 64 bytes)) _ b.1 in
-    let d = both-none (other_orders samples every bytes) _ c.1 in
-    let e = both-none (other_count samples every (count_in bytes) (uneven_in plan bytes).places) _ d.1 in
+    let a = or-none (uneven_form plan bytes) _ none in
+    let b = or-none (wrong_label n (parts_in plan.size n (drop (slots_place n) bytes))) _ a.1 in
+    let c = or-none (wrong_place n (drop 64 bytes)) _ b.1 in
+    let d = or-none (other_orders samples every bytes) _ c.1 in
+    let e = or-none (other_count samples every (count_in bytes) (uneven_in plan bytes).places) _ d.1 in
     let has = form-is plan bytes a.0 in
     let right = right-places n (drop 64 bytes) c.0 in
     let orders = orders-are samples every bytes d.0 in
@@ -193,11 +191,11 @@ uneven-right plan samples every until stand lawful fits small last deep =
     omega (arith, e, d, deep, last) in
     let right = places-none n (drop 64 bytes) (step-right n (drop 64 bytes) (subst (AreInStep n) (sym positions) fits.in_step) limits (stored-phase plan samples every stand lawful fits)) in
     let orders = orders-again plan samples every stand fits small in
-    none-both _ _ (form-right plan bytes (uneven_form-again plan samples every stand lawful fits))
-    (none-both _ _ (labels-right n _ (fit-labels plan samples every bytes stand fits again))
-    (none-both _ _ right
-    (none-both _ _ (orders-right samples every bytes orders.0 orders.1)
-    (none-both _ _ (count-right samples every (count_in bytes) _ (count-again plan samples every stand lawful fits ∙ fits.pending ∙ ap (λ (s : RaggedStand). pending_count samples every (positions_of s)) (sym again)))
+    or-later _ _ None (form-right plan bytes (uneven_form-again plan samples every stand lawful fits))
+    (or-later _ _ None (labels-right n _ (fit-labels plan samples every bytes stand fits again))
+    (or-later _ _ None right
+    (or-later _ _ None (orders-right samples every bytes orders.0 orders.1)
+    (or-later _ _ None (count-right samples every (count_in bytes) _ (count-again plan samples every stand lawful fits ∙ fits.pending ∙ ap (λ (s : RaggedStand). pending_count samples every (positions_of s)) (sym again)))
     (in-time until _ (subst (λ (s : RaggedStand). deepest_of (positions_of s) ≤ until) (sym again) deep))))))
 
 -- ---- both kinds
@@ -206,7 +204,7 @@ other-kinds : bytes_eq level_kind uneven_kind ≡ false
 other-kinds = refl
 
 uneven-first : (bytes : List ℕ) → take 8 bytes ≡ uneven_kind → is_uneven bytes ≡ true
-uneven-first bytes e = same-text (take 8 bytes) uneven_kind e
+uneven-first bytes e = (bytes_eq-Decides (take 8 bytes) uneven_kind).1 e
 
 level-first : (bytes : List ℕ) → take 8 bytes ≡ level_kind → is_uneven bytes ≡ false
 level-first bytes e = ap (λ x. bytes_eq x uneven_kind) e ∙ other-kinds
@@ -221,7 +219,7 @@ decoded-any : (plan : Plan) (samples every until : ℕ) (bytes : List ℕ) (ragg
 unfolding any_decoded any_refusal any_in
 decoded-any plan samples every until bytes ragged lawful some few one are e =
     let h = unless-ok _ _ ragged e in
-    let none = both-none (short 88 bytes) _ h.0 in
+    let none = or-none (short 88 bytes) _ h.0 in
     subst (IsAnyEncoded plan samples every until bytes) h.1 (any-is plan samples every until bytes (is_uneven bytes) refl none.1 lawful some few one are)
 
 pub any-found : (plan : Plan) (samples every until : ℕ) (bytes : List ℕ) (r : Result RaggedStand CheckpointRefused) → IsLawfulPlan plan → 1 ≤ samples → samples ≤ 64 → 1 ≤ every → IsBytes bytes

@@ -27,15 +27,17 @@ use Rattle.run_checkpoint.specs.Reading.{piece, number_at, body_of, digest_of, s
 use Rattle.run_checkpoint.specs.Tests.{short, other_kind, other_shape, other_length, damaged, other_plan}
 use Rattle.run_checkpoint.specs.UnevenDecoding.{places_in, records_in, count_in, phase_in, slots_place, records_place, uneven_in, uneven_form}
 use Rattle.run_checkpoint.specs.UnevenEncoding.{uneven_kind, uneven_header, uneven_encoding, position_bytes, record_bytes}
-use Rattle.run_checkpoint.proofs.FirstOf.{both-none, none-both}
 use Rattle.run_checkpoint.proofs.Forms.{next-part, cut, tail-at, sealed-digest, sealed-back, length-sealed}
 use Rattle.run_checkpoint.proofs.PackedParts.{contents-packed}
 use Rattle.run_checkpoint.proofs.PartLengths.{length-contents}
-use Rattle.run_checkpoint.proofs.Pieces.{length-big_bytes}
 use Rattle.run_checkpoint.proofs.ReadAgain.{slots-again, pairs-again}
 use Rattle.run_checkpoint.proofs.Tested.{Tells, tells-or, tells-short, tells-kind, tells-shape, tells-length, tells-digest, tells-plan, long-enough, kind-right, kind-is, shape-right, shape-is, length-right, length-is, digest-right, digest-is, plan-right, plan-is}
 use Rattle.run_checkpoint.proofs.UnevenParts.{phase-stored, length-positions, length-records, places-again, records-again, places-back, records-back}
-use Rattle.run_checkpoint.proofs.WrittenAgain.{IsBytes, bytes-drop, word-back, long_word-back, contents-back}
+use Rattle.run_checkpoint.proofs.WrittenAgain.{contents-back}
+use Rattle.glass_edges.proofs.FirstRefusals.{or-later, or-none}
+use Rattle.glass_edges.proofs.NumberBytes.{IsBytes, bytes-drop, long_word-back}
+use Rattle.run_checkpoint.proofs.LevelForm.{number-back}
+use Rattle.spin_model.proofs.WordBytes.{length-big_bytes}
 
 -- ---- a state at one epoch
 
@@ -67,20 +69,20 @@ uneven-long l n count = omega arith
 pub form-right : (plan : Plan) (bytes : List ℕ) → HasUnevenForm plan bytes → None ≡ uneven_form plan bytes
 unfolding uneven_form
 form-right plan bytes has =
-    none-both _ _ (long-enough 96 bytes (omega (arith, uneven-long plan.size (slots_of plan) (count_in bytes), has.len)))
-    (none-both _ _ (kind-right uneven_kind bytes has.kind)
-    (none-both _ _ (shape-right plan 40 bytes has.size has.slots)
-    (none-both _ _ (length-right _ bytes has.len)
-    (none-both _ _ (digest-right bytes has.digest) (plan-right plan bytes has.own_plan)))))
+    or-later _ _ None (long-enough 96 bytes (omega (arith, uneven-long plan.size (slots_of plan) (count_in bytes), has.len)))
+    (or-later _ _ None (kind-right uneven_kind bytes has.kind)
+    (or-later _ _ None (shape-right plan 40 bytes has.size has.slots)
+    (or-later _ _ None (length-right _ bytes has.len)
+    (or-later _ _ None (digest-right bytes has.digest) (plan-right plan bytes has.own_plan)))))
 
 pub form-is : (plan : Plan) (bytes : List ℕ) → None ≡ uneven_form plan bytes → HasUnevenForm plan bytes
 unfolding uneven_form
 form-is plan bytes e =
-    let a = both-none (short 96 bytes) _ e in
-    let b = both-none (other_kind uneven_kind bytes) _ a.1 in
-    let c = both-none (other_shape plan 40 bytes) _ b.1 in
-    let d = both-none (other_length (uneven_len plan.size (slots_of plan) (count_in bytes)) bytes) _ c.1 in
-    let f = both-none (damaged bytes) (other_plan plan bytes) d.1 in
+    let a = or-none (short 96 bytes) _ e in
+    let b = or-none (other_kind uneven_kind bytes) _ a.1 in
+    let c = or-none (other_shape plan 40 bytes) _ b.1 in
+    let d = or-none (other_length (uneven_len plan.size (slots_of plan) (count_in bytes)) bytes) _ c.1 in
+    let f = or-none (damaged bytes) (other_plan plan bytes) d.1 in
     let shape = shape-is plan 40 bytes c.0 in
     record { kind = kind-is uneven_kind bytes b.0; size = shape.0; slots = shape.1; len = length-is _ bytes d.0; digest = digest-is bytes f.0; own_plan = plan-is plan bytes f.1 }
 
@@ -238,10 +240,6 @@ joined a p b q c r d s e t f u g v h m1 m2 m3 m4 m5 m6 m7 e1 e2 e3 e4 e5 e6 e7 i
 
 three : (a p b q c r d m1 m2 m3 : List ℕ) → a ≡ p ++ m1 → m1 ≡ q ++ m2 → m2 ≡ r ++ m3 → p ≡ b → q ≡ c → r ≡ d → a ≡ b ++ (c ++ (d ++ m3))
 three a p b q c r d m1 m2 m3 e1 e2 e3 i1 i2 i3 = cc
-
-number-back : (n place : ℕ) (bytes : List ℕ) → IsBytes bytes → place + 4 ≤ length bytes → number_at 4 place bytes ≡ n → piece place 4 bytes ≡ big_bytes 4 n
-number-back n place bytes are long is =
-    sym (word-back (drop place bytes) (bytes-drop place bytes are) (omega (arith, length-drop place bytes))) ∙ ap (big_bytes 4) is
 
 uneven-sealed : (plan : Plan) (samples every count : ℕ) (bytes p b r h : List ℕ) → 32 ≤ length bytes
     → bytes ≡ uneven_kind ++ (sha256 (canonical plan) ++ (big_bytes 4 plan.size ++ (big_bytes 4 (slots_of plan) ++ (big_bytes 4 samples ++ (big_bytes 8 every ++ (big_bytes 4 count ++ (p ++ (b ++ (r ++ h)))))))))

@@ -1,5 +1,5 @@
 -- Positions and records: their bytes are read again, and what was read is written as it stood.
-use Rattle.std.proofs.Common.{◌≡◌, ◌⊎◌, ℕ, ◌+◌, ◌*◌, ◌^◌, ◌<◌, ◌≤◌, Bool, true, false, cond, ℤ, pos, List, [], ◌∷◌, ◌++◌, All, length, map, take, drop, get_or, refl, sym, ap, subst, ◌∙◌, arith, append_assoc, take-add, inl, inr}
+use Rattle.std.proofs.Common.{◌≡◌, ◌⊎◌, ℕ, ◌+◌, ◌*◌, ◌^◌, ◌<◌, ◌≤◌, Bool, true, false, cond, ℤ, List, [], ◌∷◌, ◌++◌, All, length, map, take, drop, get_or, refl, sym, ap, subst, ◌∙◌, arith, append_assoc, take-add, inl, inr}
 use Rattle.std.specs.Prelude.{◌==◌, slice_index, FitsSigned}
 use Rattle.std.specs.Int.{w32, cast_signed, cast_unsigned}
 use Rattle.std.specs.List.{flat_map}
@@ -18,14 +18,17 @@ use Rattle.run_checkpoint.specs.Rooms.{RoomView, Puts}
 use Rattle.run_checkpoint.specs.UnevenDecoding.{place_in, record_in, signed_at}
 use Rattle.run_checkpoint.specs.UnevenEncoding.{position_bytes, record_bytes, signed_bytes}
 use Rattle.run_checkpoint.proofs.Forms.{next-part}
-use Rattle.run_checkpoint.proofs.Pieces.{length-big_bytes}
 use Rattle.spin_model.proofs.Tables.{length-table}
 use Rattle.run_checkpoint.specs.Reading.{items_at}
 use Rattle.run_checkpoint.specs.UnevenDecoding.{phase_in, places_in, records_in}
 use Rattle.run_checkpoint.proofs.Items.{item-room}
 use Rattle.run_checkpoint.proofs.PartLengths.{flat-length}
 use Rattle.run_checkpoint.proofs.ReadAgain.{items-again, flat-drop}
-use Rattle.run_checkpoint.proofs.WrittenAgain.{IsBytes, bytes-drop, word-back, long_word-back, items-back, items-back-at, item-long, all-table}
+use Rattle.run_checkpoint.proofs.WrittenAgain.{items-back, items-back-at, item-long, all-table}
+use Rattle.glass_edges.proofs.NumberBytes.{IsBytes, bytes-drop, long_word-back, word-back}
+use Rattle.spin_model.proofs.WordBytes.{length-big_bytes}
+use Rattle.scalar_rule.specs.Records.{no_record}
+use Rattle.scalar_rule.proofs.UnevenReached.{phase-waits}
 
 -- ---- positions
 
@@ -35,10 +38,6 @@ length-position p = omega (arith, length-append (big_bytes 8 p.epoch) (cond p.wa
 
 pub mapped-positions : (places : List Place) → flat_map (λ p. position_bytes (position_of p)) places ≡ flat_map position_bytes (map position_of places)
 mapped-positions places = sym (flat_map-map position_bytes position_of places)
-
-phase-waits : (b : Bool) → (cond b 2 0 == 2) ≡ b
-phase-waits true = refl
-phase-waits false = refl
 
 same-place : (epoch : ℕ) (arrived : Bool) (p : Place) → epoch ≡ p.epoch → arrived ≡ p.arrived → (let q : Place = record { epoch = epoch; arrived = arrived } in q ≡ p)
 same-place epoch arrived p x y = rw (x, y) refl
@@ -162,9 +161,6 @@ length-records records = flat-length record_bytes 14 records (λ k d within. len
 
 no_place : Place
 no_place = record { epoch = 0; arrived = false }
-
-no_record : Record
-no_record = record { first_energy = pos 0; second_energy = pos 0; overlap = pos 0; first_replica = 0; second_replica = 0 }
 
 pub places-again : (n : ℕ) (places : List Place) (tail : List ℕ) → length places ≡ n → ((k : ℕ) (d : Place) → k < n → (get_or places k d).epoch < 2 ^ 64) → places_in n (flat_map position_bytes (map position_of places) ++ tail) ≡ places
 unfolding places_in

@@ -2,7 +2,7 @@
 use Rattle.std.proofs.Common.{◌≡◌, ◌⊎◌, ℕ, ◌+◌, ◌-◌, ◌*◌, ◌<◌, ◌≤◌, Bool, true, false, not, ◌&&◌, ◌||◌, cond, List, drop, map, length, Some, None, refl, sym, ap, subst, ◌∙◌, arith, inl, inr}
 use Rattle.std.specs.Prelude.{◌==◌, nat_lt}
 use Rattle.std.proofs.Math.Nat.{mul-le-mul_right}
-use Rattle.std.proofs.lemmas.Bool.{eqb-true, ltb-false}
+use Rattle.std.proofs.lemmas.Bool.{eqb-true, ltb-false, cases_Bool, eq-eqb, le-ltb, lt-ltb, not-false, not_from_true, or_from, or_parts}
 use Rattle.std.proofs.lemmas.Bool.Decides.{nat_tests}
 use Rattle.std.proofs.lemmas.List.{get_or-drop, get_or-map, length-map}
 use Rattle.spin_model.specs.Steps.{count_below}
@@ -16,7 +16,7 @@ use Rattle.scalar_rule.proofs.SlotPartners.{turns-say, turns-from}
 use Rattle.plane_sweep.specs.Uneven.{position_of}
 use Rattle.run_checkpoint.specs.UnevenDecoding.{epoch_in, phase_in, place_in, places_in, is_wrong_place, wrong_place_at, wrong_place, HasRightPlaces}
 use Rattle.run_checkpoint.specs.declared.refused.CheckpointRefused.{CheckpointRefused}
-use Rattle.run_checkpoint.proofs.FirstOf.{first-all, all-none, cases-bool, or-none, same}
+use Rattle.run_checkpoint.proofs.FirstOf.{first-all, all-none}
 use Rattle.run_checkpoint.proofs.Tested.{held}
 
 -- ---- one position
@@ -44,44 +44,26 @@ last-number n k bytes most least = omega (arith, positions-count n bytes)
 
 -- ---- one test
 
-not-true : (b : Bool) → not b ≡ false → b ≡ true
-not-true true e = refl
-not-true false e = absurd cc
-
-true-not : (b : Bool) → b ≡ true → not b ≡ false
-true-not true e = refl
-true-not false e = absurd cc
-
 and-none : (a b : Bool) → (a && b) ≡ false → a ≡ true → b ≡ false
 and-none true b e is = e
 and-none false b e is = absurd cc
-
-or-false : (a b : Bool) → a ≡ false → b ≡ false → (a || b) ≡ false
-or-false true b p q = absurd cc
-or-false false b p q = q
 
 and-first : (a b : Bool) → (a ≡ true → b ≡ false) → (a && b) ≡ false
 and-first true b none = none refl
 and-first false b none = refl
 
 either-phase : (p : ℕ) → ((p == 0) || (p == 2)) ≡ true → (p ≡ 0) ⊎ (p ≡ 2)
-either-phase p e = elim (cases-bool (p == 0)) [
+either-phase p e = elim (cases_Bool (p == 0)) [
   | inl zero_is ↦ inl (eqb-true p 0 zero_is)
-  | inr not ↦ elim (cases-bool (p == 2)) [
+  | inr not ↦ elim (cases_Bool (p == 2)) [
     | inl two ↦ inr (eqb-true p 2 two)
-    | inr none ↦ let h : ((p == 0) || (p == 2)) ≡ false = or-false _ _ not none in absurd cc
+    | inr none ↦ let h : ((p == 0) || (p == 2)) ≡ false = or_from _ _ not none in absurd cc
   ]
 ]
 
 phase-either : (p : ℕ) → (p ≡ 0) ⊎ (p ≡ 2) → ((p == 0) || (p == 2)) ≡ true
 phase-either p (inl e) = rw e refl
 phase-either p (inr e) = rw e refl
-
-lt-true : (a b : ℕ) → a < b → nat_lt a b ≡ true
-lt-true a b h = grind (arith, nat_tests)
-
-lt-false : (a b : ℕ) → b ≤ a → nat_lt a b ≡ false
-lt-false a b h = grind (arith, nat_tests)
 
 -- what the test of slot t says
 pub record RightPlace (n : ℕ) (epoch phase : ℕ → ℕ) (t : ℕ) : Type 0 where
@@ -94,32 +76,32 @@ pub record RightPlace (n : ℕ) (epoch phase : ℕ → ℕ) (t : ℕ) : Type 0 w
 right-place : (n : ℕ) (epoch phase : ℕ → ℕ) (t : ℕ) → is_wrong_place n epoch phase t ≡ false → RightPlace n epoch phase t
 unfolding is_wrong_place
 right-place n epoch phase t e =
-    let a = or-none (not ((phase t == 0) || (phase t == 2))) _ e in
-    let b = or-none (nat_lt 1000000000 (epoch t)) _ a.1 in
-    let c = or-none ((phase t == 2) && not (has_partner n t (epoch t))) _ b.1 in
+    let a = or_parts (not ((phase t == 0) || (phase t == 2))) _ e in
+    let b = or_parts (nat_lt 1000000000 (epoch t)) _ a.1 in
+    let c = or_parts ((phase t == 2) && not (has_partner n t (epoch t))) _ b.1 in
     let pair : 0 < t → (not (turns (t - 1) (epoch (t - 1)) == turns (t - 1) (epoch t)) || ((phase (t - 1) == 2) && ((phase t == 2) && ((epoch (t - 1) == epoch t) && has_turn (t - 1) (epoch t))))) ≡ false =
-    λ h. and-none (nat_lt 0 t) _ c.1 (lt-true 0 t h) in
+    λ h. and-none (nat_lt 0 t) _ c.1 (lt-ltb 0 t h) in
     record {
-      phases = either-phase (phase t) (not-true _ a.0);
+      phases = either-phase (phase t) (not-false _ a.0);
       limit = ltb-false _ _ b.0;
-      partnered = λ w. not-true _ (and-none (phase t == 2) _ c.0 w);
-      level = λ h. eqb-true _ _ (not-true _ (or-none _ _ (pair h)).0);
+      partnered = λ w. not-false _ (and-none (phase t == 2) _ c.0 w);
+      level = λ h. eqb-true _ _ (not-false _ (or_parts _ _ (pair h)).0);
       lone = λ h x y same_epoch.
-          let d = (or-none (not (turns (t - 1) (epoch (t - 1)) == turns (t - 1) (epoch t))) _ (pair h)).1 in
+          let d = (or_parts (not (turns (t - 1) (epoch (t - 1)) == turns (t - 1) (epoch t))) _ (pair h)).1 in
           let f = and-none (phase (t - 1) == 2) _ d x in
           let g = and-none (phase t == 2) _ f y in
-          and-none (epoch (t - 1) == epoch t) _ g (same _ _ same_epoch);
+          and-none (epoch (t - 1) == epoch t) _ g (eq-eqb _ _ same_epoch);
     }
 
 place-right : (n : ℕ) (epoch phase : ℕ → ℕ) (t : ℕ) → RightPlace n epoch phase t → is_wrong_place n epoch phase t ≡ false
 unfolding is_wrong_place
 place-right n epoch phase t right =
-    or-false _ _ (true-not _ (phase-either (phase t) right.phases))
-    (or-false _ _ (lt-false _ _ right.limit)
-    (or-false _ _ (and-first _ _ (λ w. true-not _ (right.partnered w)))
+    or_from _ _ (not_from_true _ (phase-either (phase t) right.phases))
+    (or_from _ _ (le-ltb _ _ right.limit)
+    (or_from _ _ (and-first _ _ (λ w. not_from_true _ (right.partnered w)))
     (and-first _ _ (λ some.
     let h : 0 < t = grind (arith, nat_tests, some) in
-    or-false _ _ (true-not _ (same _ _ (right.level h)))
+    or_from _ _ (not_from_true _ (eq-eqb _ _ (right.level h)))
     (and-first _ _ (λ x. and-first _ _ (λ y. and-first _ _ (λ s. right.lone h x y (eqb-true _ _ s)))))))))
 
 -- ---- all positions
@@ -211,7 +193,7 @@ module _ (n : ℕ) (bytes : List ℕ) where
   done-few right t h =
       let e : done (position_in ps t) ≡ epoch_in bytes t + cond (phase_in bytes t == 2) 1 0 = ap done (position-at n t bytes h) in
       let z = right.epochs t h in
-      elim (cases-bool (phase_in bytes t == 2)) [
+      elim (cases_Bool (phase_in bytes t == 2)) [
         | inl waits ↦ let y : done (position_in ps t) ≡ epoch_in bytes t + 1 = e ∙ ap (λ b. epoch_in bytes t + cond b 1 0) waits in omega arith
         | inr rests ↦ let y : done (position_in ps t) ≡ epoch_in bytes t + 0 = e ∙ ap (λ b. epoch_in bytes t + cond b 1 0) rests in omega arith
       ]

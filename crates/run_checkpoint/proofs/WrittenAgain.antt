@@ -1,65 +1,27 @@
 -- What was read fits, and is written again as it stood.
-use Rattle.std.proofs.Common.{◌≡◌, ℕ, zero, suc, ◌+◌, ◌-◌, ◌*◌, ◌^◌, ◌<◌, ◌≤◌, List, [], ◌∷◌, ◌++◌, All, length, take, drop, get_or, refl, sym, ap, subst, ◌∙◌, arith, take-add, inl, inr}
-use Rattle.std.specs.Int.{w32, w64, from_be_bytes}
+use Rattle.std.proofs.Common.{◌≡◌, ℕ, zero, suc, ◌+◌, ◌-◌, ◌*◌, ◌^◌, ◌<◌, ◌≤◌, List, [], ◌∷◌, All, length, take, drop, refl, sym, ap, subst, ◌∙◌, arith, take-add}
 use Rattle.std.specs.List.{flat_map}
-use Rattle.std.proofs.lemmas.Bool.{cases_lt}
 use Rattle.std.proofs.lemmas.Grind.{flat_map-append}
-use Rattle.std.proofs.lemmas.List.{take_all, get_or-drop, get_or-take, get_or_past, length-take, length-drop, append-nil}
+use Rattle.std.proofs.lemmas.List.{take_all, length-take, length-drop, append-nil}
 use Rattle.std.proofs.lemmas.List.Concat.{flat_map-cons}
-use Rattle.std.proofs.lemmas.Nat.{be_bytes_4, be_bytes_8}
 use Rattle.byteorder.specs.Endian.{big_bytes, big_number}
-use Rattle.byteorder.specs.Numbers.{big_from-take, big_from-lt}
+use Rattle.byteorder.specs.Numbers.{big_from-lt}
 use native.Mathlib.Nat.{mul-suc, mul-zero}
 use Rattle.spin_model.specs.Lattice.{half_plane}
 use Rattle.spin_model.specs.Steps.{table}
-use Rattle.spin_model.specs.Words.{AreGeneratorWords}
+use Rattle.spin_model.specs.Words.{AreGeneratorWords, words_32, words_64}
 use Rattle.spin_model.proofs.Tables.{length-table, get_or-table}
 use Rattle.plane_sweep.specs.Packed.{FitsPlane, FitsReplica, FitsDuo, ArePairGenerators}
 use Rattle.run_checkpoint.proofs.Items.{item-room}
-use Rattle.run_checkpoint.specs.Encoding.{words_32, words_64}
 use Rattle.run_checkpoint.specs.Lengths.{plane_len, replica_len, slot_len, contents_len}
 use Rattle.run_checkpoint.specs.PackedBytes.{packed_plane, packed_replica, packed_slot, packed_pair, packed_contents}
 use Rattle.run_checkpoint.specs.Reading.{piece, items_at, words_at, plane_in, replica_in, slot_in, pair_in, slots_in, pairs_in}
-
-abbrev pub IsBytes : List ℕ → Type 0
-IsBytes bytes = (i : ℕ) → get_or bytes i 0 < 256
-
-pub bytes-drop : (n : ℕ) (bytes : List ℕ) → IsBytes bytes → IsBytes (drop n bytes)
-bytes-drop n bytes are i = rw get_or-drop (are (n + i))
-
-pub bytes-take : (n : ℕ) (bytes : List ℕ) → IsBytes bytes → IsBytes (take n bytes)
-bytes-take n bytes are i =
-    elim (cases_lt i n) [
-      | inl lt ↦ rw (get_or-take n bytes i 0 lt) (are i)
-      | inr le ↦ rw (get_or_past (take n bytes) i 0 (omega (arith, length-take n bytes))) (omega arith)
-    ]
-
--- ---- words
-
-word-is : (bytes : List ℕ) → big_number 4 bytes ≡ from_be_bytes w32 bytes
-word-is bytes = omega arith
-
-long_word-is : (bytes : List ℕ) → big_number 8 bytes ≡ from_be_bytes w64 bytes
-long_word-is bytes = omega arith
-
--- the word at the front, written again
-pub word-back : (bytes : List ℕ) → IsBytes bytes → 4 ≤ length bytes → big_bytes 4 (big_number 4 bytes) ≡ take 4 bytes
-word-back bytes are long =
-    be_bytes_4 (take 4 bytes) (big_number 4 bytes) (omega (arith, length-take 4 bytes)) (bytes-take 4 bytes are)
-    (sym (big_from-take 0 4 4 bytes (omega arith)) ∙ word-is (take 4 bytes))
-
-pub long_word-back : (bytes : List ℕ) → IsBytes bytes → 8 ≤ length bytes → big_bytes 8 (big_number 8 bytes) ≡ take 8 bytes
-long_word-back bytes are long =
-    be_bytes_8 (take 8 bytes) (big_number 8 bytes) (omega (arith, length-take 8 bytes)) (bytes-take 8 bytes are)
-    (sym (big_from-take 0 8 8 bytes (omega arith)) ∙ long_word-is (take 8 bytes))
+use Rattle.glass_edges.proofs.NumberBytes.{IsBytes, bytes-drop, bytes-take, join, long_word-back, word-back}
 
 -- ---- items
 
 pub all-table : {X : Type 0} (P : X → Type 0) (f : ℕ → X) (n : ℕ) → ((k : ℕ) → k < n → P (f k)) → All P (table f n)
 all-table P f n each = λ k d within. let below : k < n = omega (arith, length-table f n) in subst P (sym (get_or-table f n k d below)) (each k below)
-
-join : (a b c d : List ℕ) → a ≡ c → b ≡ d → a ++ b ≡ c ++ d
-join a b c d p q = cc
 
 -- the start of item k leaves room for it
 pub item-long : (len n k : ℕ) (bytes : List ℕ) → len * n ≤ length bytes → len * k + len ≤ len * n → len ≤ length (drop (len * k) bytes)

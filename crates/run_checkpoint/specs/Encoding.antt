@@ -6,6 +6,7 @@ use Rattle.byteorder.specs.Endian.{big_bytes}
 use Rattle.sha2.specs.Sha256.{sha256}
 use Rattle.spin_model.specs.Lattice.{half_plane}
 use Rattle.spin_model.specs.Steps.{table}
+use Rattle.spin_model.specs.Words.{words_32, words_64}
 use Rattle.scalar_rule.specs.Plan.{Plan, slots_of}
 use Rattle.scalar_rule.specs.Epoch.{slot_at, pair_at}
 use Rattle.scalar_rule.specs.Neighbours.{spin}
@@ -20,13 +21,6 @@ use Rattle.plane_sweep.specs.Beginnings.{site_of}
 use Rattle.plane_sweep.specs.Uneven.{place_at}
 use Rattle.plane_sweep.specs.declared.stand.Stand.{Stand}
 use Rattle.plane_sweep.specs.declared.uneven.RaggedStand.{RaggedStand}
-
--- words of 32 bits and of 64 bits, one after the other
-abbrev pub words_32 : List ℕ → List ℕ
-words_32 words = flat_map (big_bytes 4) words
-
-abbrev pub words_64 : List ℕ → List ℕ
-words_64 words = flat_map (big_bytes 8) words
 
 -- the word of a site: bit b is set where the spin of sample b is +1
 abbrev pub spin_word : (ℕ → List Bool) → ℕ → ℕ

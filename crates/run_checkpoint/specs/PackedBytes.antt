@@ -5,7 +5,7 @@ use Rattle.plane_sweep.specs.declared.replica.Plane.{Plane}
 use Rattle.plane_sweep.specs.declared.replica.Replica.{Replica}
 use Rattle.plane_sweep.specs.declared.replica.Duo.{Duo}
 use Rattle.plane_sweep.specs.declared.stand.PairWheels.{PairWheels}
-use Rattle.run_checkpoint.specs.Encoding.{words_32, words_64}
+use Rattle.spin_model.specs.Words.{words_32, words_64}
 
 unfoldable pub packed_plane : Plane → List ℕ
 packed_plane plane = words_32 plane.wheel ++ words_64 plane.words

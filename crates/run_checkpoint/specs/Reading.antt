@@ -1,6 +1,7 @@
 -- What the bytes of a checkpoint say, part by part at its place.
 use Rattle.std.specs.Prelude.{ℕ, ◌-◌, ◌*◌, List, map, take, drop}
 use Rattle.byteorder.specs.Endian.{big_number}
+pub use Rattle.glass_edges.specs.Numbers.{number_at}
 pub use Rattle.glass_edges.specs.Sealed.{body_of, digest_of}
 use Rattle.spin_model.specs.Lattice.{half_plane}
 use Rattle.spin_model.specs.Steps.{table}
@@ -17,10 +18,6 @@ use Rattle.run_checkpoint.specs.Lengths.{plane_len, replica_len, slot_len}
 -- so many bytes from a place on
 abbrev pub piece : ℕ → ℕ → List ℕ → List ℕ
 piece place len bytes = take len (drop place bytes)
-
--- the number of w bytes at a place
-abbrev pub number_at : ℕ → ℕ → List ℕ → ℕ
-number_at w place bytes = big_number w (drop place bytes)
 
 -- n items of len bytes each, as `read` reads one
 abbrev pub items_at : {A : Type 0} → (List ℕ → A) → ℕ → ℕ → List ℕ → List A

@@ -4,9 +4,9 @@ ghost use Rattle.std.specs.Prelude.{◌≡◌, ◌+◌, ◌≤◌, List, ℕ, le
 ghost use Rattle.scalar_rule.specs.Plan.{slots_of};
 ghost use Rattle.run_checkpoint.specs.Tests as tests;
 
-use crate::places::{behind, piece, u32_at};
+use crate::places::{behind, piece};
 use crate::refused::CheckpointRefused;
-use glass_edges::stored_digest;
+use glass_edges::{stored_digest, u32_at};
 use run_plan::digest;
 use scalar_rule::Plan;
 use sha2::{Digest, Sha256};

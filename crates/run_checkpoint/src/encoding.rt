@@ -3,7 +3,8 @@
 ghost use Rattle.std.specs.Prelude.{◌≡◌, ◌+◌, ◌*◌, ◌≤◌, ℕ, [], ◌++◌, All, length};
 ghost use Rattle.std.specs.List.{flat_map};
 ghost use Rattle.plane_sweep.specs.Packed.{part, StandFits};
-ghost use Rattle.run_checkpoint.specs.Encoding.{encoding, header, sealed, flattened, words_32};
+ghost use Rattle.run_checkpoint.specs.Encoding.{encoding, header, sealed, flattened};
+ghost use Rattle.spin_model.specs.Words.{words_32};
 ghost use Rattle.run_checkpoint.specs.Lengths.{encoding_len};
 ghost use Rattle.run_checkpoint.specs.PackedBytes as packed;
 ghost use Rattle.plane_sweep.specs.Uneven.{level_stand};

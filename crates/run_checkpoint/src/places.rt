@@ -24,14 +24,6 @@ pub(crate) fn piece(bytes: &[u8], place: usize, len: usize) -> &[u8]
     &bytes[place..place + len]
 }
 
-// The number of four bytes at a place.
-pub(crate) fn u32_at(bytes: &[u8], place: usize) -> u32
-    requires { place + 4 ≤ length bytes.now }
-    ensures { result ≡ number_at 4 place bytes.now }
-{
-    BigEndian::read_u32(behind(bytes, place))
-}
-
 // The number of eight bytes at a place.
 pub(crate) fn u64_at(bytes: &[u8], place: usize) -> u64
     requires { place + 8 ≤ length bytes.now }

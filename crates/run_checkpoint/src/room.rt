@@ -3,7 +3,7 @@
 ghost use Rattle.std.specs.Prelude.{◌≡◌, ℕ, ◌+◌, ◌*◌, ◌≤◌, [], drop, length, IfOk};
 ghost use Rattle.byteorder.specs.Endian.{big_bytes};
 ghost use Rattle.sha2.specs.Sha256.{sha256};
-ghost use Rattle.run_checkpoint.specs.Encoding.{words_32, words_64};
+ghost use Rattle.spin_model.specs.Words.{words_32, words_64};
 ghost use Rattle.run_checkpoint.specs.Rooms.{Puts};
 ghost use Rattle.run_checkpoint.specs.UnevenEncoding.{signed_bytes};
 

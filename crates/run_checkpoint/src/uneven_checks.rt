@@ -7,8 +7,9 @@ ghost use Rattle.spin_model.specs.Words.{one_if};
 ghost use Rattle.scalar_rule.specs.Epoch.{has_turn, has_partner};
 ghost use Rattle.scalar_rule.specs.Positions.{turns, done, position_in, floor_of, deepest_of, pending_count, is_pending};
 
-use crate::places::{u32_at, u64_at};
+use crate::places::u64_at;
 use crate::refused::CheckpointRefused;
+use glass_edges::u32_at;
 use spin_model::LAST_EPOCH;
 
 // The first slot with a wrong place, in the bytes of the positions.

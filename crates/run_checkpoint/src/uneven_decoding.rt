@@ -21,12 +21,12 @@ use crate::checks::{damaged, late, other_kind, other_length, other_plan, other_s
 use crate::decoding::level_refusal;
 use crate::labels::wrong_label;
 use crate::lengths::{contents_len, uneven_len};
-use crate::places::{behind, u32_at, u64_at};
+use crate::places::{behind, u64_at};
 use crate::reading::{fill_contents, fill_places, fill_records};
 use crate::refused::CheckpointRefused;
 use crate::uneven_checks::{greatest_done, other_count, other_orders, wrong_place};
 use crate::unfilled::{unfilled_ragged, unfilled_stand};
-use glass_edges::NoMemory;
+use glass_edges::{NoMemory, u32_at};
 use plane_sweep::RaggedStand;
 use scalar_rule::Plan;
 use std::alloc::Global;

@@ -4,9 +4,10 @@ use Rattle.std.specs.Prelude.{◌/◌, ◌%◌}
 use Rattle.std.specs.List.{flat_map}
 use Rattle.byteorder.specs.Endian.{big_bytes}
 use Rattle.spin_model.specs.Lattice.{bond_count}
+use Rattle.spin_model.specs.Words.{words_64}
 use Rattle.spin_model.proofs.Tables.{length-table, get_or-table}
 use Rattle.coupling_set.specs.CouplingWords.{CouplingsView, bond_word}
-use Rattle.run_plan.specs.CanonicalPlan.{number_bytes, bond_words}
+use Rattle.run_plan.specs.CanonicalPlan.{bond_words}
 use Rattle.std.proofs.lemmas.List.{take_more, take_all, append-nil, append_assoc, flat_map_more}
 
 -- no item yet
@@ -37,7 +38,7 @@ told-bond Holds m couplings n w within same held =
 
 -- all bonds
 pub told-bonds : (Holds : List ℕ → Type 0) (m : List ℕ) (couplings : CouplingsView) (n : ℕ) → bond_count couplings.size ≤ n
-    → Holds (m ++ flat_map (big_bytes 8) (take n (bond_words couplings))) → Holds (m ++ number_bytes (bond_words couplings))
+    → Holds (m ++ flat_map (big_bytes 8) (take n (bond_words couplings))) → Holds (m ++ words_64 (bond_words couplings))
 told-bonds Holds m couplings n long held =
     told-all Holds (big_bytes 8) m (bond_words couplings) n (subst (λ k. k ≤ n) (sym (length-bond_words couplings)) long) held
 

@@ -4,12 +4,13 @@ use Rattle.std.specs.Prelude.{codes, is_some, unwrap_or, option_and_then, int_le
 use Rattle.std.specs.Result.{IsOk}
 use Rattle.std.proofs.lemmas.Bool.{false≢true, and_parts, leb-true, eqb-true}
 use Rattle.toml.specs.Data.{Data, Members, as_integer, as_str}
+use Rattle.glass_edges.specs.FileNames.{is_file_name}
 use Rattle.glass_edges.specs.Refusals.{or_else, first_found}
 use Rattle.spin_model.specs.Lattice.{IsLawfulSize}
 use Rattle.run_plan.specs.declared.key.Key.{Key}
 use Rattle.run_plan.specs.declared.key.Key.TheVariants.{Size, Rule, Rules, Swaps, Couplings, Sweeps, Seed, Samples, Epochs, Every, Start as StartKey, Spins}
 use Rattle.run_plan.specs.declared.refused.PlanRefused.{PlanRefused}
-use Rattle.run_plan.specs.RunFile.{integer, size, name, source, keys, row_of, is_between, is_size, is_name, is_either, is_source, names_file, natural, value_refusal, found_refusal, integer_refusal, text_refusal, key_refusal, value_at, number_at, text_at, values_of, IsLawfulRunFile}
+use Rattle.run_plan.specs.RunFile.{integer, size, name, source, keys, row_of, is_between, is_size, is_either, is_source, names_file, natural, value_refusal, found_refusal, integer_refusal, text_refusal, key_refusal, value_at, number_at, text_at, values_of, IsLawfulRunFile}
 
 not-none : {E C : Type 0} (e : E) → Some e ≡ None → C
 not-none e h = absurd (false≢true (sym (ap is_some h)))
@@ -64,7 +65,7 @@ accepted P Q (Err e) refuses lawful = absurd (refuses.1 lawful)
 
 -- ---- texts
 
-name-in : (key : Key) (text : Option (List ℕ)) → text_refusal key is_name text ≡ None → (1 ≤ length (unwrap_or text [])) × (length (unwrap_or text []) ≤ 255)
+name-in : (key : Key) (text : Option (List ℕ)) → text_refusal key is_file_name text ≡ None → (1 ≤ length (unwrap_or text [])) × (length (unwrap_or text []) ≤ 255)
 name-in key None h = not-none _ h
 name-in key (Some text) h =
     let (some, short) = and_parts (nat_le 1 (length text)) (nat_le (length text) 255) (passes _ _ h) in

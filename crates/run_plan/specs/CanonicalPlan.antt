@@ -6,6 +6,7 @@ use Rattle.byteorder.specs.Endian.{big_bytes}
 use Rattle.sha2.specs.Sha256.{sha256}
 use Rattle.spin_model.specs.Lattice.{volume, bond_count}
 use Rattle.spin_model.specs.Steps.{table}
+use Rattle.spin_model.specs.Words.{words_64}
 use Rattle.coupling_set.specs.CouplingWords.{CouplingsView, bond_word}
 use Rattle.threshold_table.specs.declared.rule_table.RuleKind.{RuleKind}
 use Rattle.threshold_table.specs.declared.rule_table.RuleKind.TheVariants as kinds
@@ -23,13 +24,9 @@ header_bytes plan =
     codes "GLASSPL1" ++ big_bytes 4 plan.size ++ big_bytes 4 (slots_of plan) ++ big_bytes 4 (kind_number plan.rules.kind)
     ++ big_bytes 4 plan.sweeps ++ big_bytes 8 plan.seed
 
--- numbers one after the other, 8 bytes each
-abbrev pub number_bytes : List ℕ → List ℕ
-number_bytes numbers = flat_map (big_bytes 8) numbers
-
 -- of a pair of slots the number of its entries, 4 bytes, and then the entries
 abbrev pub pair_bytes : List ℕ → List ℕ
-pair_bytes entries = big_bytes 4 (length entries) ++ number_bytes entries
+pair_bytes entries = big_bytes 4 (length entries) ++ words_64 entries
 
 -- the words of the bonds in the order of their numbers: bit b of a word is set where J of sample b is -1
 abbrev pub bond_words : CouplingsView → List ℕ
@@ -38,8 +35,8 @@ bond_words couplings = table (λ n. bond_word couplings (n / 3) (n % 3)) (bond_c
 -- the canonical bytes: the header, the thresholds slot by slot, the entries pair by pair, and the words of the bonds
 unfoldable pub canonical : Plan → List ℕ
 canonical plan =
-    header_bytes plan ++ flat_map number_bytes plan.rules.rows ++ flat_map pair_bytes plan.swaps
-    ++ number_bytes (bond_words plan.couplings)
+    header_bytes plan ++ flat_map words_64 plan.rules.rows ++ flat_map pair_bytes plan.swaps
+    ++ words_64 (bond_words plan.couplings)
 
 -- the digest of a plan
 abbrev pub plan_digest : Plan → List ℕ

@@ -1,10 +1,11 @@
 -- A run file: a TOML document that has exactly the twelve keys of one table at its top, each with a lawful value. What
 -- the document says and its first refusal are told apart.
-use Rattle.std.specs.Prelude.{ℕ, ◌%◌, ◌≤◌, Bool, false, ◌&&◌, ◌||◌, ◌==◌, nat_le, ℤ, pos, negsuc, int_le, if◌then◌else◌, List, [], ◌∷◌, length, take, drop, codes, Option, Some, None, option_map, option_and_then, unwrap_or, Result, Err}
+use Rattle.std.specs.Prelude.{ℕ, ◌%◌, ◌≤◌, Bool, false, ◌&&◌, ◌||◌, ◌==◌, nat_le, ℤ, pos, negsuc, int_le, if◌then◌else◌, List, [], ◌∷◌, take, drop, codes, Option, Some, None, option_map, option_and_then, unwrap_or, Result, Err}
 use Rattle.std.specs.List.{list_any}
 use Rattle.std.specs.Str.{is_utf8, bytes_eq}
 use Rattle.toml.specs.Data.{Data, as_integer, as_str, as_bool, Members, no_members, member, get_member}
 use Rattle.toml.specs.Parse.{parse_document}
+use Rattle.glass_edges.specs.FileNames.{is_file_name}
 use Rattle.glass_edges.specs.Refusals.{or_else, first_found, unless}
 use Rattle.scalar_rule.specs.declared.sample.Start.{Start}
 use Rattle.scalar_rule.specs.declared.sample.Start.TheVariants as starts
@@ -88,13 +89,9 @@ is_size (negsuc n) = false
 abbrev pub is_either : List ℕ → List ℕ → List ℕ → Bool
 is_either first second text = bytes_eq text first || bytes_eq text second
 
--- whether a text can name a file
-abbrev pub is_name : List ℕ → Bool
-is_name text = nat_le 1 (length text) && nat_le (length text) 255
-
 -- whether a text names a couplings file: "file:" and a name
 abbrev pub names_file : List ℕ → Bool
-names_file text = bytes_eq (take 5 text) (codes "file:") && is_name (drop 5 text)
+names_file text = bytes_eq (take 5 text) (codes "file:") && is_file_name (drop 5 text)
 
 -- whether a text says where couplings come from: one of two words, or a couplings file
 abbrev pub is_source : List ℕ → Bool
@@ -120,7 +117,7 @@ unfoldable pub value_refusal : Key → Row → Data → Option PlanRefused
 value_refusal key (integer least most) d = integer_refusal key (is_between least most) (as_integer d)
 value_refusal key size d = integer_refusal key is_size (as_integer d)
 value_refusal key (word first second) d = text_refusal key (is_either first second) (as_str d)
-value_refusal key name d = text_refusal key is_name (as_str d)
+value_refusal key name d = text_refusal key is_file_name (as_str d)
 value_refusal key source d = text_refusal key is_source (as_str d)
 value_refusal key boolean d = boolean_refusal key (as_bool d)
 

@@ -9,6 +9,7 @@ ghost use Rattle.run_plan.specs.RunFile as model;
 use crate::key::{Key, is_key, keys};
 use crate::limits::MOST_SAMPLES;
 use crate::refused::PlanRefused;
+use glass_edges::is_file_name;
 use spin_model::{LAST_EPOCH, MOST_SWEEPS};
 use toml::{Table, Value};
 
@@ -73,16 +74,9 @@ fn names_file(text: &str) -> bool
     ensures { result ≡ model.names_file text.now }
 {
     match after_file(text) {
-        Some(name) => is_name(name),
+        Some(name) => is_file_name(name),
         None => false,
     }
-}
-
-// Whether a text can name a file.
-fn is_name(text: &str) -> bool
-    ensures { result ≡ model.is_name text.now }
-{
-    1 <= text.len() && text.len() <= 255
 }
 
 // Why a text that names no file, or no text, is refused.
@@ -92,7 +86,7 @@ fn name(key: Key, value: &Value) -> Option<PlanRefused>
 {
     match value.as_str() {
         None => Some(PlanRefused::Kind { key }),
-        Some(text) if is_name(text) => None,
+        Some(text) if is_file_name(text) => None,
         Some(_) => Some(PlanRefused::Word { key }),
     }
 }

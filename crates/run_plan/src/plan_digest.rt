@@ -4,6 +4,7 @@ ghost use Rattle.std.specs.Prelude.{◌≡◌, ℕ, ◌<◌, ◌≤◌, ◌++◌
 ghost use Rattle.std.specs.Arc.{arc_value};
 ghost use Rattle.sha2.specs.Hashers.{Holds256};
 ghost use Rattle.sha2.specs.Sha256.{sha256};
+ghost use Rattle.spin_model.specs.Words.{words_64};
 ghost use Rattle.threshold_table.specs.Tables.{cases_of, thresholds_of, entries_of};
 ghost use Rattle.scalar_rule.specs.Plan.{slots_of};
 ghost use Rattle.run_plan.specs.CanonicalPlan as model;
@@ -104,7 +105,7 @@ fn add_header(hasher: &mut Sha256, plan: &Plan)
 // Adds the thresholds slot by slot.
 fn add_rules(hasher: &mut Sha256, rules: &RuleTable)
     ensures { (m : List ℕ) → Holds256 hasher.old m →
-        Holds256 hasher.new (m ++ flat_map model.number_bytes rules.now.rows) }
+        Holds256 hasher.new (m ++ flat_map words_64 rules.now.rows) }
 {
     'slots: for slot in 0..rules.slots() {
         add_slot(hasher, rules, slot);
@@ -115,7 +116,7 @@ fn add_rules(hasher: &mut Sha256, rules: &RuleTable)
 fn add_slot(hasher: &mut Sha256, rules: &RuleTable, slot: u32)
     requires { slot < length rules.now.rows }
     ensures { (m : List ℕ) → Holds256 hasher.old m →
-        Holds256 hasher.new (m ++ model.number_bytes (thresholds_of rules.now slot)) }
+        Holds256 hasher.new (m ++ words_64 (thresholds_of rules.now slot)) }
 {
     let thresholds = &rules.row(slot).values;
     add_numbers(hasher, &thresholds[..cases(rules.kind())]);
@@ -124,7 +125,7 @@ fn add_slot(hasher: &mut Sha256, rules: &RuleTable, slot: u32)
 // Adds numbers one after the other.
 fn add_numbers(hasher: &mut Sha256, numbers: &[u64])
     ensures { (m : List ℕ) → Holds256 hasher.old m →
-        Holds256 hasher.new (m ++ model.number_bytes numbers.now) }
+        Holds256 hasher.new (m ++ words_64 numbers.now) }
 {
     'numbers: for number in numbers {
         add_u64(hasher, *number);
@@ -146,7 +147,7 @@ fn add_swaps(hasher: &mut Sha256, swaps: &SwapTable)
 fn add_entries(hasher: &mut Sha256, swaps: &SwapTable, pair: u32)
     requires { pair < length swaps.now }
     ensures { (m : List ℕ) → Holds256 hasher.old m →
-        Holds256 hasher.new (m ++ model.number_bytes (entries_of swaps.now pair)) }
+        Holds256 hasher.new (m ++ words_64 (entries_of swaps.now pair)) }
 {
     'entries: for entry in 0..swaps.entries(pair) {
         add_u64(hasher, swaps.threshold(pair, entry));
@@ -156,7 +157,7 @@ fn add_entries(hasher: &mut Sha256, swaps: &SwapTable, pair: u32)
 // Adds the word of each bond.
 fn add_couplings(hasher: &mut Sha256, couplings: &Couplings)
     ensures { (m : List ℕ) → Holds256 hasher.old m →
-        Holds256 hasher.new (m ++ model.number_bytes (model.bond_words couplings.now)) }
+        Holds256 hasher.new (m ++ words_64 (model.bond_words couplings.now)) }
 {
     let size = couplings.size();
     'bonds: for bond in 0..3 * (size * size * size) {

@@ -18,7 +18,7 @@ group-fit : (h : Header) (e pair : ℕ) (rows : List Row) → IsLawfulHeader h �
 group-fit h e pair [] lawful within order = tt
 group-fit h e pair (r ∷ rows) lawful within order = (row-fit h e pair r lawful (omega (arith, within)) order.0, group-fit h e (pair + 1) rows lawful (omega (arith, within)) order.1)
 
-all-append : {X : Type 0} (P : X → Type 0) (xs ys : List X) → AllByRecursion P xs → AllByRecursion P ys → AllByRecursion P (xs ++ ys)
+pub all-append : {X : Type 0} (P : X → Type 0) (xs ys : List X) → AllByRecursion P xs → AllByRecursion P ys → AllByRecursion P (xs ++ ys)
 all-append P [] ys p q = q
 all-append P (x ∷ xs) ys p q = (p.0, all-append P xs ys p.1 q)
 

@@ -15,6 +15,7 @@ use Rattle.sample_average.specs.LawfulReport.{IsInRange, IsLawfulHeader, sites, 
 use Rattle.std.specs.Char.{is_ascii_digit}
 use Rattle.sample_average.specs.LineReading.{◌>>=◌, after, number_at, negative, signed_at, rule_at, counts_at, span_at, header_at, row_at}
 use Rattle.sample_average.proofs.Numerals.{number-again, number-takes, decimal-digits}
+use Rattle.std.proofs.lemmas.Option.{same_Some, cond_some}
 
 -- ---- one step after another
 
@@ -22,19 +23,12 @@ pub bind-some : {A B : Type 0} (o : Option A) (f : A → Option B) (y : B) → (
 bind-some None f y is = absurd cc
 bind-some (Some x) f y is = (x, refl, is)
 
-pub some-same : {A : Type 0} (x y : A) → Some x ≡ Some y → x ≡ y
-some-same x y is = cc
-
-pub guarded : {X : Type 0} (b : Bool) (v w : X) → cond b (Some v) None ≡ Some w → (b ≡ true) × (v ≡ w)
-guarded true v w is = (refl, cc)
-guarded false v w is = absurd cc
-
 pub after-again : (text rest : List ℕ) → after text (text ++ rest) ≡ Some rest
 after-again text rest = rw ((bytes_eq-Decides (take (length text) (text ++ rest)) text).1 (take_at text rest (length text) refl)) (ap Some (drop_at text rest (length text) refl))
 
 pub after-takes : (text bytes rest : List ℕ) → after text bytes ≡ Some rest → bytes ≡ text ++ rest
 after-takes text bytes rest is =
-    let p = guarded (bytes_eq (take (length text) bytes) text) (drop (length text) bytes) rest is in
+    let p = cond_some (bytes_eq (take (length text) bytes) text) (drop (length text) bytes) rest is in
     sym (take-append-drop (length text) bytes) ∙ ap (λ (xs : List ℕ). xs ++ drop (length text) bytes) ((bytes_eq-Decides _ text).0 p.0) ∙ ap (λ (xs : List ℕ). text ++ xs) p.1
 
 -- ---- numbers with a sign
@@ -156,7 +150,7 @@ row-takes h bytes x some is =
     let n7 = bind-some (number_at (h.slots - 1) 44 n6.0.1) _ x n6.2 in
     let n8 = bind-some (number_at (h.slots - 1) 10 n7.0.1) _ x n7.2 in
     let row : Row = record { epoch = n1.0.0; sample = n2.0.0; slot = n3.0.0; first_energy = n4.0.0; second_energy = n5.0.0; overlap = n6.0.0; first_replica = n7.0.0; second_replica = n8.0.0 } in
-    let made : (row, n8.0.1) ≡ x = some-same _ x n8.2 in
+    let made : (row, n8.0.1) ≡ x = same_Some _ x n8.2 in
     let t1 = number-takes h.to 44 n0.0 n1.0 n1.1 in
     let t2 = number-takes h.samples 44 n1.0.1 n2.0 n2.1 in
     let t3 = number-takes h.slots 44 n2.0.1 n3.0 n3.1 in
@@ -224,7 +218,7 @@ counts-takes bytes x is =
     let t1 = number-takes 64 32 n0.0 n1.0 n1.1 in
     let t3 = number-takes 32 32 n2.0 n3.0 n3.1 in
     let t5 = number-takes 256 32 n4.0 n5.0 n5.1 in
-    subst (AreCounts bytes) (some-same _ x n5.2) (record {
+    subst (AreCounts bytes) (same_Some _ x n5.2) (record {
       text = six-joined bytes n0.0 n1.0.1 n2.0 n3.0.1 n4.0 (codes "glass 1 size=") (decimal n1.0.0) (codes "slots=") (decimal n3.0.0) (codes "samples=") (decimal n5.0.0) (32 ∷ n5.0.1)
           (after-takes (codes "glass 1 size=") bytes n0.0 n0.1) t1.0 (after-takes (codes "slots=") n1.0.1 n2.0 n2.1) t3.0 (after-takes (codes "samples=") n3.0.1 n4.0 n4.1) t5.0;
       size = t1.1;
@@ -248,7 +242,7 @@ span-takes bytes x is =
     let n5 = bind-some (number_at 1000000000 10 n4.0) _ x n4.2 in
     let t3 = number-takes 1000000000 32 n2.0 n3.0 n3.1 in
     let t5 = number-takes 1000000000 10 n4.0 n5.0 n5.1 in
-    subst (IsSpan bytes) (some-same _ x n5.2) (record {
+    subst (IsSpan bytes) (same_Some _ x n5.2) (record {
       text = six-joined bytes n0.0 n1.0.1 n2.0 n3.0.1 n4.0 (codes "rule=") (rule_text n1.0.0) (codes "from=") (decimal n3.0.0) (codes "to=") (decimal n5.0.0) (10 ∷ n5.0.1)
           (after-takes (codes "rule=") bytes n0.0 n0.1) (rule-takes n0.0 n1.0 n1.1) (after-takes (codes "from=") n1.0.1 n2.0 n2.1) t3.0 (after-takes (codes "to=") n3.0.1 n4.0 n4.1) t5.0;
       to = t5.1;
@@ -264,7 +258,7 @@ header-takes bytes x is =
     let text : bytes ≡ header_line header ++ n1.0.1 =
     c.text ∙ ap (λ (xs : List ℕ). codes "glass 1 size=" ++ (decimal header.size ++ 32 ∷ (codes "slots=" ++ (decimal header.slots ++ 32 ∷ (codes "samples=" ++ (decimal header.samples ++ 32 ∷ xs)))))) s.text
     ∙ sym (header-spread header n1.0.1) in
-    subst (λ (y : Header × List ℕ). (bytes ≡ header_line y.0 ++ y.1) × IsHeaderNear y.0) (some-same (header, n1.0.1) x n1.2)
+    subst (λ (y : Header × List ℕ). (bytes ≡ header_line y.0 ++ y.1) × IsHeaderNear y.0) (same_Some (header, n1.0.1) x n1.2)
     (text, record { size = c.size; slots = c.slots; samples = c.samples; to = s.to })
 
 header-some : (h : Header) → 0 < length (header_line h)

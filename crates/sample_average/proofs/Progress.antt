@@ -11,11 +11,12 @@ use Rattle.sample_average.specs.declared.place.Step.{Step}
 use Rattle.sample_average.specs.LawfulReport.{Report, IsLawfulHeader, Spells, header_line, report_lines, rows_of, lines}
 use Rattle.sample_average.specs.LineReading.{header_at}
 use Rattle.sample_average.specs.Following.{FitsPlace, Follows, line_at, row_then}
-use Rattle.sample_average.proofs.LineLaws.{some-same, header-again, header-takes}
+use Rattle.sample_average.proofs.LineLaws.{header-again, header-takes}
 use Rattle.sample_average.proofs.Lines.{IsLine, lines-line, header-line}
 use Rattle.sample_average.proofs.StepLaws.{takes}
 use Rattle.sample_average.proofs.Agains.{again}
 use Rattle.sample_average.proofs.Completing.{parts}
+use Rattle.std.proofs.lemmas.Option.{same_Some}
 
 -- these lines are read, the rows among them are seen, and what may follow them is what may follow at this place
 pub record Progress (h : Header) (bytes : List ℕ) (place : Place) (rest : List ℕ) (line : ℕ) (seen : List Row) : Type 0 where
@@ -52,7 +53,7 @@ goes : (h : Header) (place : Place) (bytes line : List ℕ) (x : Step × List �
     → Follows h place (line ∷ ls) rows → Goes h x.0 ls rows
 goes h place bytes line x ls rows lawful fits is text f =
     let a = again h place line ls rows lawful fits f in
-    let same : (a.step, x.1) ≡ x = some-same (a.step, x.1) x (sym (a.read x.1) ∙ ap (line_at h place) (sym text) ∙ is) in
+    let same : (a.step, x.1) ≡ x = same_Some (a.step, x.1) x (sym (a.read x.1) ∙ ap (line_at h place) (sym text) ∙ is) in
     subst (λ (y : Step × List ℕ). Goes h y.0 ls rows) same (record { others = a.others; all = a.all; later = a.later })
 
 pub progress-more : (h : Header) (bytes : List ℕ) (place : Place) (rest : List ℕ) (line : ℕ) (seen : List Row) (x : Step × List ℕ) → IsLawfulHeader h → Progress h bytes place rest line seen → line_at h place rest ≡ Some x
@@ -94,7 +95,7 @@ lines-spelled bytes r s =
 pub header-same : (g h : Header) → IsLawfulHeader g → IsLawfulHeader h → header_line g ≡ header_line h → g ≡ h
 header-same g h one other same =
     let e : Some (g, []) ≡ Some (h, []) = sym (header-again g [] one) ∙ ap (λ (xs : List ℕ). header_at (xs ++ [])) same ∙ header-again h [] other in
-    let p : (g, []) ≡ (h, []) = some-same _ _ e in
+    let p : (g, []) ≡ (h, []) = same_Some _ _ e in
     ap (λ (x : Header × List ℕ). x.0) p
 
 -- the rows that were seen are kept in the list, as far as it has places

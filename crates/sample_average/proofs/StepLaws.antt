@@ -13,9 +13,10 @@ use Rattle.sample_average.specs.declared.place.Step.{Step}
 use Rattle.sample_average.specs.LawfulReport.{IsLawfulHeader, IsRowOf, AreDigits, sites, pairs, row_line, end_line, spin_head, spin_line, spin_lines, is_hex}
 use Rattle.sample_average.specs.LineReading.{◌>>=◌, after, row_at}
 use Rattle.sample_average.specs.Following.{row_of, behind_row, row_step, first_row, next_row, end_at, digits_at, or_then, line_at, FitsPlace, SpinsFollow, Follows, row_then}
-use Rattle.sample_average.proofs.LineLaws.{bind-some, some-same, guarded, after-takes, IsRowNear, row-takes}
+use Rattle.sample_average.proofs.LineLaws.{bind-some, after-takes, IsRowNear, row-takes}
 use Rattle.sample_average.proofs.Lines.{IsLine, AreShort, row-line, end-line, spin-line}
 use Rattle.sample_average.proofs.Steps.{inside-row, behind-to, behind-fits-by, between-row}
+use Rattle.std.proofs.lemmas.Option.{same_Some, cond_some}
 
 -- a lawful header's numbers are small
 pub sites-few : (h : Header) → h.size ≤ 64 → sites h ≤ 262144
@@ -65,7 +66,7 @@ record RowRead (h : Header) (pair : ℕ) (bytes : List ℕ) (x : Row × List ℕ
 row-read : (h : Header) (pair : ℕ) (bytes : List ℕ) (x : Row × List ℕ) → IsLawfulHeader h → row_of h pair bytes ≡ Some x → RowRead h pair bytes x
 row-read h pair bytes x lawful is =
     let n = bind-some (row_at h bytes) _ x is in
-    let g = guarded (n.0.0.sample == pair / h.slots && n.0.0.slot == pair % h.slots) n.0 x n.2 in
+    let g = cond_some (n.0.0.sample == pair / h.slots && n.0.0.slot == pair % h.slots) n.0 x n.2 in
     let b = and_parts _ _ g.0 in
     let t = row-takes h bytes n.0 lawful.some_slots n.1 in
     subst (RowRead h pair bytes) g.1 (record { text = t.0; whole = row-line n.0.0 (near-short h n.0.0 lawful t.1); is = record { at_epoch = refl; of_sample = eqb-true _ _ b.0; of_slot = eqb-true _ _ b.1; range = t.1.range } })
@@ -84,13 +85,13 @@ row-takes-step h e pair bytes x below within at r = record {
 takes-inside : (h : Header) (e pair : ℕ) (bytes : List ℕ) (x : Step × List ℕ) → IsLawfulHeader h → e < h.to → pair < pairs h → next_row h e pair bytes ≡ Some x → Takes h (places.Inside e pair) bytes x
 takes-inside h e pair bytes x lawful below within is =
     let n = bind-some (row_of h pair bytes) _ x is in
-    let g = guarded (n.0.0.epoch == e) (row_step h pair n.0) x n.2 in
+    let g = cond_some (n.0.0.epoch == e) (row_step h pair n.0) x n.2 in
     subst (Takes h (places.Inside e pair) bytes) g.1 (row-takes-step h e pair bytes n.0 below within (eqb-true _ _ g.0) (row-read h pair bytes n.0 lawful n.1))
 
 takes-first : (h : Header) (least : ℕ) (bytes : List ℕ) (x : Step × List ℕ) → IsLawfulHeader h → first_row h least bytes ≡ Some x → Takes h (places.Between least) bytes x
 takes-first h least bytes x lawful is =
     let n = bind-some (row_of h 0 bytes) _ x is in
-    let g = guarded (nat_le least n.0.0.epoch && nat_lt n.0.0.epoch h.to) (row_step h 0 n.0) x n.2 in
+    let g = cond_some (nat_le least n.0.0.epoch && nat_lt n.0.0.epoch h.to) (row_step h 0 n.0) x n.2 in
     let b = and_parts _ _ g.0 in
     let t = row-takes-step h n.0.0.epoch 0 bytes n.0 (ltb-true _ _ b.1) (pairs-some h lawful) refl (row-read h 0 bytes n.0 lawful n.1) in
     subst (Takes h (places.Between least) bytes) g.1 (record {
@@ -105,7 +106,7 @@ takes-first h least bytes x lawful is =
 takes-end : (h : Header) (least : ℕ) (bytes : List ℕ) (x : Step × List ℕ) → IsLawfulHeader h → end_at h bytes ≡ Some x → Takes h (places.Between least) bytes x
 takes-end h least bytes x lawful is =
     let n = bind-some (after (end_line h.to) bytes) _ x is in
-    subst (Takes h (places.Between least) bytes) (some-same _ x n.2) (record {
+    subst (Takes h (places.Between least) bytes) (same_Some _ x n.2) (record {
       line = end_line h.to;
       text = after-takes (end_line h.to) bytes n.0 n.1;
       whole = end-line h.to (omega (arith, lawful.until));
@@ -122,7 +123,7 @@ takes-between h least bytes x (Some y) lawful first is = takes-first h least byt
 
 pub digits-takes : (count : ℕ) (bytes rest : List ℕ) → digits_at count bytes ≡ Some rest → (bytes ≡ take count bytes ++ 10 ∷ rest) × (length (take count bytes) ≡ count) × (list_all is_hex (take count bytes) ≡ true)
 digits-takes count bytes rest is =
-    let g = guarded (nat_lt count (length bytes) && slice_index bytes count == 10 && list_all is_hex (take count bytes)) (drop (count + 1) bytes) rest is in
+    let g = cond_some (nat_lt count (length bytes) && slice_index bytes count == 10 && list_all is_hex (take count bytes)) (drop (count + 1) bytes) rest is in
     let b = and_parts (nat_lt count (length bytes) && slice_index bytes count == 10) (list_all is_hex (take count bytes)) g.0 in
     let c = and_parts (nat_lt count (length bytes)) (slice_index bytes count == 10) b.0 in
     let long : count < length bytes = ltb-true _ _ c.0 in (
@@ -164,7 +165,7 @@ takes-spins h k bytes x false lawful few last is =
     let d = digits-takes (sites h / 4) n.0 m.0 m.1 in
     let digits = take (sites h / 4) n.0 in
     let more : k < 2 * pairs h = spins-more k (2 * pairs h) few (eqb-false _ _ last) in
-    subst (Takes h (places.Spins k) bytes) (some-same _ x m.2) (record {
+    subst (Takes h (places.Spins k) bytes) (same_Some _ x m.2) (record {
       line = spin_line h k digits;
       text = after-takes (spin_head h k) bytes n.0 n.1 ∙ ap (λ (xs : List ℕ). spin_head h k ++ xs) d.0 ∙ sym (spin-spread h k digits m.0);
       whole = spin-line h k digits (replica-small k (pairs h) more (pairs-few h lawful)) d.2;

@@ -1,5 +1,5 @@
 -- The first wrong line of a text, and a text that is a whole report.
-use Rattle.std.proofs.Common.{arith, ◌≡◌, ℕ, ◌+◌, ◌<◌, ◌≤◌, Bool, true, false, List, [], ◌∷◌, ◌++◌, length, take, drop, refl, sym, ap, subst, ◌∙◌, append_assoc, append-nil, length-append}
+use Rattle.std.proofs.Common.{arith, ◌≡◌, ℕ, ◌+◌, ◌<◌, ◌≤◌, true, false, List, [], ◌∷◌, ◌++◌, length, take, drop, refl, sym, ap, subst, ◌∙◌, append_assoc, append-nil, length-append}
 use Rattle.std.specs.Prelude.{Some, None}
 use Rattle.std.specs.List.{concat}
 use Rattle.std.proofs.lemmas.List.{take_at, take-append-le, take-append-drop, length_push}
@@ -10,12 +10,14 @@ use Rattle.sample_average.specs.declared.place.Place.TheVariants as places
 use Rattle.sample_average.specs.LawfulReport.{Report, IsLawful, IsLawfulHeader, Spells, Begins, IsWrongAt, IsReading, header_line, report_lines, rows_of, lines}
 use Rattle.sample_average.specs.LineReading.{header_at}
 use Rattle.sample_average.specs.Following.{Follows, line_at, may_end, rest_lines, is_lawful}
-use Rattle.sample_average.proofs.LineLaws.{some-same, header-again}
+use Rattle.sample_average.proofs.LineLaws.{header-again}
 use Rattle.sample_average.proofs.Lines.{concat-lines}
 use Rattle.sample_average.proofs.Agains.{again}
 use Rattle.sample_average.proofs.Completing.{complete, ends, no-end, no-rows, whole, parts}
 use Rattle.sample_average.proofs.HeaderTests.{passes}
 use Rattle.sample_average.proofs.Progress.{Progress, header-same, lines-spelled}
+use Rattle.std.proofs.lemmas.Option.{same_Some}
+use Rattle.std.proofs.lemmas.Bool.{both_ways}
 
 -- a lawful report that begins with the lines that were read goes on as may follow here
 record Reaches (h : Header) (place : Place) (seen : List Row) (more : List (List ℕ)) (r : Report) : Type 0 where
@@ -130,11 +132,7 @@ pub no-header : (bytes : List ℕ) → header_at bytes ≡ None → IsWrongAt by
 no-header bytes none = headless bytes (λ (h : Header) (rest : List ℕ) (lawful : IsLawfulHeader h) (text : bytes ≡ header_line h ++ rest).
     none-some (h, rest) (sym none ∙ ap header_at text ∙ header-again h rest lawful))
 
-true-false : (b : Bool) → b ≡ true → b ≡ false → ⊥
-true-false true one other = absurd cc
-true-false false one other = absurd cc
-
 pub bad-header : (bytes : List ℕ) (x : Header × List ℕ) → header_at bytes ≡ Some x → is_lawful x.0 ≡ false → IsWrongAt bytes 0
 bad-header bytes x is bad = headless bytes (λ (h : Header) (rest : List ℕ) (lawful : IsLawfulHeader h) (text : bytes ≡ header_line h ++ rest).
-    let same : (h, rest) ≡ x = some-same (h, rest) x (sym (header-again h rest lawful) ∙ ap header_at (sym text) ∙ is) in
-    true-false (is_lawful x.0) (subst (λ (y : Header × List ℕ). is_lawful y.0 ≡ true) same (passes h lawful)) bad)
+    let same : (h, rest) ≡ x = same_Some (h, rest) x (sym (header-again h rest lawful) ∙ ap header_at (sym text) ∙ is) in
+    both_ways (is_lawful x.0) bad (subst (λ (y : Header × List ℕ). is_lawful y.0 ≡ true) same (passes h lawful)))

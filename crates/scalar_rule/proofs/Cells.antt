@@ -1,6 +1,6 @@
 -- Places of the table of epochs, samples and slots, and what they have ahead of the least completed epoch.
-use Rattle.std.proofs.Common.{arith, ◌≡◌, ℕ, ◌+◌, ◌-◌, ◌*◌, ◌/◌, ◌%◌, ◌<◌, ◌≤◌, Bool, true, false, ◌&&◌, nat_lt, refl, ap, ◌∙◌}
-use Rattle.std.proofs.lemmas.Bool.{ltb-true, lt-ltb, false≢true}
+use Rattle.std.proofs.Common.{arith, ◌≡◌, ℕ, ◌+◌, ◌-◌, ◌*◌, ◌/◌, ◌%◌, ◌<◌, ◌≤◌, true, ◌&&◌, nat_lt, refl, ap, ◌∙◌}
+use Rattle.std.proofs.lemmas.Bool.{and_parts, ltb-true, lt-ltb}
 use Rattle.std.proofs.lemmas.Nat.{div-mul-add, mod-mul-add, div-add-mod', mod_below}
 use Rattle.scalar_rule.specs.Records.{is_recorded}
 use Rattle.scalar_rule.specs.Positions.{cell_number, cell_epoch, is_pending}
@@ -27,14 +27,9 @@ pub record IsKept (past : ℕ → ℕ) (c samples every n j : ℕ) : Type 0 wher
   pub printed : is_recorded every (cell_epoch c samples n j) ≡ true
   pub behind : cell_epoch c samples n j < past (j % n)
 
-both : (a b : Bool) → (a && b) ≡ true → (a ≡ true) × (b ≡ true)
-both true true h = (refl, refl)
-both true false h = absurd (false≢true h)
-both false b h = absurd (false≢true h)
-
 pub kept-means : (past : ℕ → ℕ) (c samples every n j : ℕ) → is_pending past c samples every n j ≡ true → IsKept past c samples every n j
 kept-means past c samples every n j h =
-    let z = both _ _ h in record { printed = z.0; behind = ltb-true _ _ z.1 }
+    let z = and_parts _ _ h in record { printed = z.0; behind = ltb-true _ _ z.1 }
 
 pub kept-tests : (past : ℕ → ℕ) (c samples every n j : ℕ) → is_recorded every (cell_epoch c samples n j) ≡ true → cell_epoch c samples n j < past (j % n) → is_pending past c samples every n j ≡ true
 kept-tests past c samples every n j printed is_past = let z : nat_lt (cell_epoch c samples n j) (past (j % n)) ≡ true = lt-ltb _ _ is_past in rw (printed, z) refl

@@ -110,15 +110,6 @@ sum-full f (suc n) u most sum t h =
       | inr a ↦ let other : t ≢ n = a.1 in sum-full f n u (λ j below. most j (omega arith)) (omega arith) t (omega arith)
     ]
 
-bit-most : (b : Bool) → one_if b ≤ 1
-bit-most true = omega arith
-bit-most false = omega arith
-
-pub count-most : (test : ℕ → Bool) (n : ℕ) → count_below test n ≤ n
-unfolding count_below
-count-most test zero = omega arith
-count-most test (suc n) = let z = count-most test n in let y = bit-most (test n) in omega arith
-
 -- a count grows
 pub count-grows : (test : ℕ → Bool) (n m : ℕ) → count_below test n ≤ count_below test (n + m)
 unfolding count_below

@@ -3,10 +3,11 @@ use Rattle.std.proofs.Common.{arith, ◌≡◌, inl, inr, ℕ, zero, suc, ◌+�
 use Rattle.std.proofs.lemmas.Bool.{cases_lt, cases_Bool, false≢true}
 use Rattle.std.proofs.Math.Nat.{mul-le-mul_right}
 use native.Mathlib.Nat.{mul_comm}
+use Rattle.spin_model.proofs.Counts.{count-most}
 use Rattle.scalar_rule.specs.Epoch.{has_turn}
 use Rattle.scalar_rule.specs.Ragged.{Position}
 use Rattle.scalar_rule.specs.Positions.{sum_below, done, position_in, turns, floor_of, deepest_of, least, greatest, AreInStep, pending_count}
-use Rattle.scalar_rule.proofs.Extremes.{least-some, greatest-below, sum-full, count-most}
+use Rattle.scalar_rule.proofs.Extremes.{least-some, greatest-below, sum-full}
 use Rattle.scalar_rule.proofs.SlotPartners.{sides, low-partner, high-partner, low-side, turns-from}
 
 -- as many turns of a pair lie below the epochs of its two slots

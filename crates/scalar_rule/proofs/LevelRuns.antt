@@ -2,6 +2,7 @@
 use Rattle.std.proofs.Common.{arith, ◌≡◌, ℕ, zero, suc, ◌+◌, ◌-◌, ◌*◌, ◌<◌, ◌≤◌, false, cond, nat_lt, List, [], length, flat_map, ap, ap₂, sym, ◌∙◌}
 use Rattle.std.proofs.lemmas.Bool.Decides.{nat_tests}
 use Rattle.spin_model.specs.Steps.{steps, table}
+use Rattle.spin_model.proofs.Joined.{joined-same}
 use Rattle.spin_model.proofs.Tables.{table-same, table-of_items, length-table, get_or-table}
 use Rattle.scalar_rule.specs.Plan.{Plan, slots_of, pairs_of}
 use Rattle.scalar_rule.specs.Epoch.{slot_at, swept_slot, swept_slots, record_of}
@@ -18,7 +19,7 @@ use Rattle.scalar_rule.specs.declared.sample.Record.{Record}
 use Rattle.scalar_rule.specs.declared.sample.Sample.{Sample}
 use Rattle.scalar_rule.proofs.Extremes.{least-some}
 use Rattle.scalar_rule.proofs.LevelStart.{start_position, ready-serial, generators-serial}
-use Rattle.scalar_rule.proofs.Resuming.{epochs, epochs-bit, epoch-serial, flat_map-table}
+use Rattle.scalar_rule.proofs.Resuming.{epochs, epochs-bit, epoch-serial}
 use Rattle.scalar_rule.proofs.UnevenContents.{arrived-swept}
 
 level-position : (plan : Plan) (s : Sample) (t : ℕ) → t < slots_of plan → position_in (level_start plan s).positions t ≡ start_position s
@@ -30,12 +31,12 @@ arrived-serial plan s e t from h =
     let here : rank (position_in (level_start plan s).positions t) ≡ 4 * s.epoch + 0 = ap rank (level-position plan s t h) in
     arrived-swept plan (level_start plan s) e t (omega arith) ∙ ap (swept_slot plan s.bit t) (ready-serial plan s e t from h)
 
-length-slots : (plan : Plan) (a n : ℕ) (s : Sample) → length s.slots ≡ slots_of plan → length (epochs plan a n s).slots ≡ slots_of plan
+pub length-slots : (plan : Plan) (a n : ℕ) (s : Sample) → length s.slots ≡ slots_of plan → length (epochs plan a n s).slots ≡ slots_of plan
 unfolding steps
 length-slots plan a zero s long = long
 length-slots plan a (suc n) s long = length-table _ (slots_of plan)
 
-length-pairs : (plan : Plan) (a n : ℕ) (s : Sample) → length s.pairs ≡ pairs_of plan → length (epochs plan a n s).pairs ≡ pairs_of plan
+pub length-pairs : (plan : Plan) (a n : ℕ) (s : Sample) → length s.pairs ≡ pairs_of plan → length (epochs plan a n s).pairs ≡ pairs_of plan
 unfolding steps
 length-pairs plan a zero s long = long
 length-pairs plan a (suc n) s long = length-table _ (pairs_of plan)
@@ -88,5 +89,5 @@ level-records plan start samples every e some states =
     let measured : (f b : ℕ) → c ≤ f → b < samples → uneven b f ≡ level b f = λ f b from h.
     let s = states b h in table-same _ _ n (λ t ht. level-record plan start samples every b f t s.0 s.1 from ht) in
     let each : (f : ℕ) → c ≤ f → U f ≡ L f = λ f from.
-    ap (λ r. cond (is_recorded every f) r []) (flat_map-table (λ b. uneven b f) (λ b. level b f) (λ b. b) samples (λ b h. measured f b from h)) in
-    ap (λ k. flat_map U (table (λ j. k + j) (e - k))) (level-floor plan (start 0) some) ∙ flat_map-table U L (λ j. c + j) (e - c) (λ k h. each (c + k) (omega arith))
+    ap (λ r. cond (is_recorded every f) r []) (joined-same (λ b. uneven b f) (λ b. level b f) (λ b. b) samples (λ b h. measured f b from h)) in
+    ap (λ k. flat_map U (table (λ j. k + j) (e - k))) (level-floor plan (start 0) some) ∙ joined-same U L (λ j. c + j) (e - c) (λ k h. each (c + k) (omega arith))

@@ -1,6 +1,6 @@
 -- Where all slots start at one epoch, the content of a slot at rest is that of the serial dynamics.
 use Rattle.std.proofs.Common.{inl, inr, ◌≡◌, ℕ, zero, suc, ◌+◌, ◌-◌, ◌<◌, ◌≤◌, Bool, true, false, not, ◌&&◌, cond, ◌==◌, nat_le, nat_lt, List, refl, ap, sym, ◌∙◌, arith, add-zero, add-suc}
-use Rattle.std.proofs.lemmas.Bool.{cases_Bool, ltb-true, eq-eqb}
+use Rattle.std.proofs.lemmas.Bool.{cases_Bool, ltb-true, eq-eqb, and_right}
 use Rattle.std.proofs.lemmas.Bool.Decides.{nat_tests}
 use Rattle.spin_model.specs.Steps.{steps}
 use Rattle.spin_model.proofs.Tables.{get_or-table}
@@ -83,13 +83,9 @@ pair-below n t e below has = elim (cases_Bool (has_turn t e)) [
       omega arith
 ]
 
-none : (b : Bool) → (b && false) ≡ false
-none true = refl
-none false = refl
-
-all : (b : Bool) → (b && true) ≡ b
-all true = refl
-all false = refl
+pub and-true : (b : Bool) → (b && true) ≡ b
+and-true true = refl
+and-true false = refl
 
 generators-next : (plan : Plan) (s : Sample) (k e : ℕ) → s.epoch ≤ e → k < slots_of plan
     → generators plan (level_start plan s) k (suc e) ≡ cond (has_turn k e) (drawn_pair (generators plan (level_start plan s) k e)) (generators plan (level_start plan s) k e)
@@ -98,7 +94,7 @@ generators-next plan s k e later below =
     let u = level_start plan s in
     let due : nat_le s.epoch e ≡ true = grind (arith, nat_tests) in
     let test : (has_turn k e && nat_le (position_at u k).epoch e) ≡ has_turn k e =
-    ap (λ (p : Position). has_turn k e && nat_le p.epoch e) (position-level plan s k below) ∙ ap (λ b. has_turn k e && b) due ∙ all (has_turn k e) in
+    ap (λ (p : Position). has_turn k e && nat_le p.epoch e) (position-level plan s k below) ∙ ap (λ b. has_turn k e && b) due ∙ and-true (has_turn k e) in
     ap (λ b. cond b (drawn_pair (generators plan u k e)) (generators plan u k e)) test
 
 ready-start : (plan : Plan) (s : Sample) (e t : ℕ) → t < slots_of plan → s.epoch ≡ e → ready plan (level_start plan s) e t ≡ slot_at s.slots t
@@ -142,7 +138,7 @@ generators-start plan s k (suc e) below upto =
     let before = generators-start plan s k e below (omega arith) in
     let early : nat_le s.epoch e ≡ false = grind (arith, nat_tests) in
     let test : (has_turn k e && nat_le (position_at u k).epoch e) ≡ false =
-    ap (λ (p : Position). has_turn k e && nat_le p.epoch e) (position-level plan s k below) ∙ ap (λ b. has_turn k e && b) early ∙ none (has_turn k e) in
+    ap (λ (p : Position). has_turn k e && nat_le p.epoch e) (position-level plan s k below) ∙ and_right (has_turn k e) _ early in
     ap (λ b. cond b (drawn_pair (generators plan u k e)) (generators plan u k e)) test ∙ before
 
 pub generators-level : (plan : Plan) (s : Sample) (k m : ℕ) → k < pairs_of plan → generators plan (level_start plan s) k (s.epoch + m) ≡ pair_at (epochs plan s.epoch m s).pairs k

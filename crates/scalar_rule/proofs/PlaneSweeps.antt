@@ -1,5 +1,5 @@
 -- A plane swept from the list of its draws is swept by the rule, and the planes of a colour make up its half sweep.
-use Rattle.std.proofs.Common.{◌≡◌, ℕ, zero, suc, ◌+◌, ◌*◌, ◌≤◌, Bool, true, false, cond, ◌==◌, List, [], ◌++◌, length, get_or, set, take, drop, refl, sym, ap, ◌∙◌, subst, arith, zero-add, add-one}
+use Rattle.std.proofs.Common.{◌≡◌, ℕ, zero, suc, ◌+◌, ◌*◌, ◌≤◌, Bool, ◌==◌, List, [], ◌++◌, length, get_or, set, take, drop, refl, sym, ap, ◌∙◌, subst, arith, zero-add, add-one}
 use Rattle.std.proofs.lemmas.Bool.{eqb-true}
 use Rattle.std.proofs.lemmas.Nat.{div-mul-add}
 use Rattle.std.proofs.lemmas.List.{take_all, drop_all, append-nil, get_or-set_other}
@@ -8,18 +8,13 @@ use Rattle.spin_model.specs.Lattice.{z_of, colour, place_in_plane, half_plane, I
 use Rattle.spin_model.specs.SiteRule.{new_spin}
 use Rattle.spin_model.specs.Steps.{steps}
 use Rattle.spin_model.specs.Stream.{draw, draws}
-use Rattle.spin_model.proofs.Stepping.{steps-same, steps-add}
+use Rattle.spin_model.proofs.Stepping.{steps-same, steps-add, cond-same}
 use Rattle.spin_model.proofs.Tables.{get_or-table}
 use Rattle.spin_model.proofs.CompactOrder.{place_in_plane-below}
 use Rattle.scalar_rule.specs.Neighbours.{spin, aligned, satisfied}
 use Rattle.scalar_rule.specs.Sweep.{Dynamics, Configuration, visit, site_draw, plane_drawn}
 use Rattle.scalar_rule.specs.declared.plain_copy.PlainCopy.{PlainCopy}
 use Rattle.scalar_rule.specs.Replica.{configuration_of}
-
--- where the test holds the two choices agree
-cond-same : {A : Type 0} (b : Bool) (x y z : A) → (b ≡ true → x ≡ y) → cond b x z ≡ cond b y z
-cond-same true x y z h = h refl
-cond-same false x y z h = refl
 
 -- the draw of a site of colour c in plane z, read from the list of the plane's draws
 draw-listed : (l : ℕ) (words : List (List ℕ)) (c z i : ℕ) → IsLawfulSize l → colour l i ≡ c → z_of l i ≡ z

@@ -4,6 +4,7 @@ use Rattle.std.proofs.lemmas.Bool.{cases_lt, cases_Bool, lt-ltb}
 use Rattle.std.proofs.lemmas.Bool.Decides.{nat_tests}
 use Rattle.std.proofs.lemmas.Grind.{flat_map-append}
 use Rattle.spin_model.specs.Steps.{table}
+use Rattle.spin_model.proofs.Joined.{joined-same}
 use Rattle.spin_model.proofs.Tables.{table-same, table-add}
 use Rattle.scalar_rule.specs.Plan.{Plan, slots_of, pairs_of}
 use Rattle.scalar_rule.specs.Epoch.{record_of}
@@ -15,7 +16,6 @@ use Rattle.scalar_rule.specs.declared.sample.PlainPair.{PlainPair}
 use Rattle.scalar_rule.specs.declared.sample.PlainSlot.{PlainSlot}
 use Rattle.scalar_rule.specs.declared.sample.Record.{Record}
 use Rattle.scalar_rule.specs.declared.sample.Sample.{Sample}
-use Rattle.scalar_rule.proofs.Resuming.{flat_map-table}
 use Rattle.scalar_rule.proofs.UnevenReached.{ready-reached, generators-reached, arrived-reached}
 
 -- a slot that is later has completed as many epochs or more
@@ -78,7 +78,7 @@ records-reached plan samples every e starts pending later kept all upto =
     let G : ℕ → List Record = λ f. cond (is_recorded every f) (records_at from_later samples f) [] in
     let each : (f : ℕ) → m ≤ f → G f ≡ F f = λ f after. elim (cases_Bool (is_recorded every f)) [
       | inl on ↦ ap (λ r. cond (is_recorded every f) r [])
-          (flat_map-table (λ b. from_later b f) (λ b. from_start b f) (λ b. b) samples
+          (joined-same (λ b. from_later b f) (λ b. from_start b f) (λ b. b) samples
           (λ b h. table-same _ _ n (λ t ht. record-reached plan samples every b f t starts pending later kept all after on h ht)))
       | inr off ↦ ap (λ a. cond a (records_at from_later samples f) []) off ∙ sym (ap (λ a. cond a (records_at from_start samples f) []) off)
     ] in
@@ -86,5 +86,5 @@ records-reached plan samples every e starts pending later kept all upto =
     let whole : flat_map F (table (λ k. c + k) (e - c)) ≡ flat_map F (table (λ k. c + k) (m - c)) ++ flat_map F (table (λ k. c + ((m - c) + k)) (e - m)) =
     ap (λ k. flat_map F (table (λ j. c + j) k)) size ∙ (ap (flat_map F) (table-add (λ k. c + k) (m - c) (e - m)) ∙ flat_map-append F (table (λ k. c + k) (m - c)) (table (λ k. c + ((m - c) + k)) (e - m))) in
     let shift : table (λ k. c + ((m - c) + k)) (e - m) ≡ table (λ k. m + k) (e - m) = table-same _ _ (e - m) (λ k h. omega arith) in
-    let last : flat_map G (table (λ k. m + k) (e - m)) ≡ flat_map F (table (λ k. m + k) (e - m)) = flat_map-table G F (λ k. m + k) (e - m) (λ k h. each (m + k) (omega arith)) in
+    let last : flat_map G (table (λ k. m + k) (e - m)) ≡ flat_map F (table (λ k. m + k) (e - m)) = joined-same G F (λ k. m + k) (e - m) (λ k h. each (m + k) (omega arith)) in
     ap (λ v. flat_map F (table (λ k. c + k) (m - c)) ++ v) (last ∙ ap (flat_map F) (sym shift)) ∙ sym whole

@@ -1,8 +1,8 @@
 -- A run that is stopped and resumed goes on as the whole run does, and so do its records.
 use Rattle.std.proofs.Common.{◌≡◌, ℕ, zero, suc, ◌+◌, ◌-◌, ◌<◌, ◌≤◌, cond, List, [], ◌∷◌, ◌++◌, flat_map, refl, ap, sym, ◌∙◌, arith, add-zero}
 use Rattle.std.proofs.lemmas.Grind.{flat_map-append}
-use Rattle.std.proofs.lemmas.List.Concat.{flat_map-cons}
 use Rattle.spin_model.specs.Steps.{steps, table}
+use Rattle.spin_model.proofs.Joined.{joined-same}
 use Rattle.spin_model.proofs.Stepping.{steps-add}
 use Rattle.spin_model.proofs.Tables.{table-add, table-same}
 use Rattle.scalar_rule.specs.Plan.{Plan}
@@ -43,23 +43,10 @@ serial-serial plan s c e from to =
     ∙ sym (steps-add (λ _ t. epoch plan t) s.epoch before (e - c) s)
     ∙ ap (λ n. epochs plan s.epoch n s) whole
 
-flat_map-one : {X : Type 0} (g h : ℕ → List X) (k : ℕ) → g k ≡ h k → flat_map g (k ∷ []) ≡ flat_map h (k ∷ [])
-flat_map-one g h k same = flat_map-cons g k [] ∙ ap (λ v. v ++ []) same ∙ sym (flat_map-cons h k [])
-
-pub flat_map-table : {X : Type 0} (g h : ℕ → List X) (item : ℕ → ℕ) (n : ℕ) → ((k : ℕ) → k < n → g (item k) ≡ h (item k)) → flat_map g (table item n) ≡ flat_map h (table item n)
-unfolding table
-flat_map-table g h item zero same = refl
-flat_map-table g h item (suc n) same =
-    let before = flat_map-table g h item n (λ k below. same k (omega arith)) in
-    flat_map-append g (table item n) (item n ∷ [])
-    ∙ ap (λ u. u ++ flat_map g (item n ∷ [])) before
-    ∙ ap (λ v. flat_map h (table item n) ++ v) (flat_map-one g h (item n) (same n (omega arith)))
-    ∙ sym (flat_map-append h (table item n) (item n ∷ []))
-
 records_at-resumed : (plan : Plan) (start : ℕ → Sample) (samples c f : ℕ) → c ≤ f → ((b : ℕ) → b < samples → (start b).epoch ≤ c)
     → records_at (measured_from plan (λ b. serial plan (start b) c)) samples f ≡ records_at (measured_from plan start) samples f
 records_at-resumed plan start samples c f later started =
-    flat_map-table (λ b. epoch_records plan (serial plan (serial plan (start b) c) f)) (λ b. epoch_records plan (serial plan (start b) f)) (λ b. b) samples
+    joined-same (λ b. epoch_records plan (serial plan (serial plan (start b) c) f)) (λ b. epoch_records plan (serial plan (start b) f)) (λ b. b) samples
     (λ b below. ap (epoch_records plan) (serial-serial plan (start b) c f (started b below) later))
 
 -- the records of epoch f, if it is recorded
@@ -72,7 +59,7 @@ in_order-resumed plan start samples every a c e from to started =
     let g = records_if plan start samples every in
     let h = records_if plan (λ b. serial plan (start b) c) samples every in
     let first = table (λ k. a + k) (c - a) in
-    let rest = flat_map-table h g (λ k. c + k) (e - c) (λ k below. ap (λ r. cond (is_recorded every (c + k)) r []) (records_at-resumed plan start samples c (c + k) (omega arith) started)) in
+    let rest = joined-same h g (λ k. c + k) (e - c) (λ k below. ap (λ r. cond (is_recorded every (c + k)) r []) (records_at-resumed plan start samples c (c + k) (omega arith) started)) in
     let places = table-same (λ k. a + (c - a + k)) (λ k. c + k) (e - c) (λ k below. omega arith) in
     let whole : c - a + (e - c) ≡ e - a = omega arith in
     ap (λ v. flat_map g first ++ v) rest

@@ -1,15 +1,11 @@
 -- What slots and pairs hold, one epoch on and where they start.
-use Rattle.std.proofs.Common.{arith, ◌≡◌, inl, inr, ℕ, zero, suc, ◌+◌, ◌*◌, ◌<◌, ◌≤◌, Bool, true, false, not, ◌&&◌, cond, ◌==◌, nat_le, refl, sym, ap, ◌∙◌, add-one}
-use Rattle.std.proofs.lemmas.Bool.{ne_eqb, eq-eqb, le-leb}
-use Rattle.std.proofs.lemmas.Bool.Decides.{leb_tells}
+use Rattle.std.proofs.Common.{arith, ◌≡◌, ℕ, zero, suc, ◌+◌, ◌*◌, ◌<◌, ◌≤◌, Bool, true, false, not, ◌&&◌, cond, ◌==◌, nat_le, refl, sym, ◌∙◌, add-one}
+use Rattle.std.proofs.lemmas.Bool.{ne_eqb, eq-eqb, le-leb, lt-leb, and_right}
 use Rattle.scalar_rule.specs.Plan.{Plan, slots_of}
 use Rattle.scalar_rule.specs.Epoch.{has_turn, has_partner, partner, pair_of, side, pair_at, slot_at, swept_slot}
 use Rattle.scalar_rule.specs.Exchange.{drawn_pair}
 use Rattle.scalar_rule.specs.Ragged.{UnevenState, position_at, generators, ready, arrived}
 use Rattle.scalar_rule.specs.Positions.{rank, content}
-
-not-le-leb : (a b : ℕ) → b < a → nat_le a b ≡ false
-not-le-leb a b h = elim (leb_tells a b) [ inl t ↦ absurd (omega arith) | inr t ↦ t.0 ]
 
 pub generators-more : (plan : Plan) (s : UnevenState) (k e : ℕ)
     → generators plan s k (e + 1) ≡ cond (has_turn k e && nat_le (position_at s k).epoch e) (drawn_pair (generators plan s k e)) (generators plan s k e)
@@ -23,16 +19,12 @@ pub generators-turned : (plan : Plan) (s : UnevenState) (k e : ℕ) → has_turn
     → generators plan s k (e + 1) ≡ drawn_pair (generators plan s k e)
 generators-turned plan s k e turn later = generators-more plan s k e ∙ (let z = le-leb _ _ later in rw (turn, z) refl)
 
-and-false : (b : Bool) → (b && false) ≡ false
-and-false true = refl
-and-false false = refl
-
 pub generators-from : (plan : Plan) (s : UnevenState) (k e : ℕ) → e ≤ (position_at s k).epoch → generators plan s k e ≡ pair_at s.pairs k
 unfolding generators
 generators-from plan s k zero h = refl
 generators-from plan s k (suc e) h =
-    let z : nat_le (position_at s k).epoch e ≡ false = not-le-leb _ _ (omega arith) in
-    let y : (has_turn k e && nat_le (position_at s k).epoch e) ≡ false = ap (λ x. has_turn k e && x) z ∙ and-false (has_turn k e) in
+    let z : nat_le (position_at s k).epoch e ≡ false = lt-leb _ _ (omega arith) in
+    let y : (has_turn k e && nat_le (position_at s k).epoch e) ≡ false = and_right (has_turn k e) _ z in
     rw y (generators-from plan s k e (omega arith))
 
 not-back : (a : Bool) (p e : ℕ) → 4 * p + cond a 2 0 ≤ 4 * e + 2 → (not a && (p == suc e)) ≡ false

@@ -1,6 +1,6 @@
 -- From a state whose slots have the content of another's at later positions the dynamics goes on as from that other.
-use Rattle.std.proofs.Common.{arith, ◌≡◌, inl, inr, ◌⊎◌, ℕ, zero, suc, ◌+◌, ◌-◌, ◌*◌, ◌<◌, ◌≤◌, ◌≢◌, Bool, true, false, ◌&&◌, cond, nat_le, refl, sym, ap, ap₂, ◌∙◌, subst}
-use Rattle.std.proofs.lemmas.Bool.{le-leb, cases_lt}
+use Rattle.std.proofs.Common.{arith, ◌≡◌, inl, inr, ◌⊎◌, ℕ, zero, suc, ◌+◌, ◌-◌, ◌*◌, ◌<◌, ◌≤◌, ◌≢◌, Bool, true, false, ◌&&◌, ◌==◌, cond, nat_le, refl, sym, ap, ap₂, ◌∙◌, subst}
+use Rattle.std.proofs.lemmas.Bool.{le-leb, cases_lt, cases_Bool}
 use Rattle.std.proofs.lemmas.Bool.Decides.{eqb_tells}
 use Rattle.scalar_rule.specs.Plan.{Plan, slots_of}
 use Rattle.scalar_rule.specs.Epoch.{has_turn, has_partner, partner, pair_of, side, slot_at, swept_slot}
@@ -13,20 +13,21 @@ use Rattle.scalar_rule.specs.declared.sample.PlainPair.{PlainPair}
 use Rattle.scalar_rule.proofs.SlotPartners.{turns-from, sides, low-partner, high-partner, back}
 use Rattle.scalar_rule.proofs.UnevenContents.{generators-more, generators-from, ready-alone, ready-settled, arrived-swept, content-start}
 
-abbrev bit : Bool → ℕ
+abbrev pub bit : Bool → ℕ
 bit a = cond a 2 0
 
 bit-small : (a : Bool) → bit a ≤ 2
 bit-small true = omega arith
 bit-small false = omega arith
 
-bit-tells : (a : Bool) → ((a ≡ true) × (bit a ≡ 2)) ⊎ ((a ≡ false) × (bit a ≡ 0))
+pub bit-tells : (a : Bool) → ((a ≡ true) × (bit a ≡ 2)) ⊎ ((a ≡ false) × (bit a ≡ 0))
 bit-tells true = inl (refl, refl)
 bit-tells false = inr (refl, refl)
 
-decide : (a : Bool) → (a ≡ true) ⊎ (a ≡ false)
-decide true = inl refl
-decide false = inr refl
+-- a phase of 2 tells that a slot waits
+pub phase-waits : (a : Bool) → (cond a 2 0 == 2) ≡ a
+phase-waits true = refl
+phase-waits false = refl
 
 side-same : (plan : Plan) (b b' e t : ℕ) (w w' : PlainPair) (x x' y y' : PlainSlot) → b ≡ b' → w ≡ w' → x ≡ x' → y ≡ y' → side plan b e t w x y ≡ side plan b' e t w' x' y'
 side-same plan b b' e t w w' x x' y y' eb ew ex ey = rw (eb, ew, ex, ey) refl
@@ -143,7 +144,7 @@ ready-reached plan s r (suc e) t h known below =
           let b1 : rank (position_at s t) ≤ 4 * e + 2 = omega arith in
           let place : suc e ≡ e + 1 = omega arith in
           let x = arrived-from-ready plan s r e t h known b0 (ready-reached plan s r e t h known) in
-          let step : ready plan r (e + 1) t ≡ ready plan s (e + 1) t = elim (decide (has_partner (slots_of plan) t e)) [
+          let step : ready plan r (e + 1) t ≡ ready plan s (e + 1) t = elim (cases_Bool (has_partner (slots_of plan) t e)) [
             | inl has ↦
                 let k = back (slots_of plan) t e known has in
                 let w = generators-reached plan s r (pair_of t e) e h (pair-known (slots_of plan) t e known has) (pair-past plan s r e t h known has b0) in

@@ -1,5 +1,5 @@
 -- The measurement records of a run: of each recorded epoch, each printed sample and each slot, in this order.
-use Rattle.std.specs.Prelude.{ℕ, ◌+◌, ◌-◌, ◌%◌, Bool, ◌==◌, if◌then◌else◌, List, [], flat_map}
+use Rattle.std.specs.Prelude.{ℕ, ◌+◌, ◌-◌, ◌%◌, Bool, ◌==◌, if◌then◌else◌, List, [], flat_map, slice_index_or, pos}
 use Rattle.spin_model.specs.Steps.{table}
 use Rattle.scalar_rule.specs.Plan.{Plan}
 use Rattle.scalar_rule.specs.Epoch.{epoch_records}
@@ -10,6 +10,14 @@ use Rattle.scalar_rule.specs.declared.sample.Record.{Record}
 -- an epoch is recorded: it is the last of each `every`
 abbrev pub is_recorded : ℕ → ℕ → Bool
 is_recorded every e = e % every == every - 1
+
+-- a record of zeros, which stands where there is none
+abbrev pub no_record : Record
+no_record = record { first_energy = pos 0; second_energy = pos 0; overlap = pos 0; first_replica = 0; second_replica = 0 }
+
+-- record j of a list
+abbrev pub record_at : List Record → ℕ → Record
+record_at records j = slice_index_or records j no_record
 
 -- the records of the first samples at epoch e, where `measured b e` are those of sample b, slot by slot
 abbrev pub records_at : (ℕ → ℕ → List Record) → ℕ → ℕ → List Record

@@ -9,13 +9,13 @@ use Rattle.exchange_board.specs.declared.board.Next.{Next}
 use Rattle.exchange_board.specs.declared.board.Next.TheVariants as nexts
 use Rattle.turn_cell.specs.Progress.{ArePhased, AtMost}
 use Rattle.turn_cell.specs.AtomicSteps.{after_return, IsStored}
-use Rattle.turn_cell.proofs.Keeping.{one_some}
 use Rattle.turn_cell.proofs.Views.{at_most_itself, at_most_set}
 use Rattle.shared_board.specs.Words.{HasTakesLeft, MustWait, IsFinished, IsStopped}
 use Rattle.shared_board.specs.Turns.{IsLook, IsHandOut, TakesSlot}
 use Rattle.shared_board.specs.Shared.{knows, HasFound}
 use Rattle.shared_board.proofs.Words.{word-at, words-long, words-set, place-set, phased-words, phased-set, set-back, taken-words, ended-words, words-ended, none_ready-words, out_words}
 use Rattle.shared_board.proofs.Stores.{SeatView, left, stored-out, one-turn}
+use Rattle.std.proofs.lemmas.Option.{same_Some}
 
 -- the word of the slot that is handed out, before and after
 word-before : (b c : BoardView) (j : JobView) → Takes b c j → get_or (words_of b) j.slot 0 ≡ 4 * j.epoch
@@ -87,7 +87,7 @@ look v h w b Says has small back says =
     let seen : w.seen ≡ ws = ap (λ (x : SeatView). x.seen) is in
     record {
       turn = one-turn v h w b ws w.seen v.out has is seen (at_most_itself ws) (phased-words b.places small) refl;
-      says = λ o base. subst (λ (p : Origin). Says p w.seen) (one_some (sym has.base ∙ base)) (subst (Says b.origin) (sym seen) says);
+      says = λ o base. subst (λ (p : Origin). Says p w.seen) (same_Some _ _ (sym has.base ∙ base)) (subst (Says b.origin) (sym seen) says);
     }
 
 -- a board that hands nothing out leaves its words as they are

@@ -1,5 +1,6 @@
 pub mod Stepping
 pub mod Tables
+pub mod WordBytes
 pub mod Counts
 pub mod Joined
 pub mod Streams

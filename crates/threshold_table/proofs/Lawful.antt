@@ -1,28 +1,16 @@
 -- A table that is not refused is lawful: each row has as many numbers as it may have, and each number is a threshold.
-use Rattle.std.proofs.Common.{◌≡◌, ℕ, ◌+◌, ◌≤◌, Bool, true, false, List, [], ◌∷◌, length, map, Option, Some, None, Ok, refl, sym, arith}
+use Rattle.std.proofs.Common.{◌≡◌, ℕ, ◌+◌, ◌≤◌, true, List, [], ◌∷◌, length, map, None, Ok, refl, sym, arith}
 use Rattle.std.specs.Prelude.{nat_le, if◌then◌else◌}
 use Rattle.std.specs.List.{All, list_all}
+use Rattle.std.proofs.lemmas.Bool.{leb-true}
 use Rattle.std.proofs.lemmas.Bool.Decides.{nat_tests}
 use Rattle.std.proofs.lemmas.List.{length-map}
 use Rattle.std.proofs.lemmas.List.Elements.{All-nil, All-cons, All-same}
-use Rattle.glass_edges.specs.Refusals.{or_else, first_found, unless}
+use Rattle.glass_edges.specs.Refusals.{first_found}
+use Rattle.glass_edges.proofs.FirstRefusals.{or-none, if-none, unless-ok}
 use Rattle.threshold_table.specs.declared.bounds.Bounds.{Bounds}
 use Rattle.threshold_table.specs.TableText.{is_within, is_lawful, is_number, trimmed, without_mark, records, fields, field_value, record_values, field_refusal, record_refusal, count_refusal, table_refusal, rows_of, table_of}
 use Rattle.threshold_table.specs.Tables.{IsLawfulRow}
-
--- ---- a refusal that is none
-
-or-none : {E : Type 0} (first later : Option E) → None ≡ or_else first later → (None ≡ first) × (None ≡ later)
-or-none None later none = (refl, none)
-or-none (Some e) later none = absurd cc
-
-if-none : {E : Type 0} (test : Bool) (x : Option E) (e : E) → None ≡ (if test then x else Some e) → (test ≡ true) × (None ≡ x)
-if-none true x e none = (refl, none)
-if-none false x e none = absurd cc
-
-unless-ok : {A E : Type 0} (found : Option E) (x y : A) → unless found x ≡ Ok y → (None ≡ found) × (x ≡ y)
-unless-ok None x y is = (refl, cc)
-unless-ok (Some e) x y is = absurd cc
 
 within : (bounds : Bounds) (n : ℕ) → is_within bounds n ≡ true → (bounds.least ≤ n) × (n ≤ bounds.most)
 within bounds n test = (grind (arith, nat_tests), grind (arith, nat_tests))
@@ -31,16 +19,13 @@ within bounds n test = (grind (arith, nat_tests), grind (arith, nat_tests))
 pub counted : (height : Bounds) (n : ℕ) → None ≡ count_refusal height n → (height.least ≤ n) × (n ≤ height.most)
 counted height n none = (grind (arith, nat_tests), grind (arith, nat_tests))
 
-at-most : (n : ℕ) → nat_le n 4294967296 ≡ true → n ≤ 4294967296
-at-most n test = grind (arith, nat_tests)
-
 -- ---- fields, records and the table
 
 field-limited : (at k : ℕ) (field : List ℕ) → None ≡ field_refusal at k field → field_value field ≤ 4294967296
 unfolding field_refusal
 field-limited at k field none =
     let number = if-none (is_number (trimmed field)) _ _ none in
-    at-most (field_value field) (if-none (nat_le (field_value field) 4294967296) None _ number.1).0
+    leb-true (field_value field) 4294967296 (if-none (nat_le (field_value field) 4294967296) None _ number.1).0
 
 fields-limited : (at k : ℕ) (fs : List (List ℕ)) → None ≡ first_found (field_refusal at) k fs → All (λ n. n ≤ 4294967296) (map field_value fs)
 unfolding first_found

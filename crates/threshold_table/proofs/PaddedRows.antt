@@ -1,9 +1,9 @@
 -- The thresholds of a slot among the seven values of its row.
-use Rattle.std.proofs.Common.{◌≡◌, ℕ, ◌+◌, ◌-◌, ◌<◌, ◌≤◌, Bool, true, false, List, [], ◌∷◌, ◌++◌, length, get_or, take, drop, map, refl, sym, ap, ◌∙◌, arith}
+use Rattle.std.proofs.Common.{◌≡◌, ℕ, ◌+◌, ◌-◌, ◌<◌, ◌≤◌, true, List, [], ◌∷◌, ◌++◌, length, get_or, take, drop, map, refl, sym, ap, ◌∙◌, arith}
 use Rattle.std.specs.Prelude.{nat_le, ◌==◌, ◌&&◌, replicate}
 use Rattle.std.specs.List.{All, list_all}
 use Rattle.std.proofs.lemmas.Bool.Decides.{nat_tests}
-use Rattle.std.proofs.lemmas.Bool.{eqb-true}
+use Rattle.std.proofs.lemmas.Bool.{eqb-true, and_parts}
 use Rattle.std.proofs.lemmas.List.{take-append-le, take_all, length-take, length-drop, length-map, take-append-drop, take_more, map-append}
 use Rattle.std.proofs.lemmas.List.Elements.{All-take, All-weaker, All-get_or, All-from_get_or, All-map}
 use Rattle.std.proofs.lemmas.List.Sums.{AllPass-from_list_all}
@@ -13,10 +13,6 @@ use Rattle.threshold_table.specs.declared.rule_table.RuleRow.{RuleRow}
 use Rattle.threshold_table.specs.Tables.{IsLawfulRow, IsLawfulRules, cases_of, rule_width, padded, thresholds_in, is_lawful_row}
 use Rattle.threshold_table.specs.KeptRules.{IsPadded, KeepsRules}
 
-both : (a b : Bool) → (a && b) ≡ true → (a ≡ true) × (b ≡ true)
-both true b e = (refl, e)
-both false b e = absurd cc
-
 pub cases-short : (kind : RuleKind) → cases_of kind ≤ 7
 cases-short kinds.Heat = omega arith
 cases-short kinds.Metropolis = omega arith
@@ -25,7 +21,7 @@ cases-short kinds.Metropolis = omega arith
 zeros : (xs : List ℕ) → list_all (λ n. n == 0) xs ≡ true → xs ≡ replicate (length xs) 0
 zeros [] e = refl
 zeros (x ∷ xs) e =
-    let p = both (x == 0) (list_all (λ n. n == 0) xs) e in
+    let p = and_parts (x == 0) (list_all (λ n. n == 0) xs) e in
     let head : x ≡ 0 = eqb-true x 0 p.0 in
     let tail : xs ≡ replicate (length xs) 0 = zeros xs p.1 in
     cc
@@ -33,7 +29,7 @@ zeros (x ∷ xs) e =
 -- seven values of which the unused are zeros
 pub row-padded : (kind : RuleKind) (row : RuleRow) → length row.values ≡ 7 → is_lawful_row kind row ≡ true → IsPadded kind row
 row-padded kind row sized lawful =
-    let p = both (list_all (λ n. nat_le n 4294967296) row.values) (list_all (λ n. n == 0) (drop (cases_of kind) row.values)) lawful in
+    let p = and_parts (list_all (λ n. nat_le n 4294967296) row.values) (list_all (λ n. n == 0) (drop (cases_of kind) row.values)) lawful in
     let rest : drop (cases_of kind) row.values ≡ replicate (length (drop (cases_of kind) row.values)) 0 = zeros _ p.1 in
     let short = cases-short kind in
     let len : length (drop (cases_of kind) row.values) ≡ 7 - length (take (cases_of kind) row.values) = rw (length-drop, length-take) (omega arith) in
@@ -45,7 +41,7 @@ limits xs lawful = All-weaker (λ n. nat_le n 4294967296 ≡ true) (λ n. n ≤ 
 
 pub row-lawful : (kind : RuleKind) (row : RuleRow) → length row.values ≡ 7 → is_lawful_row kind row ≡ true → IsLawfulRow (rule_width kind) (thresholds_in kind row)
 row-lawful kind row sized lawful =
-    let p = both (list_all (λ n. nat_le n 4294967296) row.values) (list_all (λ n. n == 0) (drop (cases_of kind) row.values)) lawful in
+    let p = and_parts (list_all (λ n. nat_le n 4294967296) row.values) (list_all (λ n. n == 0) (drop (cases_of kind) row.values)) lawful in
     let short = cases-short kind in
     record {
       least = rw length-take (omega arith);

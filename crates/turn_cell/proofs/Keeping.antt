@@ -11,14 +11,9 @@ use Rattle.turn_cell.specs.Progress.{ArePhased, AreAtHome, NoneIsInWork, AtMost,
 use Rattle.turn_cell.specs.AtomicSteps.{after_turn, after_refusal, after_return, Tries, GivesBack}
 use Rattle.turn_cell.specs.LockRule.{HasView, IsBased, Fits, HasHolder, LockRule}
 use Rattle.turn_cell.proofs.Adding.{total-set, length-numbers_from, numbers-sum_below, out_no}
-use Rattle.turn_cell.proofs.Views.{in_range, not_true, other_views, each_view, only_view, at_most_itself}
-
-abbrev unwrap_or_first : {A : Type 0} → A → Option A → A
-unwrap_or_first a None = a
-unwrap_or_first a (Some b) = b
-
-pub one_some : {A : Type 0} {a b : A} → Some a ≡ Some b → a ≡ b
-one_some {A = A} {a = a} e = ap (unwrap_or_first a) e
+use Rattle.turn_cell.proofs.Views.{in_range, other_views, each_view, only_view, at_most_itself}
+use Rattle.std.proofs.lemmas.Bool.{false_from_ne_true}
+use Rattle.std.proofs.lemmas.Option.{same_Some}
 
 -- words at home are phased, and none is in work
 pub at_home-phased : (ws : List ℕ) → AreAtHome ws → ArePhased ws
@@ -201,7 +196,7 @@ module _ {T O : Type 0} (origin : T → O) (marks : T → List ℕ) where
       let h = r.held (λ e. true≢false (sym holds ∙ r.free e id m.0 me)) in
       let mine : id ≡ h.1.seat = h.1.alone id m.0 me holds in
       let idle : (j : ℕ) (u : View O) → get_elem? (set s.views id w) j ≡ some u → u.holding ≡ false =
-      other_views (λ j (u : View O). u.holding ≡ false) s.views id w (λ j u ne e. not_true u.holding (λ is. ne (h.1.alone j u e is ∙ sym mine))) refl in (
+      other_views (λ j (u : View O). u.holding ≡ false) s.views id w (λ j u ne e. false_from_ne_true u.holding (λ is. ne (h.1.alone j u e is ∙ sym mine))) refl in (
         w,
         gives,
         tt,
@@ -211,7 +206,7 @@ module _ {T O : Type 0} (origin : T → O) (marks : T → List ℕ) where
             (λ _. (
               value,
               ap (λ (l : List (ℕ × Option T)). get_elem? (put_back s.homes l) 0) out ∙ set_here s.homes 0 (some (Some value)) (omega arith),
-              (one_some (fits.0 ∙ base.0), fits.1 ∙ known),
+              (same_Some _ _ (fits.0 ∙ base.0), fits.1 ∙ known),
             ))
             (λ j u e is. absurd (true≢false (sym is ∙ idle j u e))),
         ap (λ (l : List (ℕ × Option T)). (w, rest l)) out,

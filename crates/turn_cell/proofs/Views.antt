@@ -1,5 +1,5 @@
 -- A fact of each view after a step, and of one view alone.
-use Rattle.std.proofs.Common.{◌≡◌, ℕ, zero, suc, ◌<◌, ◌≤◌, ◌≢◌, Bool, true, false, List, [], ◌∷◌, ◌++◌, length, get_or, set, sym, refl, subst, ⊎_elim, arith, get_or-set_same, get_or-set_other, length-set}
+use Rattle.std.proofs.Common.{◌≡◌, ℕ, zero, suc, ◌<◌, ◌≤◌, ◌≢◌, List, [], ◌∷◌, ◌++◌, length, get_or, set, sym, subst, ⊎_elim, arith, get_or-set_same, get_or-set_other, length-set}
 use mathlib.Core.Logic.{dite}
 use mathlib.Core.Option.{some, some-injective, some-ne-none}
 use native.Mathlib.Decide.{ℕ_discrete}
@@ -12,10 +12,6 @@ pub in_range : {A : Type 0} (l : List A) (i : ℕ) (a : A) → get_elem? l i ≡
 in_range [] i a e = absurd (some-ne-none a (sym e))
 in_range (x ∷ xs) zero a e = omega arith
 in_range (x ∷ xs) (suc i) a e = let h = in_range xs i a e in omega arith
-
-pub not_true : (b : Bool) → (b ≡ true → ⊥) → b ≡ false
-not_true true n = absurd (n refl)
-not_true false n = refl
 
 module _ {A : Type 0} where
   -- where the others are as they were

@@ -3,7 +3,7 @@ use Rattle.std.proofs.lemmas.List.{length-map}
 use Rattle.spin_model.proofs.Tables.{count_below-zero}
 use Rattle.scalar_rule.specs.Positions.{floor_of, deepest_of}
 use Rattle.scalar_rule.specs.declared.sample.Record.{Record}
-use Rattle.scalar_rule.proofs.Extremes.{count-most}
+use Rattle.spin_model.proofs.Counts.{count-most}
 use Rattle.plane_sweep.specs.Uneven.{position_of, FitsRecord}
 use Rattle.plane_sweep.specs.Cells.{is_kept}
 use Rattle.exchange_board.specs.Rooms.{RoomView}

@@ -2,7 +2,7 @@ use Rattle.std.proofs.Common.{arith, true, length, set, refl, sym, ap, apâ‚‚, â—
 use Rattle.std.proofs.lemmas.List.{get_or_default}
 use Rattle.scalar_rule.specs.Plan.{slots_of}
 use Rattle.scalar_rule.specs.Positions.{deepest_of, cell_epoch}
-use Rattle.scalar_rule.proofs.Extremes.{count-most}
+use Rattle.spin_model.proofs.Counts.{count-most}
 use Rattle.plane_sweep.specs.Cells.{IsCell}
 use Rattle.exchange_board.specs.Content.{slots_in, positions_in, floor_in, row_place, no_record}
 use Rattle.exchange_board.specs.Kept.{kept_in, cells_in}

@@ -2,8 +2,8 @@ use Rattle.std.proofs.Common.{◌≡◌, ◌++◌, flat_map}
 use Rattle.glass_edges.specs.Contents.{PutsFront}
 use Rattle.spin_model.specs.Steps.{table}
 use Rattle.report_text.specs.Lines.{row_line}
-use Rattle.glass_engine.specs.Report.{record_at}
 use Rattle.glass_engine.proofs.rows.add_sample.Given as goal
+use Rattle.scalar_rule.specs.Records.{record_at}
 
 abbrev pub invariant-slots : goal.invariant-slots
 invariant-slots g l = record {

@@ -1,9 +1,8 @@
 -- Each round puts a front of the text so far where the line is full, and adds what fits.
 use Rattle.std.proofs.Common.{rules, arith, ◌≡◌, ℕ, ◌+◌, ◌-◌, ◌<◌, List, ◌++◌, length, take, drop, sym, ap, ◌∙◌, subst, append_assoc, length-append, length-take-le}
 use Rattle.std.proofs.Math.Seq.{take-add}
-use Rattle.std.proofs.lemmas.List.{take-append-drop}
 use Rattle.glass_edges.specs.Contents.{PutsFront, AppendsPrefix}
-use Rattle.glass_edges.proofs.Puts.{front-step, front-failed, OnErr_of}
+use Rattle.glass_edges.proofs.Puts.{text-rest, front-step, front-failed, OnErr_of}
 use Rattle.glass_edges.proofs.line.Line.extend.Goals as goal
 
 -- the text so far and the next piece
@@ -12,10 +11,6 @@ text-more first bytes at n =
     let e : at + n - at ≡ n = omega arith in
     append_assoc first (take at bytes) (take (at + n - at) (drop at bytes))
     ∙ ap (λ xs. first ++ xs) (rw e (sym (take-add at n bytes)))
-
--- the text so far and all that follows
-text-whole : (first bytes : List ℕ) (at : ℕ) → (first ++ take at bytes) ++ drop at bytes ≡ first ++ bytes
-text-whole first bytes at = append_assoc first (take at bytes) (drop at bytes) ∙ ap (λ xs. first ++ xs) (take-append-drop at bytes)
 
 pub pieces-preserved : goal.pieces-preserved
 pieces-preserved g c = record {
@@ -39,5 +34,5 @@ pieces-preserved g c = record {
 pub returns-in_err-make_room-clause-prefix : goal.returns-in_err-make_room-clause-prefix
 returns-in_err-make_room-clause-prefix g c = OnErr_of c.from_residual.result
     (subst (AppendsPrefix (g.O.Sink.taken c.args.out.now) (g.O.Sink.taken c.make_room.new.out))
-    (text-whole c.args.self.now c.args.bytes.now c.pieces.at)
+    (text-rest c.args.self.now c.args.bytes.now c.pieces.at)
     (front-failed _ _ _ _ _ (drop c.pieces.at c.args.bytes.now) c.pieces.invariant.front c.in_err-make_room.ensures.prefix))

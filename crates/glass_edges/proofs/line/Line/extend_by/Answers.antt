@@ -1,8 +1,8 @@
 -- Each round puts a front of the text so far where the line is full, and adds the next byte.
 use Rattle.std.proofs.Common.{arith, ◌≡◌, ℕ, ◌+◌, ◌<◌, List, [], ◌∷◌, ◌++◌, length, take, drop, get_or, refl, sym, ap, ◌∙◌, subst, append-nil, append_assoc}
-use Rattle.std.proofs.lemmas.List.{take_more, take-append-drop}
+use Rattle.std.proofs.lemmas.List.{take_more}
 use Rattle.glass_edges.specs.Contents.{PutsFront, AppendsPrefix}
-use Rattle.glass_edges.proofs.Puts.{front-none, front-step, front-failed, OnErr_of}
+use Rattle.glass_edges.proofs.Puts.{text-rest, front-none, front-step, front-failed, OnErr_of}
 use Rattle.glass_edges.proofs.line.Line.extend_by.Goals as goal
 
 -- the text so far and the next byte
@@ -11,10 +11,6 @@ text-next first text k byte below told =
     append_assoc first (take k text) (byte ∷ [])
     ∙ ap (λ (b : ℕ). first ++ (take k text ++ (b ∷ []))) told
     ∙ ap (λ (xs : List ℕ). first ++ xs) (sym (take_more text k 0 below))
-
--- the text so far and all that follows
-text-rest : (first text : List ℕ) (k : ℕ) → (first ++ take k text) ++ drop k text ≡ first ++ text
-text-rest first text k = append_assoc first (take k text) (drop k text) ∙ ap (λ (xs : List ℕ). first ++ xs) (take-append-drop k text)
 
 pub bytes-init : goal.bytes-init
 bytes-init g c = record {

@@ -3,7 +3,7 @@ use Rattle.std.proofs.Common.{◌≡◌, All, Some, sym, ◌∙◌, subst, is_so
 use Rattle.std.specs.Mem.Slots.{slots_items}
 use Rattle.turn_cell.specs.Progress.{AtMost, NoneIsInWork}
 use Rattle.turn_cell.specs.Seats.{cell_id, seat_view, base_of}
-use Rattle.turn_cell.proofs.Keeping.{one_some}
+use Rattle.std.proofs.lemmas.Option.{same_Some}
 use Rattle.turn_cell.proofs.Ending.{ends}
 use Rattle.turn_cell.proofs.cell.TurnCell.close.Goals as goal
 use Rattle.turn_cell.proofs.cell.TurnCell.close.Goals.{After-taken_out}
@@ -24,14 +24,14 @@ unreachable-requires g c =
 pub returns-clause-base : goal.returns-clause-base
 returns-clause-base g c =
     let t = ended g (goal.at.returns-clause-base g c).After-taken_out in
-    subst (λ value. Some (g.V.Kept.origin value) ≡ base_of c.args.passes.items) (one_some (sym t.1 ∙ c.in-Some.is)) t.2
+    subst (λ value. Some (g.V.Kept.origin value) ≡ base_of c.args.passes.items) (same_Some _ _ (sym t.1 ∙ c.in-Some.is)) t.2
 
 pub returns-clause-ended : goal.returns-clause-ended
 returns-clause-ended g c =
     let t = ended g (goal.at.returns-clause-ended g c).After-taken_out in
-    subst (λ value. NoneIsInWork (g.V.Kept.marks value)) (one_some (sym t.1 ∙ c.in-Some.is)) t.3
+    subst (λ value. NoneIsInWork (g.V.Kept.marks value)) (same_Some _ _ (sym t.1 ∙ c.in-Some.is)) t.3
 
 pub returns-clause-seen : goal.returns-clause-seen
 returns-clause-seen g c =
     let t = ended g (goal.at.returns-clause-seen g c).After-taken_out in
-    subst (λ value. All (λ q. AtMost (seat_view q).seen (g.V.Kept.marks value)) c.args.passes.items) (one_some (sym t.1 ∙ c.in-Some.is)) t.4
+    subst (λ value. All (λ q. AtMost (seat_view q).seen (g.V.Kept.marks value)) c.args.passes.items) (same_Some _ _ (sym t.1 ∙ c.in-Some.is)) t.4
