@@ -1,8 +1,10 @@
 use super::*;
+use crate::tests::{same, word_of, words_of};
 use glass_edges::NoMemory;
 use lattice_geometry::Lattice;
 use sha2::{Digest, Sha256};
 use std::alloc::Global;
+use std::test::Fail;
 
 // A file with these couplings, and its digest by the crate sha2.
 fn sealed(alloc: Global, size: u32, samples: u32, stored: &[u8]) -> Result<Vec<u8>, NoMemory> {
@@ -39,6 +41,21 @@ fn changed(alloc: Global, bytes: &[u8], at: usize, byte: u8) -> Result<Vec<u8>, 
     Ok(copy)
 }
 
+// The file of size 4 with the couplings of one sample: the words of the bonds, and the file that they
+// are written as.
+fn read_again(alloc: Global, file: &[u8]) -> Result<(Vec<u64>, Vec<u8>), Fail> {
+    let couplings = Couplings::read(alloc, Lattice::of(4)?, file)?;
+    Ok((words_of(alloc, &couplings)?, couplings.write(alloc, 1)?))
+}
+
+// Why bytes are no file for the lattice of size 4.
+fn refusal(alloc: Global, bytes: &[u8]) -> Result<CouplingsRefused, Fail> {
+    match Couplings::read(alloc, Lattice::of(4)?, bytes) {
+        Ok(_) => Err("it is accepted".into()),
+        Err(refused) => Ok(refused),
+    }
+}
+
 // The last 32 bytes are by a program of its own in Python, which takes SHA-256 from hashlib.
 const ANTIFERROMAGNET: [u8; 32] = [
     0xdd, 0x5a, 0x3d, 0x2a, 0xb1, 0xa5, 0xd9, 0x26, 0x4a, 0x0f, 0x11, 0xa0, 0x4a, 0x9b, 0xff, 0x41,
@@ -46,59 +63,39 @@ const ANTIFERROMAGNET: [u8; 32] = [
 ];
 
 #[test]
-fn an_antiferromagnet_beside_ferromagnets(rt: HostRuntime) {
-    let lattice = Lattice::of(4).expect(&rt, "an even size");
-    let stored = equal_bytes(rt.alloc(), 24, 255).expect(&rt, "ample memory");
-    let file = sealed(rt.alloc(), 4, 1, stored.as_slice()).expect(&rt, "ample memory");
-    assert_eq!(rt; file.len(), 72);
+fn an_antiferromagnet_beside_ferromagnets(rt: HostRuntime) -> Result<(), Fail> {
+    let stored = equal_bytes(rt.alloc(), 24, 255)?;
+    let file = sealed(rt.alloc(), 4, 1, stored.as_slice())?;
+    same(&rt, &file.len(), &72, &"bytes");
     assert!(rt; file.as_slice().ends_with(ANTIFERROMAGNET.as_slice()));
-    let couplings = Couplings::read(rt.alloc(), lattice, file.as_slice()).expect(&rt, "a file");
-    assert_eq!(rt; couplings.size(), 4);
-    for site in 0..64 {
-        for d in 0..3 {
-            assert_eq!(rt;
-                couplings.negative(site, d),
-                1,
-                "site {site}, direction {d}"
-            );
-        }
-    }
-    let again = couplings.write(rt.alloc(), 1).expect(&rt, "ample memory");
-    assert_eq!(rt; again.as_slice(), file.as_slice());
+    let (words, again) = read_again(rt.alloc(), file.as_slice())?;
+    same(&rt, &words.as_slice(), &[1; 192].as_slice(), &"words");
+    same(&rt, &again.as_slice(), &file.as_slice(), &"the file again");
+    Ok(())
 }
 
 #[test]
-fn one_negative_bond_and_its_file_again(rt: HostRuntime) {
-    let lattice = Lattice::of(4).expect(&rt, "an even size");
-    let zeros = equal_bytes(rt.alloc(), 24, 0).expect(&rt, "ample memory");
-    for (byte, bit, site, d) in [
-        (0, 0x80, 0, 0),
-        (0, 0x01, 2, 1),
-        (23, 0x80, 61, 1),
-        (23, 1, 63, 2),
-    ] {
-        assert!(rt; site < 64 && d < 3);
-        let stored = changed(rt.alloc(), zeros.as_slice(), byte, bit).expect(&rt, "ample memory");
-        let file = sealed(rt.alloc(), 4, 1, stored.as_slice()).expect(&rt, "ample memory");
-        let couplings = Couplings::read(rt.alloc(), lattice, file.as_slice()).expect(&rt, "a file");
-        let mut negative = 0u64;
-        for i in 0..64 {
-            for e in 0..3 {
-                negative = couplings.negative(i, e).wrapping_add(negative);
-            }
+fn one_negative_bond_and_its_file_again(rt: HostRuntime) -> Result<(), Fail> {
+    let zeros = equal_bytes(rt.alloc(), 24, 0)?;
+    // A bit of a byte, and the bond that it is: 3 times the site, and the direction.
+    for (byte, bit, bond) in [(0, 0x80, 0), (0, 0x01, 7), (23, 0x80, 184), (23, 1, 191)] {
+        let stored = changed(rt.alloc(), zeros.as_slice(), byte, bit)?;
+        let file = sealed(rt.alloc(), 4, 1, stored.as_slice())?;
+        let (words, again) = read_again(rt.alloc(), file.as_slice())?;
+        let mut wanted = [0; 192];
+        if let Some(word) = wanted.get_mut(bond) {
+            *word = 1;
         }
-        assert_eq!(rt; negative, 1, "byte {byte}");
-        assert_eq!(rt; couplings.negative(site, d), 1, "byte {byte}");
-        let again = couplings.write(rt.alloc(), 1).expect(&rt, "ample memory");
-        assert_eq!(rt; again.as_slice(), file.as_slice(), "byte {byte}");
+        same(&rt, &words.as_slice(), &wanted.as_slice(), &bond);
+        same(&rt, &again.as_slice(), &file.as_slice(), &bond);
     }
+    Ok(())
 }
 
 #[test]
-fn each_refusal_at_its_first_and_last_byte(rt: HostRuntime) {
-    let lattice = Lattice::of(4).expect(&rt, "an even size");
-    let stored = equal_bytes(rt.alloc(), 24, 255).expect(&rt, "ample memory");
-    let file = sealed(rt.alloc(), 4, 1, stored.as_slice()).expect(&rt, "ample memory");
+fn each_refusal_at_its_first_and_last_byte(rt: HostRuntime) -> Result<(), Fail> {
+    let stored = equal_bytes(rt.alloc(), 24, 255)?;
+    let file = sealed(rt.alloc(), 4, 1, stored.as_slice())?;
     for (at, byte, line) in [
         (0, 0, "the couplings are of another kind"),
         (7, 0, "the couplings are of another kind"),
@@ -113,137 +110,140 @@ fn each_refusal_at_its_first_and_last_byte(rt: HostRuntime) {
         (40, 0, "the couplings are damaged"),
         (71, 0, "the couplings are damaged"),
     ] {
-        let bytes = changed(rt.alloc(), file.as_slice(), at, byte).expect(&rt, "ample memory");
-        match Couplings::read(rt.alloc(), lattice, bytes.as_slice()) {
-            Ok(_) => assert!(rt; false, "byte {at} may be {byte}"),
-            Err(e) => {
-                let told = format!(in rt.alloc(); "{e}").expect(&rt, "ample memory");
-                assert_eq!(rt; told.as_str(), line, "byte {at}");
-            }
-        }
+        let bytes = changed(rt.alloc(), file.as_slice(), at, byte)?;
+        let told = format!(in rt.alloc(); "{}", refusal(rt.alloc(), bytes.as_slice())?)?;
+        same(&rt, &told.as_str(), &line, &at);
     }
+    Ok(())
+}
+
+// A file of so many bytes, of which one sample's bits are 1; its first byte is another.
+fn file_of(
+    alloc: Global,
+    size: u32,
+    samples: u32,
+    first: u8,
+    len: usize,
+) -> Result<Vec<u8>, NoMemory> {
+    let stored = equal_bytes(alloc, if samples == 1 { 24 } else { 0 }, 255)?;
+    let file = sealed(alloc, size, samples, stored.as_slice())?;
+    let mut bytes = changed(alloc, beginning(file.as_slice(), len), 0, first)?;
+    if len > file.len() {
+        bytes.push(0)?;
+    }
+    Ok(bytes)
 }
 
 #[test]
-fn lengths_and_the_order_of_refusals(rt: HostRuntime) {
-    let lattice = Lattice::of(4).expect(&rt, "an even size");
-    let stored = equal_bytes(rt.alloc(), 24, 255).expect(&rt, "ample memory");
-    let file = sealed(rt.alloc(), 4, 1, stored.as_slice()).expect(&rt, "ample memory");
-    let mut longer = sealed(rt.alloc(), 4, 1, stored.as_slice()).expect(&rt, "ample memory");
-    longer.push(0).expect(&rt, "ample memory");
-    let empty = sealed(rt.alloc(), 4, 0, &[]).expect(&rt, "ample memory");
-    let many = sealed(rt.alloc(), 4, 257, &[]).expect(&rt, "ample memory");
-    let other = sealed(rt.alloc(), 6, 0, &[]).expect(&rt, "ample memory");
-    let kind = changed(rt.alloc(), beginning(file.as_slice(), 47), 0, 0).expect(
-        &rt,
-        "ample memory",
-    );
-    let short = changed(rt.alloc(), other.as_slice(), 0, 0).expect(&rt, "ample memory");
-    for (bytes, refused) in [
+fn lengths_and_the_order_of_refusals(rt: HostRuntime) -> Result<(), Fail> {
+    for (size, samples, first, len, refused) in [
+        (4, 1, b'G', 0, CouplingsRefused::Short { len: 0 }),
+        (4, 1, 0, 47, CouplingsRefused::Short { len: 47 }),
+        (6, 0, 0, 48, CouplingsRefused::Magic),
+        (6, 0, b'G', 48, CouplingsRefused::Size { found: 6 }),
+        (4, 0, b'G', 48, CouplingsRefused::Samples { found: 0 }),
+        (4, 257, b'G', 48, CouplingsRefused::Samples { found: 257 }),
         (
-            beginning(file.as_slice(), 0),
-            CouplingsRefused::Short { len: 0 },
-        ),
-        (kind.as_slice(), CouplingsRefused::Short { len: 47 }),
-        (short.as_slice(), CouplingsRefused::Magic),
-        (other.as_slice(), CouplingsRefused::Size { found: 6 }),
-        (empty.as_slice(), CouplingsRefused::Samples { found: 0 }),
-        (many.as_slice(), CouplingsRefused::Samples { found: 257 }),
-        (
-            beginning(file.as_slice(), 71),
+            4,
+            1,
+            b'G',
+            71,
             CouplingsRefused::Length {
                 found: 71,
                 wanted: 72,
             },
         ),
         (
-            longer.as_slice(),
+            4,
+            1,
+            b'G',
+            73,
             CouplingsRefused::Length {
                 found: 73,
                 wanted: 72,
             },
         ),
     ] {
-        match Couplings::read(rt.alloc(), lattice, bytes) {
-            Ok(_) => assert!(rt; false, "{refused} is accepted"),
-            Err(e) => assert_eq!(rt; e, refused),
-        }
+        let bytes = file_of(rt.alloc(), size, samples, first, len)?;
+        same(&rt, &bytes.len(), &len, &"bytes");
+        let found = refusal(rt.alloc(), bytes.as_slice())?;
+        same(&rt, &found, &refused, &len);
     }
+    Ok(())
+}
+
+// The couplings of a bank of a file.
+fn bank_of(alloc: Global, size: u32, bank: u32, file: &[u8]) -> Result<Couplings, Fail> {
+    if bank >= 4 {
+        return Err("four banks".into());
+    }
+    Ok(Couplings::read_bank(alloc, Lattice::of(size)?, bank, file)?)
 }
 
 #[test]
-fn sixty_five_samples_are_two_banks(rt: HostRuntime) {
-    let lattice = Lattice::of(4).expect(&rt, "an even size");
-    let mut stored = equal_bytes(rt.alloc(), 24 * 64, 0).expect(&rt, "ample memory");
-    for _ in 0..24 {
-        stored.push(255).expect(&rt, "ample memory");
-    }
-    let file = sealed(rt.alloc(), 4, 65, stored.as_slice()).expect(&rt, "ample memory");
-    assert_eq!(rt; file.len(), 1608);
-    let first = Couplings::read(rt.alloc(), lattice, file.as_slice()).expect(&rt, "a file");
+fn sixty_five_samples_are_two_banks(rt: HostRuntime) -> Result<(), Fail> {
+    let mut stored = equal_bytes(rt.alloc(), 1536, 0)?;
+    stored.extend_from_slice([255; 24].as_slice())?;
+    let file = sealed(rt.alloc(), 4, 65, stored.as_slice())?;
+    same(&rt, &file.len(), &1608, &"bytes");
+    let (first, _) = read_again(rt.alloc(), file.as_slice())?;
+    same(&rt, &first.as_slice(), &[0; 192].as_slice(), &"read");
     for (bank, word) in [(0, 0), (1, 1), (2, 0), (3, 0)] {
-        assert!(rt; bank < 4);
-        let couplings = Couplings::read_bank(rt.alloc(), lattice, bank, file.as_slice()).expect(
-            &rt, "a file",
-        );
-        for bond in [0, 1, 100, 191] {
-            assert!(rt; bond < 192);
-            assert_eq!(rt; first.negative(bond / 3, bond % 3), 0);
-            assert_eq!(rt; couplings.negative(bond / 3, bond % 3), word, "bank {bank}");
-        }
+        let couplings = bank_of(rt.alloc(), 4, bank, file.as_slice())?;
+        let words = words_of(rt.alloc(), &couplings)?;
+        same(&rt, &words.as_slice(), &[word; 192].as_slice(), &bank);
     }
+    Ok(())
 }
 
-#[test]
-fn the_greatest_file_is_read(rt: HostRuntime) {
-    let lattice = Lattice::of(64).expect(&rt, "an even size");
-    let mut stored = Vec::new(rt.alloc());
-    // each byte of a sample is the sample's number
+// 256 samples of size 64, in which each byte of a sample is the sample's number.
+fn numbered_samples(alloc: Global) -> Result<Vec<u8>, NoMemory> {
+    let mut stored = Vec::new(alloc);
     for sample in 0..256u32 {
-        let bytes = equal_bytes(rt.alloc(), 98304, sample as u8).expect(&rt, "ample memory");
-        stored
-            .extend_from_slice(bytes.as_slice())
-            .expect(&rt, "ample memory");
+        stored.extend_from_slice(equal_bytes(alloc, 98304, sample as u8)?.as_slice())?;
     }
-    let file = sealed(rt.alloc(), 64, 256, stored.as_slice()).expect(&rt, "ample memory");
-    assert_eq!(rt; file.len(), 25165872);
-    let couplings = Couplings::read_bank(rt.alloc(), lattice, 3, file.as_slice()).expect(
-        &rt, "a file",
-    );
-    for (bond, word) in [
-        (0, 0xffffffffffffffff),
-        (1, 0xffffffffffffffff),
-        (2, 0xffffffff00000000),
-        (6, 0xcccccccccccccccc),
-        (7, 0xaaaaaaaaaaaaaaaa),
-        (786431, 0xaaaaaaaaaaaaaaaa),
-    ] {
-        assert!(rt; bond < 786432);
-        assert_eq!(rt; couplings.negative(bond / 3, bond % 3), word, "bond {bond}");
-    }
+    Ok(stored)
 }
 
 #[test]
-fn random_couplings_of_a_bank_and_their_file(rt: HostRuntime) {
-    // by a program of its own in Python, which takes SHA-256 from hashlib
-    let lattice = Lattice::of(4).expect(&rt, "an even size");
-    let bank = Couplings::random_bank(rt.alloc(), lattice, 7, 1).expect(&rt, "ample memory");
-    for (bond, word) in [
-        (0, 0x69dc69d3435facf1),
-        (1, 0xa2a4542a6b23ff5e),
-        (191, 0xa205a491d9621f87),
+fn the_greatest_file_is_read(rt: HostRuntime) -> Result<(), Fail> {
+    let stored = numbered_samples(rt.alloc())?;
+    let file = sealed(rt.alloc(), 64, 256, stored.as_slice())?;
+    same(&rt, &file.len(), &25165872, &"bytes");
+    let couplings = bank_of(rt.alloc(), 64, 3, file.as_slice())?;
+    for (site, d, word) in [
+        (0, 0, 0xffffffffffffffff),
+        (0, 1, 0xffffffffffffffff),
+        (0, 2, 0xffffffff00000000),
+        (2, 0, 0xcccccccccccccccc),
+        (2, 1, 0xaaaaaaaaaaaaaaaa),
+        (262143, 2, 0xaaaaaaaaaaaaaaaa),
     ] {
-        assert!(rt; bond < 192);
-        assert_eq!(rt; bank.negative(bond / 3, bond % 3), word, "bond {bond}");
+        same(&rt, &word_of(&couplings, site, d), &Some(word), &(site, d));
+    }
+    Ok(())
+}
+
+// By a program of its own in Python, which takes SHA-256 from hashlib.
+#[test]
+fn random_couplings_of_a_bank_and_their_file(rt: HostRuntime) -> Result<(), Fail> {
+    let bank = Couplings::random_bank(rt.alloc(), Lattice::of(4)?, 7, 1)?;
+    for (site, d, word) in [
+        (0, 0, 0x69dc69d3435facf1),
+        (0, 1, 0xa2a4542a6b23ff5e),
+        (63, 2, 0xa205a491d9621f87),
+    ] {
+        same(&rt, &word_of(&bank, site, d), &Some(word), &(site, d));
     }
     for (size, len, last) in [
         (4, 1584, [0x80, 0xac, 0x0b, 0x29, 0x34, 0xdc, 0x1f, 0x3c]),
         (6, 5232, [0x5f, 0xb6, 0x70, 0xc4, 0x29, 0x66, 0x5f, 0x54]),
     ] {
-        let lattice = Lattice::of(size).expect(&rt, "an even size");
-        let couplings = Couplings::random(rt.alloc(), lattice, 7).expect(&rt, "ample memory");
-        let file = couplings.write(rt.alloc(), 64).expect(&rt, "ample memory");
-        assert_eq!(rt; file.len(), len, "size {size}");
-        assert!(rt; file.as_slice().ends_with(last.as_slice()), "size {size}");
+        let couplings = Couplings::random(rt.alloc(), Lattice::of(size)?, 7)?;
+        let file = couplings.write(rt.alloc(), 64)?;
+        same(&rt, &file.len(), &len, &size);
+        let ends = file.as_slice().ends_with(last.as_slice());
+        same(&rt, &ends, &true, &size);
     }
+    Ok(())
 }
