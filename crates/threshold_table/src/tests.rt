@@ -1,6 +1,55 @@
 use super::*;
 use std::alloc::{AllocError, Global};
+use std::fmt::Debug;
+use std::process::Abort;
 use std::test::Fail;
+
+// Ends the test with the case where the two differ. An `assert_eq!` with a message is dear to prove:
+// it is proved here once.
+fn same<R: Abort, T: PartialEq + Debug, C: Debug>(rt: &R, found: &T, wanted: &T, case: &C) {
+    assert_eq!(rt; found, wanted, "at {case:?}");
+}
+
+// Ends the test where the text of a rule table is told otherwise than `wanted`.
+fn told_rule<R: AllocGlobal + Abort>(
+    rt: &R,
+    text: &[u8],
+    kind: RuleKind,
+    wanted: Option<TableRefused>,
+) {
+    let told = read_rule(rt.alloc(), text, kind).err();
+    same(rt, &told, &wanted, &text);
+}
+
+// Ends the test where the text of a swap table is told otherwise than `wanted`.
+fn told_swap<R: AllocGlobal + Abort>(
+    rt: &R,
+    text: &[u8],
+    slots: u32,
+    wanted: Option<TableRefused>,
+) {
+    assert!(rt; 1 <= slots && slots <= 32);
+    let told = read_swap(rt.alloc(), text, slots).err();
+    same(rt, &told, &wanted, &text);
+}
+
+// The thresholds of a slot.
+fn row_of(table: &RuleTable, slot: u32) -> Option<[u64; 7]> {
+    if slot < table.slots() {
+        Some(table.row(slot).values)
+    } else {
+        None
+    }
+}
+
+// The number of a pair's entries, and one of them.
+fn entry_of(table: &SwapTable, pair: u32, entry: u32) -> Option<(u32, u64)> {
+    if pair < table.pairs() {
+        Some((table.entries(pair), table.threshold(pair, entry)))
+    } else {
+        None
+    }
+}
 
 fn repeated(alloc: Global, piece: &[u8], times: usize) -> Result<Vec<u8>, AllocError> {
     let mut text = Vec::new(alloc);
@@ -57,8 +106,7 @@ fn rule_tables_are_refused_by_their_first_fault(rt: HostRuntime) {
             },
         ),
     ] {
-        let read = read_rule(rt.alloc(), text, RuleKind::Metropolis);
-        assert_eq!(rt; read.err(), Some(refused), "{text:?}");
+        told_rule(&rt, text, RuleKind::Metropolis, Some(refused));
     }
 }
 
@@ -84,8 +132,7 @@ fn heat_bath_has_seven_fields(rt: HostRuntime) {
             }),
         ),
     ] {
-        let read = read_rule(rt.alloc(), text, RuleKind::Heat);
-        assert_eq!(rt; read.err(), refused, "{text:?}");
+        told_rule(&rt, text, RuleKind::Heat, refused);
     }
 }
 
@@ -103,8 +150,7 @@ fn a_rule_table_has_1_to_32_records(rt: HostRuntime) -> Result<(), Fail> {
     ] {
         let mut text = repeated(rt.alloc(), b"1,2,3\n", times)?;
         text.extend_from_slice(end)?;
-        let read = read_rule(rt.alloc(), text.as_slice(), RuleKind::Metropolis);
-        assert_eq!(rt; read.err(), refused, "{times} records");
+        told_rule(&rt, text.as_slice(), RuleKind::Metropolis, refused);
     }
     Ok(())
 }
@@ -147,8 +193,7 @@ fn a_swap_table_has_a_record_per_pair(rt: HostRuntime) {
             Some(TableRefused::Number { at: 1, field: 1 }),
         ),
     ] {
-        let read = read_swap(rt.alloc(), text, slots);
-        assert_eq!(rt; read.err(), refused, "{text:?}, {slots} slots");
+        told_swap(&rt, text, slots, refused);
     }
 }
 
@@ -167,14 +212,18 @@ fn a_swap_record_has_at_most_4096_fields(rt: HostRuntime) -> Result<(), Fail> {
     ] {
         let mut text = repeated(rt.alloc(), b"7,", commas)?;
         text.push(b'8')?;
-        let read = read_swap(rt.alloc(), text.as_slice(), 2);
-        assert_eq!(rt; read.err(), refused, "{commas} commas");
+        told_swap(&rt, text.as_slice(), 2, refused);
     }
     Ok(())
 }
 
 #[test]
 fn line_ends_spaces_and_a_mark_change_nothing(rt: HostRuntime) -> Result<(), Fail> {
+    let wanted = [
+        Some([1, 2, 4294967296, 0, 0, 0, 0]),
+        Some([3, 0, 0, 0, 0, 0, 0]),
+        None,
+    ];
     for text in [
         b"1,2,4294967296\n3,0,0\n".as_slice(),
         b"1,2,4294967296\r3,0,0\r",
@@ -185,14 +234,9 @@ fn line_ends_spaces_and_a_mark_change_nothing(rt: HostRuntime) -> Result<(), Fai
         b"0000000001,02,4294967296\n3,0,0000000000",
     ] {
         let table = read_rule(rt.alloc(), text, RuleKind::Metropolis)?;
-        assert_eq!(rt; table.kind(), RuleKind::Metropolis);
-        assert_eq!(rt; table.slots(), 2, "{text:?}");
-        assert_eq!(rt;
-            table.row(0).values,
-            [1, 2, 4294967296, 0, 0, 0, 0],
-            "{text:?}"
-        );
-        assert_eq!(rt; table.row(1).values, [3, 0, 0, 0, 0, 0, 0], "{text:?}");
+        same(&rt, &table.kind(), &RuleKind::Metropolis, &text);
+        let rows = [row_of(&table, 0), row_of(&table, 1), row_of(&table, 2)];
+        same(&rt, &rows, &wanted, &text);
     }
     Ok(())
 }
@@ -200,21 +244,17 @@ fn line_ends_spaces_and_a_mark_change_nothing(rt: HostRuntime) -> Result<(), Fai
 #[test]
 fn a_threshold_past_the_record_is_0(rt: HostRuntime) -> Result<(), Fail> {
     let table = read_swap(rt.alloc(), b"5,6,7\n8", 3)?;
-    assert_eq!(rt; table.pairs(), 2);
-    assert_eq!(rt; (table.entries(0), table.entries(1)), (3, 1));
-    for (pair, entry, threshold) in [
-        (0, 0, 5),
-        (0, 2, 7),
-        (0, 3, 0),
-        (1, 0, 8),
-        (1, 1, 0),
-        (1, 4294967295, 0),
+    for (pair, entry, wanted) in [
+        (0, 0, Some((3, 5))),
+        (0, 2, Some((3, 7))),
+        (0, 3, Some((3, 0))),
+        (1, 0, Some((1, 8))),
+        (1, 1, Some((1, 0))),
+        (1, 4294967295, Some((1, 0))),
+        (2, 0, None),
     ] {
-        assert_eq!(rt;
-            table.threshold(pair, entry),
-            threshold,
-            "pair {pair}, entry {entry}"
-        );
+        let found = entry_of(&table, pair, entry);
+        same(&rt, &found, &wanted, &(pair, entry));
     }
     Ok(())
 }
@@ -229,10 +269,10 @@ fn tables_are_made_from_rows(rt: HostRuntime) -> Result<(), Fail> {
         },
     ];
     let rules = RuleTable::from_rows(rt.alloc(), RuleKind::Metropolis, &rows)?;
-    assert_eq!(rt; rules.slots(), 2);
-    assert_eq!(rt; rules.row(0).values, always);
+    same(&rt, &row_of(&rules, 0), &Some(always), &"slot 0");
+    same(&rt, &rules.slots(), &2, &"slots");
     let swaps = SwapTable::from_rows(rt.alloc(), &[[3149642683, 2309737966]])?;
-    assert_eq!(rt; swaps.pairs(), 1);
-    assert_eq!(rt; swaps.threshold(0, 1), 2309737966);
+    let found = [entry_of(&swaps, 0, 1), entry_of(&swaps, 1, 0)];
+    same(&rt, &found, &[Some((2, 2309737966)), None], &"pairs");
     Ok(())
 }
