@@ -1,5 +1,13 @@
 use super::*;
 use sha2::{Digest, Sha256};
+use std::fmt::Debug;
+use std::process::Abort;
+
+// Ends the test with the case where the two differ. An `assert_eq!` with a message is dear to prove:
+// it is proved here once.
+fn same<R: Abort, T: PartialEq + Debug, C: Debug>(rt: &R, found: &T, wanted: &T, case: &C) {
+    assert_eq!(rt; found, wanted, "at {case:?}");
+}
 
 fn counting_words() -> [u32; 61] {
     let mut words = [0u32; 61];
@@ -18,8 +26,7 @@ fn draws_of_counting_words(rt: HostRuntime) {
     }
     // the sum of number 24 is the first that has a new word
     for (n, number) in [(0, 43), (1, 44), (2, 45), (23, 78), (24, 81)] {
-        assert!(rt; n < 25);
-        assert_eq!(rt; numbers[n], number, "number {n}");
+        same(&rt, &numbers.get(n), &Some(&number), &n);
     }
 }
 
@@ -37,6 +44,7 @@ fn last_seed_block_of_a_label(rt: HostRuntime) {
     let digest: [u8; 32] = Sha256::digest(&message);
     let mut words = [0u32; 61];
     Wheel::seeded(1, 1, 2, 3, 5).words(&mut words);
+    // block 7 has the last five words
     for i in 0..5 {
         let bytes = [
             digest[4 * i],
@@ -44,11 +52,14 @@ fn last_seed_block_of_a_label(rt: HostRuntime) {
             digest[4 * i + 2],
             digest[4 * i + 3],
         ];
-        assert_eq!(rt;
-            words[56 + i],
-            u32::from_be_bytes(bytes),
-            "word {i} of block 7"
-        );
+        same(&rt, &words[56 + i], &u32::from_be_bytes(bytes), &i);
+    }
+}
+
+// So many numbers, drawn one by one.
+fn drawn(wheel: &mut Wheel, out: &mut [u32]) {
+    for place in out {
+        *place = wheel.draw();
     }
 }
 
@@ -56,14 +67,14 @@ fn last_seed_block_of_a_label(rt: HostRuntime) {
 fn filling_is_drawing(rt: HostRuntime) {
     for n in [0, 1, 7, 8, 9, 32, 56, 61, 64, 72, 128, 200] {
         assert!(rt; n <= 200);
-        let mut filled = Wheel::seeded(7, 2, 0, 1, 0);
-        let mut drawn = filled.copy();
+        let mut filling = Wheel::seeded(7, 2, 0, 1, 0);
+        let mut drawing = filling.copy();
+        let mut filled = [0u32; 200];
+        filling.fill(&mut filled[..n]);
         let mut numbers = [0u32; 200];
-        filled.fill(&mut numbers[..n]);
-        for i in 0..n {
-            assert_eq!(rt; numbers[i], drawn.draw(), "number {i} of {n}");
-        }
-        assert_eq!(rt; filled.draw(), drawn.draw(), "the number after {n}");
+        drawn(&mut drawing, &mut numbers[..n]);
+        same(&rt, &filled.as_slice(), &numbers.as_slice(), &n);
+        same(&rt, &filling.draw(), &drawing.draw(), &n);
     }
 }
 
@@ -72,17 +83,14 @@ fn words_and_from_words_are_inverse(rt: HostRuntime) {
     let counting = counting_words();
     let mut words = [0u32; 61];
     Wheel::from_words(&counting).words(&mut words);
-    for i in 0..61 {
-        assert_eq!(rt; words[i], counting[i], "word {i}");
-    }
+    same(&rt, &words.as_slice(), &counting.as_slice(), &"words");
 }
 
 #[test]
 fn a_copy_goes_its_own_way(rt: HostRuntime) {
     let mut wheel = Wheel::from_words(&counting_words());
     let mut copy = wheel.copy();
-    assert_eq!(rt; wheel.draw(), 43);
-    assert_eq!(rt; wheel.draw(), 44);
-    assert_eq!(rt; copy.draw(), 43);
-    assert_eq!(rt; wheel.draw(), 45);
+    let first = [wheel.draw(), wheel.draw()];
+    let numbers = [first[0], first[1], copy.draw(), wheel.draw()];
+    same(&rt, &numbers, &[43, 44, 43, 45], &"numbers");
 }
