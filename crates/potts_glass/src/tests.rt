@@ -5,7 +5,14 @@ use coupling_set::Couplings;
 use glass_edges::MemorySink;
 use lattice_geometry::Lattice;
 use std::alloc::Global;
+use std::process::Abort;
 use std::test::Fail;
+
+// Ends the test where an output has taken another text. It is given as one text, since a proof goes
+// through a long list of bytes one by one.
+fn took<R: Abort>(rt: &R, out: &MemorySink, text: &str) {
+    assert_eq!(rt; out.taken(), text.as_bytes());
+}
 
 /// Thresholds of 100 for the gap 6, of 101 for the gap 1, and never between them.
 const ROW: PottsRow = PottsRow {
@@ -26,8 +33,7 @@ fn potts_update_of_five_cases(rt: HostRuntime) {
         [others + 4, others + 1],
     ];
     let new = potts_update(0, 100, &ROW, [0, 0], &near, &[8; 6]);
-    assert_eq!(rt; new[0], 18446744073709551613);
-    assert_eq!(rt; new[1], 0);
+    assert_eq!(rt; new, [18446744073709551613, 0]);
 }
 
 /// The report of a glass at this size after a number of sweeps with the thresholds.
@@ -52,13 +58,19 @@ fn report(
 #[test]
 fn potts_ordered_state_stays(rt: HostRuntime) -> Result<(), Fail> {
     let alloc = rt.alloc();
-    let lattice = Lattice::of(4).expect(&rt, "an even size");
+    let lattice = Lattice::of(4)?;
     let couplings = Couplings::plus(alloc, lattice)?;
     let potts = Potts::open(alloc, lattice, couplings, 7, PottsStart::Zero)?;
     let out = report(alloc, potts, &PottsRow { values: [0; 6] }, 1, 1)?;
-    let text =
-        b"potts 1 size=4 sweeps=1 seed=7 samples=1\nenergy,0,-192\nspin,0,0000000000000000000000000000000000000000000000000000000000000000\nend\n";
-    assert_eq!(rt; out.taken(), text.as_slice());
+    took(
+        &rt,
+        &out,
+        "potts 1 size=4 sweeps=1 seed=7 samples=1
+energy,0,-192
+spin,0,0000000000000000000000000000000000000000000000000000000000000000
+end
+",
+    );
     Ok(())
 }
 
@@ -74,7 +86,7 @@ fn checksum(bytes: &[u8]) -> u32 {
 #[test]
 fn potts_equals_a_plain_run_at_size_6(rt: HostRuntime) -> Result<(), Fail> {
     let alloc = rt.alloc();
-    let lattice = Lattice::of(6).expect(&rt, "an even size");
+    let lattice = Lattice::of(6)?;
     let couplings = Couplings::random(alloc, lattice, 7)?;
     let potts = Potts::open(alloc, lattice, couplings, 7, PottsStart::Random)?;
     let row = PottsRow {
@@ -85,8 +97,8 @@ fn potts_equals_a_plain_run_at_size_6(rt: HostRuntime) -> Result<(), Fail> {
     let out = report(alloc, potts, &row, 3, 64)?;
     // The report of tools/plain_potts.py, which sweeps each of the 64 samples as plain lists.
     let first =
-        b"potts 1 size=6 sweeps=3 seed=7 samples=64\nenergy,0,-50\nspin,0,103201300313203212031013002130230023323133232201231310231033003221302233310023330213210223230213320011103232223011122022101122120331201200123231113112231202212231201113231020000131120013001210102002020122310130221233\nenergy,1,-41\nspin,1,1";
-    assert!(rt; out.taken().starts_with(first));
+        "potts 1 size=6 sweeps=3 seed=7 samples=64\nenergy,0,-50\nspin,0,103201300313203212031013002130230023323133232201231310231033003221302233310023330213210223230213320011103232223011122022101122120331201200123231113112231202212231201113231020000131120013001210102002020122310130221233\nenergy,1,-41\nspin,1,1";
+    assert!(rt; out.taken().starts_with(first.as_bytes()));
     assert_eq!(rt; out.taken().len(), 15322);
     assert_eq!(rt; checksum(out.taken()), 3118248057);
     Ok(())
@@ -95,14 +107,11 @@ fn potts_equals_a_plain_run_at_size_6(rt: HostRuntime) -> Result<(), Fail> {
 #[test]
 fn a_write_fault_leaves_a_prefix(rt: HostRuntime) -> Result<(), Fail> {
     let alloc = rt.alloc();
-    let lattice = Lattice::of(4).expect(&rt, "an even size");
+    let lattice = Lattice::of(4)?;
     let couplings = Couplings::plus(alloc, lattice)?;
     let potts = Potts::open(alloc, lattice, couplings, 7, PottsStart::Zero)?;
     let mut out = MemorySink::new(alloc, 200, 300, [1].to_vec(alloc)?)?;
     assert!(rt; write_potts(&potts, 0, 7, 1, &mut out).is_err());
-    assert_eq!(rt;
-        out.taken(),
-        b"potts 1 size=4 sweeps=0 seed=7 samples=1\n".as_slice()
-    );
+    took(&rt, &out, "potts 1 size=4 sweeps=0 seed=7 samples=1\n");
     Ok(())
 }
