@@ -8,7 +8,7 @@ ghost use Rattle.scalar_rule.specs.Plan.{slots_of};
 
 use bit_totals::{agreeing, unsatisfied};
 use multispin_word::Planes;
-use plane_sweep::{Duo, sweep_often};
+use plane_sweep::{Duo, sweep_duo_often};
 use scalar_rule::{Plan, Record, excess};
 use std::thread::Threads;
 
@@ -52,8 +52,7 @@ pub(crate) fn sweep_slot<R: Threads + Sync>(
     ensures fits { FitsDuo plan.now.size duo.new }
 {
     let count = plan.sweeps();
-    sweep_often(rt, &mut duo.first, plan, slot, pieces, count);
-    sweep_often(rt, &mut duo.second, plan, slot, pieces, count);
+    sweep_duo_often(rt, duo, plan, slot, pieces, count);
 }
 
 /// What is measured of a slot in one sample.

@@ -54,7 +54,7 @@ pub record IsFollowing (couplings : CouplingsView) (rule : SlotRule) (n m : ℕ)
   pub kept : (k : ℕ) (d : Plane) → m ≤ k → get_or later k d ≡ get_or second k d
   pub last : (d : Plane) → get_or later 0 d ≡ get_or second 0 d
 
-pub following-none : (couplings : CouplingsView) (rule : SlotRule) (first second : List Plane) → IsFollowing couplings rule 0 1 first second first second
+following-none : (couplings : CouplingsView) (rule : SlotRule) (first second : List Plane) → IsFollowing couplings rule 0 1 first second first second
 following-none couplings rule first second = record {
   ahead = record { sized = refl; done = λ k d below. absurd (omega arith); kept = λ k d later. refl };
   sized = refl;
@@ -94,7 +94,7 @@ unswept-around couplings rule n m first second now later way below room far near
     }
 
 -- one more plane of colour 0
-pub following-ahead : (couplings : CouplingsView) (rule : SlotRule) (n m : ℕ) (first second now later new : List Plane) → IsFollowing couplings rule n m first second now later
+following-ahead : (couplings : CouplingsView) (rule : SlotRule) (n m : ℕ) (first second now later new : List Plane) → IsFollowing couplings rule n m first second now later
     → n < couplings.size → m < couplings.size → (2 ≤ n → m + 1 ≤ n) → (n < 2 → m ≤ 1) → SweepsAt couplings later rule 0 n now new → IsFollowing couplings rule (n + 1) m first second new later
 following-ahead couplings rule n m first second now later new way below room far near swept =
     let l = couplings.size in
@@ -130,7 +130,7 @@ following-ahead couplings rule n m first second now later new way below room far
     }
 
 -- one more plane of colour 1
-pub following-behind : (couplings : CouplingsView) (rule : SlotRule) (n m : ℕ) (first second now later new : List Plane) → IsFollowing couplings rule n m first second now later
+following-behind : (couplings : CouplingsView) (rule : SlotRule) (n m : ℕ) (first second now later new : List Plane) → IsFollowing couplings rule n m first second now later
     → 1 ≤ m → SweepsAt couplings now rule 1 m later new → IsFollowing couplings rule n (m + 1) first second now new
 following-behind couplings rule n m first second now later new way some swept = record {
   ahead = way.ahead;
@@ -149,7 +149,7 @@ following-behind couplings rule n m first second now later new way some swept = 
 }
 
 -- plane 0 of colour 1 comes last
-pub following-whole : (couplings : CouplingsView) (rule : SlotRule) (n : ℕ) (first second now later new : List Plane) → IsFollowing couplings rule n couplings.size first second now later
+following-whole : (couplings : CouplingsView) (rule : SlotRule) (n : ℕ) (first second now later new : List Plane) → IsFollowing couplings rule n couplings.size first second now later
     → 1 ≤ couplings.size → SweepsAt couplings now rule 1 0 later new → Changed (SweepsPlane couplings now rule 1) couplings.size second new
 following-whole couplings rule n first second now later new way some swept = record {
   sized = swept.sized ∙ way.sized;
@@ -164,6 +164,46 @@ following-whole couplings rule n first second now later new way some swept = rec
   ];
   kept = λ k d past. swept.kept k d (λ at. absurd (omega arith)) ∙ way.kept k d past;
 }
+
+-- the steps of a sweep: planes 0 and 1 of colour 0
+pub following-start : (couplings : CouplingsView) (rule : SlotRule) (first second one two : List Plane) → 2 ≤ couplings.size
+    → SweepsAt couplings second rule 0 0 first one → SweepsAt couplings second rule 0 1 one two → IsFollowing couplings rule 2 1 first second two second
+following-start couplings rule first second one two large at_zero at_one =
+    let none = following-none couplings rule first second in
+    let begun = following-ahead couplings rule 0 1 first second first second one none (omega arith) (omega arith) (λ far. absurd (omega arith)) (λ near. omega arith) at_zero in
+    following-ahead couplings rule 1 1 first second one second two begun (omega arith) (omega arith) (λ far. absurd (omega arith)) (λ near. omega arith) at_one
+
+-- a plane of colour 0, and then the one before it of colour 1
+pub following-step : (couplings : CouplingsView) (rule : SlotRule) (z : ℕ) (first second now later now' later' : List Plane) → 2 ≤ z → z < couplings.size
+    → IsFollowing couplings rule z (z - 1) first second now later → SweepsAt couplings later rule 0 z now now' → SweepsAt couplings now' rule 1 (z - 1) later later'
+    → IsFollowing couplings rule (z + 1) (z + 1 - 1) first second now' later'
+following-step couplings rule z first second now later now' later' large below way ahead behind =
+    let step = following-ahead couplings rule z (z - 1) first second now later now' way below (omega arith) (λ far. omega arith) (λ near. absurd (omega arith)) ahead in
+    let both = following-behind couplings rule (z + 1) (z - 1) first second now' later later' step (omega arith) behind in
+    let place : z - 1 + 1 ≡ z + 1 - 1 = omega arith in
+    let W : ℕ → Type 0 = λ m. IsFollowing couplings rule (z + 1) m first second now' later' in
+    subst W place both
+
+-- all of colour 0
+pub following-first : (couplings : CouplingsView) (rule : SlotRule) (z m : ℕ) (first second now later : List Plane) → z ≡ couplings.size → IsFollowing couplings rule z m first second now later
+    → Changed (SweepsPlane couplings second rule 0) couplings.size first now
+following-first couplings rule z m first second now later whole way =
+    let S : ℕ → Type 0 = λ n. Changed (SweepsPlane couplings second rule 0) n first now in
+    subst S whole way.ahead
+
+-- and of colour 1, whose last plane and plane 0 come at the end
+pub following-second : (couplings : CouplingsView) (rule : SlotRule) (z side : ℕ) (first second now later x y : List Plane) → z ≡ couplings.size → side ≡ couplings.size → 2 ≤ z
+    → IsFollowing couplings rule z (z - 1) first second now later → SweepsAt couplings now rule 1 (side - 1) later x → SweepsAt couplings now rule 1 0 x y
+    → Changed (SweepsPlane couplings now rule 1) couplings.size second y
+following-second couplings rule z side first second now later x y whole same large way at_last at_zero =
+    let last : z - 1 ≡ couplings.size - 1 = omega arith in
+    let more : couplings.size - 1 + 1 ≡ couplings.size = omega arith in
+    let edge : side - 1 ≡ couplings.size - 1 = omega arith in
+    let W : ℕ → Type 0 = λ m. IsFollowing couplings rule z m first second now later in
+    let V : ℕ → Type 0 = λ m. IsFollowing couplings rule z m first second now x in
+    let S : ℕ → Type 0 = λ m. SweepsAt couplings now rule 1 m later x in
+    let behind = following-behind couplings rule z (couplings.size - 1) first second now later x (subst W last way) (omega arith) (subst S edge at_last) in
+    following-whole couplings rule z first second now x y (subst V more behind) (omega arith) at_zero
 
 -- ---- one plane of a list
 

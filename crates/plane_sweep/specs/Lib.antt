@@ -8,3 +8,4 @@ pub mod Beginnings
 pub mod Storing
 pub mod Neighbourhood
 pub mod PlaneSweep
+pub mod DuoSweep

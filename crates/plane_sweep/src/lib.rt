@@ -3,6 +3,8 @@
 
 mod cells;
 mod copying;
+mod duo_rows;
+mod duos;
 mod generators;
 mod lanes;
 mod laws;
@@ -20,6 +22,7 @@ mod tests;
 mod uneven;
 
 pub use cells::{Cell, cell_at, deepest, has_record, shallowest};
+pub use duos::sweep_duo_often;
 pub use laws::{
     labels_permute_after_epochs, labels_permute_after_exchange, parts_are_starting_states,
 };

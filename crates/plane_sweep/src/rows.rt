@@ -14,7 +14,7 @@ use crate::replica::Plane;
 use crate::surroundings::{Surroundings, lend, next, previous};
 use coupling_set::Couplings;
 use local_rule::{heat_bath, is_falling, is_rising, metropolis};
-use threshold_table::{RuleKind, SlotRule};
+use threshold_table::{RuleKind, RuleRow, SlotRule};
 
 /// A row of a plane, and the two rows beside it.
 #[derive(Clone, Copy)]
@@ -51,7 +51,11 @@ pub(crate) fn sweep_words(
     match couplings.size() {
         8 => sweep_sized::<8>(own, other, couplings, rule, draws, colour, z),
         16 => sweep_sized::<16>(own, other, couplings, rule, draws, colour, z),
+        24 => sweep_sized::<24>(own, other, couplings, rule, draws, colour, z),
         32 => sweep_sized::<32>(own, other, couplings, rule, draws, colour, z),
+        40 => sweep_sized::<40>(own, other, couplings, rule, draws, colour, z),
+        48 => sweep_sized::<48>(own, other, couplings, rule, draws, colour, z),
+        56 => sweep_sized::<56>(own, other, couplings, rule, draws, colour, z),
         64 => sweep_sized::<64>(own, other, couplings, rule, draws, colour, z),
         _ => sweep_any(own, other, couplings, rule, draws, colour, z),
     }
@@ -121,11 +125,7 @@ fn sweep_rows<const SIZE: usize, const HEAT: bool, const EVEN: bool>(
     ensures { SweepsWords couplings.now other.now rule.now draws.now colour z (half_plane couplings.now.size) own.old own.new }
 {
     let (kind, row) = (kind_of(HEAT), rule.row);
-    let in_order = match kind {
-        RuleKind::Heat => is_rising(&row),
-        RuleKind::Metropolis => is_falling(&row),
-    };
-    if !in_order {
+    if !is_in_order(kind, &row) {
         sweep_any(own, other, couplings, rule, draws, colour, z);
         return;
     }
@@ -142,9 +142,9 @@ fn sweep_rows<const SIZE: usize, const HEAT: bool, const EVEN: bool>(
     }
 }
 
-// Heat bath, or Metropolis.
+/// Heat bath, or Metropolis.
 #[inline(always)]
-fn kind_of(heat: bool) -> RuleKind
+pub(crate) fn kind_of(heat: bool) -> RuleKind
     ensures { result ≡ (if heat then RuleKind.Heat else RuleKind.Metropolis) }
 {
     if heat {
@@ -154,8 +154,17 @@ fn kind_of(heat: bool) -> RuleKind
     }
 }
 
-// The same, by one code for all sizes and tables.
-fn sweep_any(
+/// Whether a row of a table is in the order that the code of a size asks for.
+#[inline(always)]
+pub(crate) fn is_in_order(kind: RuleKind, row: &RuleRow) -> bool {
+    match kind {
+        RuleKind::Heat => is_rising(row),
+        RuleKind::Metropolis => is_falling(row),
+    }
+}
+
+/// The same as `sweep_words`, by one code for all sizes and tables.
+pub(crate) fn sweep_any(
     own: &mut [u64],
     other: &[Plane],
     couplings: &Couplings,
@@ -184,9 +193,15 @@ fn sweep_any(
     }
 }
 
-// The new words of a row: by four, and the rest by one.
+/// The new words of a row: by four, and the rest by one.
 #[inline(always)]
-fn sweep_row(own: &mut [u64], around: &Surroundings, rule: &SlotRule, draws: &[u32], row: &Row)
+pub(crate) fn sweep_row(
+    own: &mut [u64],
+    around: &Surroundings,
+    rule: &SlotRule,
+    draws: &[u32],
+    row: &Row,
+)
     requires rows { HasRows (length around.now.here.now) around.now row.now }
     requires own { length own.old ≡ length around.now.here.now }
     requires draws { length draws.now ≡ length around.now.here.now }
@@ -220,9 +235,9 @@ fn sweep_one(
     own[place] = new_word(rule, draws[place], &pulls_of(around, row, k), own[place]);
 }
 
-// The first row of a plane, which begins at x = 0 where the plane is even.
+/// The first row of a plane, which begins at x = 0 where the plane is even.
 #[inline(always)]
-fn first_row(size: usize, even: bool) -> Row
+pub(crate) fn first_row(size: usize, even: bool) -> Row
     requires size { IsLawfulSize size }
     ensures { (c z : ℕ) → even ≡ ((c + z) % 2 == 0) → IsRow size c z 0 result }
 {
@@ -236,9 +251,9 @@ fn first_row(size: usize, even: bool) -> Row
     }
 }
 
-// The row behind a row, in a plane of so many words.
+/// The row behind a row, in a plane of so many words.
 #[inline(always)]
-fn row_behind(row: &Row, words: usize) -> Row
+pub(crate) fn row_behind(row: &Row, words: usize) -> Row
     requires few { words ≤ 2048 }
     requires here { row.now.here + row.now.half ≤ words }
     requires up { row.now.up + row.now.half ≤ words }

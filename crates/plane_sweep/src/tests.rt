@@ -5,7 +5,7 @@ ghost use Rattle.plane_sweep.specs.Packed.{PermutesLabels, StandFits};
 ghost use Rattle.scalar_rule.specs.Shape.{Fits};
 ghost use Rattle.spin_model.specs.Lattice.{volume};
 
-use crate::{Place, RaggedStand, Replica, Stand, sweep};
+use crate::{Place, RaggedStand, Replica, Stand, sweep, sweep_duo_often, sweep_often};
 use coupling_set::Couplings;
 use lattice_geometry::Lattice;
 use pr_generator::Wheel;
@@ -285,24 +285,31 @@ fn packed_sweep_equals_64_scalar_sweeps_where_a_row_has_8_words_and_more(
     Ok(())
 }
 
-// The words and generators of replica 0 of slot 0 are the same.
-fn same_first_replica(a: &Stand, b: &Stand) -> bool {
-    let (Some(a), Some(b)) = (a.slots.as_slice().first(), b.slots.as_slice().first()) else {
-        return false;
-    };
-    let mut same = a.first.planes.len() == b.first.planes.len();
-    for (here, there) in a
-        .first
-        .planes
-        .as_slice()
-        .iter()
-        .zip(b.first.planes.as_slice())
-    {
+// The words and generators are the same.
+fn same_replica(a: &Replica, b: &Replica) -> bool {
+    let mut same = a.planes.len() == b.planes.len();
+    for (here, there) in a.planes.as_slice().iter().zip(b.planes.as_slice()) {
         same = same
             && here.words.as_slice() == there.words.as_slice()
             && same_wheel(&here.wheel, &there.wheel);
     }
     same
+}
+
+// Those of replica 0 of slot 0.
+fn same_first_replica(a: &Stand, b: &Stand) -> bool {
+    let (Some(a), Some(b)) = (a.slots.as_slice().first(), b.slots.as_slice().first()) else {
+        return false;
+    };
+    same_replica(&a.first, &b.first)
+}
+
+// Those of both replicas of slot 0.
+fn same_first_duo(a: &Stand, b: &Stand) -> bool {
+    let (Some(a), Some(b)) = (a.slots.as_slice().first(), b.slots.as_slice().first()) else {
+        return false;
+    };
+    same_replica(&a.first, &b.first) && same_replica(&a.second, &b.second)
 }
 
 // At this size the planes are forked.
@@ -317,6 +324,41 @@ fn sweep_in_pieces_leaves_what_one_run_leaves(rt: HostRuntime) -> Result<(), Fai
         assert!(rt; !same_first_replica(&cut, &whole), "not swept yet");
         sweep_packed(&rt, &mut cut, &plan, pieces);
         assert!(rt; same_first_replica(&cut, &whole), "pieces {pieces}");
+    }
+    Ok(())
+}
+
+// Two sweeps of both replicas of slot 0 by one call.
+fn sweep_together<R: Threads + Sync>(rt: &R, stand: &mut Stand, plan: &Plan)
+    requires { StandFits plan.now stand.old }
+{
+    let _ = plan.slots();
+    sweep_duo_often(rt, stand.slots.at_mut(0), plan, 0, 1, 2);
+}
+
+// The same, one replica after the other.
+fn sweep_apart<R: Threads + Sync>(rt: &R, stand: &mut Stand, plan: &Plan)
+    requires { StandFits plan.now stand.old }
+{
+    let _ = plan.slots();
+    let duo = stand.slots.at_mut(0);
+    sweep_often(rt, &mut duo.first, plan, 0, 1, 2);
+    sweep_often(rt, &mut duo.second, plan, 0, 1, 2);
+}
+
+// At sizes 48 and 64 the two go row by row.
+#[test]
+fn both_replicas_in_turn_leave_what_each_leaves_alone(rt: HostRuntime) -> Result<(), Fail> {
+    let alloc = rt.alloc();
+    for size in [8, 48, 64] {
+        for kind in [RuleKind::Heat, RuleKind::Metropolis] {
+            let plan = plan_of(alloc, size, kind)?;
+            let mut together = Stand::opening(alloc, &plan, Start::Random)?;
+            let mut apart = Stand::opening(alloc, &plan, Start::Random)?;
+            sweep_together(&rt, &mut together, &plan);
+            sweep_apart(&rt, &mut apart, &plan);
+            assert!(rt; same_first_duo(&together, &apart), "size {size}");
+        }
     }
     Ok(())
 }

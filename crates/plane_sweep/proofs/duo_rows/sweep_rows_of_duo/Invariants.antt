@@ -1,0 +1,10 @@
+use Rattle.std.proofs.Common.{◌*◌, ◌/◌}
+use Rattle.plane_sweep.specs.PlaneSweep.{SweepsWords, IsRow}
+use Rattle.plane_sweep.proofs.duo_rows.sweep_rows_of_duo.Given as goal
+
+abbrev pub invariant-pairs : goal.invariant-pairs
+invariant-pairs g l = record {
+  first : SweepsWords l.couplings l.others.first.now l.rule l.drawn.first.now l.colour l.z (2 * l.i * (l.couplings.size / 2)) l.fn.first l.first;
+  second : SweepsWords l.couplings l.others.second.now l.rule l.drawn.second.now l.colour l.z (2 * l.i * (l.couplings.size / 2)) l.fn.second l.second;
+  row : IsRow l.couplings.size l.colour l.z (2 * l.i) l.row;
+}

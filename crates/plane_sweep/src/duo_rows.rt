@@ -1,0 +1,167 @@
+//! The new words of a plane in both replicas of a slot, a row of the one and a row of the other by
+//! turns, so that the couplings of a row are near the processor when the second replica reads them.
+
+ghost use Rattle.std.specs.Prelude.{◌≡◌, ◌+◌, ◌%◌, ◌<◌, ◌==◌, if◌then◌else◌};
+ghost use Rattle.plane_sweep.specs.DuoSweep.{CanSweepWords};
+ghost use Rattle.plane_sweep.specs.PlaneSweep.{SweepsWords};
+ghost use Rattle.spin_model.specs.Lattice.{half_plane, IsLawfulSize};
+
+use crate::replica::Plane;
+use crate::rows::{first_row, is_in_order, kind_of, row_behind, sweep_any, sweep_row, sweep_words};
+use crate::surroundings::lend;
+use coupling_set::Couplings;
+use threshold_table::{RuleKind, SlotRule};
+
+/// The planes of the other colour in both replicas.
+#[derive(Drop)]
+pub(crate) struct Others<'a, 'b> {
+    pub(crate) first: &'a [Plane],
+    pub(crate) second: &'b [Plane],
+}
+
+/// A draw for each site of a plane in both replicas.
+#[derive(Drop)]
+pub(crate) struct Drawn<'a, 'b> {
+    pub(crate) first: &'a [u32],
+    pub(crate) second: &'b [u32],
+}
+
+/// The new words of the sites of a colour in plane `z` of both replicas, each by the planes of its
+/// own replica and its own draws. A smaller lattice has no code for both, since its couplings stay
+/// near the processor anyhow.
+pub(crate) fn sweep_words_of_duo(
+    first: &mut [u64],
+    second: &mut [u64],
+    others: &Others,
+    couplings: &Couplings,
+    rule: &SlotRule,
+    drawn: &Drawn,
+    colour: u32,
+    z: u32,
+)
+    requires first { CanSweepWords couplings.now others.now.first.now drawn.now.first.now first.old }
+    requires second { CanSweepWords couplings.now others.now.second.now drawn.now.second.now second.old }
+    requires colour { colour < 2 }
+    requires plane { z < couplings.now.size }
+    ensures first { SweepsWords couplings.now others.now.first.now rule.now drawn.now.first.now colour z (half_plane couplings.now.size) first.old first.new }
+    ensures second { SweepsWords couplings.now others.now.second.now rule.now drawn.now.second.now colour z (half_plane couplings.now.size) second.old second.new }
+{
+    match couplings.size() {
+        48 => sweep_sized::<48>(first, second, others, couplings, rule, drawn, colour, z),
+        56 => sweep_sized::<56>(first, second, others, couplings, rule, drawn, colour, z),
+        64 => sweep_sized::<64>(first, second, others, couplings, rule, drawn, colour, z),
+        _ => {
+            sweep_words(first, others.first, couplings, rule, drawn.first, colour, z);
+            sweep_words(
+                second,
+                others.second,
+                couplings,
+                rule,
+                drawn.second,
+                colour,
+                z,
+            );
+        }
+    }
+}
+
+// The same, with code of its own for a size, for each kind of table, and for planes whose first row
+// begins at x = 0 or at x = 1.
+fn sweep_sized<const SIZE: usize>(
+    first: &mut [u64],
+    second: &mut [u64],
+    others: &Others,
+    couplings: &Couplings,
+    rule: &SlotRule,
+    drawn: &Drawn,
+    colour: u32,
+    z: u32,
+)
+    requires size { couplings.now.size ≡ SIZE }
+    requires lawful { IsLawfulSize couplings.now.size }
+    requires first { CanSweepWords couplings.now others.now.first.now drawn.now.first.now first.old }
+    requires second { CanSweepWords couplings.now others.now.second.now drawn.now.second.now second.old }
+    requires colour { colour < 2 }
+    requires plane { z < couplings.now.size }
+    ensures first { SweepsWords couplings.now others.now.first.now rule.now drawn.now.first.now colour z (half_plane couplings.now.size) first.old first.new }
+    ensures second { SweepsWords couplings.now others.now.second.now rule.now drawn.now.second.now colour z (half_plane couplings.now.size) second.old second.new }
+{
+    let even = (colour + z) % 2 == 0;
+    match rule.kind {
+        RuleKind::Heat if even => {
+            sweep_rows_of_duo::<SIZE, true, true>(
+                first, second, others, couplings, rule, drawn, colour, z,
+            )
+        }
+        RuleKind::Heat => {
+            sweep_rows_of_duo::<SIZE, true, false>(
+                first, second, others, couplings, rule, drawn, colour, z,
+            )
+        }
+        RuleKind::Metropolis if even => {
+            sweep_rows_of_duo::<SIZE, false, true>(
+                first, second, others, couplings, rule, drawn, colour, z,
+            )
+        }
+        RuleKind::Metropolis => {
+            sweep_rows_of_duo::<SIZE, false, false>(
+                first, second, others, couplings, rule, drawn, colour, z,
+            )
+        }
+    }
+}
+
+// The same by heat bath or Metropolis, two rows of each replica at a time. Not expanded where it is
+// called, since no hint brings so much code into one function.
+#[inline(never)]
+fn sweep_rows_of_duo<const SIZE: usize, const HEAT: bool, const EVEN: bool>(
+    first: &mut [u64],
+    second: &mut [u64],
+    others: &Others,
+    couplings: &Couplings,
+    rule: &SlotRule,
+    drawn: &Drawn,
+    colour: u32,
+    z: u32,
+)
+    requires size { couplings.now.size ≡ SIZE }
+    requires lawful { IsLawfulSize couplings.now.size }
+    requires even { EVEN ≡ ((colour + z) % 2 == 0) }
+    requires kind { rule.now.kind ≡ (if HEAT then RuleKind.Heat else RuleKind.Metropolis) }
+    requires first { CanSweepWords couplings.now others.now.first.now drawn.now.first.now first.old }
+    requires second { CanSweepWords couplings.now others.now.second.now drawn.now.second.now second.old }
+    requires colour { colour < 2 }
+    requires plane { z < couplings.now.size }
+    ensures first { SweepsWords couplings.now others.now.first.now rule.now drawn.now.first.now colour z (half_plane couplings.now.size) first.old first.new }
+    ensures second { SweepsWords couplings.now others.now.second.now rule.now drawn.now.second.now colour z (half_plane couplings.now.size) second.old second.new }
+{
+    let (kind, row) = (kind_of(HEAT), rule.row);
+    if !is_in_order(kind, &row) {
+        sweep_any(first, others.first, couplings, rule, drawn.first, colour, z);
+        sweep_any(
+            second,
+            others.second,
+            couplings,
+            rule,
+            drawn.second,
+            colour,
+            z,
+        );
+        return;
+    }
+    let around = lend(others.first, couplings, colour, z, SIZE);
+    let beyond = lend(others.second, couplings, colour, z, SIZE);
+    // Its own, as in the sweep of one replica.
+    let rule = SlotRule { kind, row };
+    let (draws, more) = (drawn.first, drawn.second);
+    let words = SIZE * (SIZE / 2);
+    let mut row = first_row(SIZE, EVEN);
+    'pairs: for i in 0..SIZE / 2 {
+        sweep_row(first, &around, &rule, draws, &row);
+        sweep_row(second, &beyond, &rule, more, &row);
+        let behind = row_behind(&row, words);
+        sweep_row(first, &around, &rule, draws, &behind);
+        sweep_row(second, &beyond, &rule, more, &behind);
+        row = row_behind(&behind, words);
+    }
+}
