@@ -16,6 +16,10 @@ pub mod AddingUp
 pub mod ReadStops
 pub mod SavedStates
 pub mod SaidWords
+pub mod SaidOnce
+pub mod SaidOptions
+pub mod SaidItems
+pub mod SaidRuns
 pub mod Reports
 pub mod ReportRows
 pub mod ReportSpins

@@ -3,9 +3,9 @@ use Rattle.std.proofs.Common.{◌≡◌, ℕ, List, [], ◌∷◌, take, drop, S
 use Rattle.std.specs.List.{fold}
 use Rattle.std.proofs.lemmas.List.{take-append-drop}
 use Rattle.std.proofs.lemmas.List.Sums.{fold-append}
-use Rattle.glass_main.specs.CommandLine.{with_word, nothing_said}
+use Rattle.glass_main.specs.RunReading.{with_word, nothing_said}
 
-none-further : (words : List (List ℕ)) → fold with_word None words ≡ None
+pub none-further : (words : List (List ℕ)) → fold with_word None words ≡ None
 none-further [] = refl
 none-further (word ∷ words) = none-further words
 

@@ -1,12 +1,12 @@
 -- The command that the words after the program's name ask for.
-use Rattle.std.specs.Prelude.{ℕ, ◌^◌, ◌+◌, ◌-◌, Bool, true, false, not, ◌&&◌, ◌==◌, nat_lt, if◌then◌else◌, List, length, take, drop, codes, Option, Some, None, option_map, unwrap_or}
-use Rattle.std.specs.List.{fold, position_or_len, before_first, after_first}
+use Rattle.std.specs.Prelude.{ℕ, ◌^◌, ◌+◌, ◌-◌, ◌==◌, if◌then◌else◌, List, length, codes, Option, Some, None, option_map}
 use Rattle.std.specs.Str.{bytes_eq}
-use Rattle.glass_edges.specs.FileNames.{is_file_name}
-use Rattle.spin_model.specs.Limits.{certain, greatest_demo, last_epoch, most_sweeps}
+use Rattle.spin_model.specs.Limits.{certain, greatest_demo, most_sweeps}
 use Rattle.glass_main.specs.PottsWords.{PottsOrder, potts_order}
 use Rattle.glass_main.specs.AgeWords.{AgeOrder, times_of}
-use Rattle.glass_main.specs.Words.{given, word_at, size_word, number_word, number_words}
+use Rattle.glass_main.specs.RunWords.{RunOrder}
+use Rattle.glass_main.specs.RunReading.{run_order}
+use Rattle.glass_main.specs.Words.{given, word_at, size_word, number_word, number_words, name_word}
 
 -- one replica of the ferromagnet: the side of the lattice, the number of sweeps, the seed, and the seven thresholds
 pub record PlainOrder : Type 0 where
@@ -14,18 +14,6 @@ pub record PlainOrder : Type 0 where
   pub sweeps : ℕ
   pub seed : ℕ
   pub thresholds : List ℕ
-
--- a run: the name of its run file, the workers, the pieces that the planes of a sweep are cut into, the epoch to stop at
--- where it isn't the run file's, the checkpoint to go on from, the name to save the run's own under, and after how many
--- hand-outs of a slot it stops where it may stop between epochs
-pub record RunOrder : Type 0 where
-  pub run : List ℕ
-  pub workers : ℕ
-  pub pieces : ℕ
-  pub until : Option ℕ
-  pub from : Option (List ℕ)
-  pub save : Option (List ℕ)
-  pub stop_after : Option ℕ
 
 -- averages: the name of the report, and the number of blocks of its samples
 pub record AverageOrder : Type 0 where
@@ -59,14 +47,6 @@ plain_order words =
     given (number_words 0 certain words 4 7) (λ thresholds.
     Some (record { size = size; sweeps = sweeps; seed = seed; thresholds = thresholds })))))
     else None
-
--- a word that begins with two hyphens is an option
-abbrev pub is_option : List ℕ → Bool
-is_option word = bytes_eq (take 2 word) (codes "--")
-
--- a word that names a file and is no option
-abbrev pub name_word : List ℕ → Option (List ℕ)
-name_word word = if is_file_name word && not (is_option word) then Some word else None
 
 -- `check RUN`
 unfoldable pub check_name : List (List ℕ) → Option (List ℕ)
@@ -104,127 +84,8 @@ lines_order words =
     Some (record { run = run; checkpoint = checkpoint })))
     else None
 
--- ---- the words of `run`, read from the left
-
--- what they have said so far; an option without a value waits for the next word
-pub record RunWords : Type 0 where
-  pub run : Option (List ℕ)
-  pub waiting : Option (List ℕ)
-  pub workers : Option ℕ
-  pub pieces : Option ℕ
-  pub until : Option ℕ
-  pub from : Option (List ℕ)
-  pub save : Option (List ℕ)
-  pub stop_after : Option ℕ
-
-abbrev pub nothing_said : RunWords
-nothing_said = record {
-  run = None;
-  waiting = None;
-  workers = None;
-  pieces = None;
-  until = None;
-  from = None;
-  save = None;
-  stop_after = None;
-}
-
--- what comes of a thing that may be said once
-abbrev pub once : {A B : Type 0} → Option A → Option B → Option B
-once None next = next
-once (Some earlier) next = None
-
--- an option with its value, each at most once: 1 to 64 workers, 1 to 16 pieces, an epoch up to 1000000000, names of files,
--- up to 32000000000 hand-outs
-abbrev pub with_workers : RunWords → List ℕ → Option RunWords
-with_workers said value = once said.workers (option_map (λ n. record said { waiting = None; workers = Some n }) (number_word 1 64 value))
-
-abbrev pub with_pieces : RunWords → List ℕ → Option RunWords
-with_pieces said value = once said.pieces (option_map (λ n. record said { waiting = None; pieces = Some n }) (number_word 1 16 value))
-
-abbrev pub with_until : RunWords → List ℕ → Option RunWords
-with_until said value = once said.until (option_map (λ n. record said { waiting = None; until = Some n }) (number_word 0 last_epoch value))
-
--- the name of a file
-abbrev pub file_word : List ℕ → Option (List ℕ)
-file_word value = if is_file_name value then Some value else None
-
-abbrev pub with_from : RunWords → List ℕ → Option RunWords
-with_from said value = once said.from (option_map (λ name. record said { waiting = None; from = Some name }) (file_word value))
-
-abbrev pub with_save : RunWords → List ℕ → Option RunWords
-with_save said value = once said.save (option_map (λ name. record said { waiting = None; save = Some name }) (file_word value))
-
-abbrev pub with_stop_after : RunWords → List ℕ → Option RunWords
-with_stop_after said value = once said.stop_after (option_map (λ n. record said { waiting = None; stop_after = Some n }) (number_word 0 32000000000 value))
-
-unfoldable pub with_option : RunWords → List ℕ → List ℕ → Option RunWords
-with_option said name value =
-    if bytes_eq name (codes "--workers") then with_workers said value
-    else if bytes_eq name (codes "--pieces") then with_pieces said value
-    else if bytes_eq name (codes "--until") then with_until said value
-    else if bytes_eq name (codes "--from") then with_from said value
-    else if bytes_eq name (codes "--save") then with_save said value
-    else if bytes_eq name (codes "--stop-after") then with_stop_after said value
-    else None
-
--- 61 is the equals sign
-abbrev pub is_equals : ℕ → Bool
-is_equals b = b == 61
-
--- a word that is an option: its value stands behind the first equals sign, or is the next word
-unfoldable pub with_option_word : RunWords → List ℕ → Option RunWords
-with_option_word said word =
-    if nat_lt (position_or_len is_equals word) (length word)
-    then with_option said (before_first is_equals word) (after_first is_equals word)
-    else Some (record said { waiting = Some word })
-
--- a word that is no option names the run file
-unfoldable pub with_run : RunWords → List ℕ → Option RunWords
-with_run said word = once said.run (if is_file_name word then Some (record said { run = Some word }) else None)
-
--- the next word, which is taken as it stands where an option waits for it
-abbrev pub with_next : Option (List ℕ) → RunWords → List ℕ → Option RunWords
-with_next (Some name) said word = with_option said name word
-with_next None said word = if is_option word then with_option_word said word else with_run said word
-
-abbrev pub with_word : Option RunWords → List ℕ → Option RunWords
-with_word None word = None
-with_word (Some said) word = with_next said.waiting said word
-
--- what all of them have said
-unfoldable pub said_by : List (List ℕ) → Option RunWords
-said_by words = fold with_word (Some nothing_said) words
-
--- a run that may stop between epochs saves where it came to
-abbrev pub is_kept : Option ℕ → Option (List ℕ) → Bool
-is_kept (Some takes) None = false
-is_kept stop_after save = true
-
--- the run file must be named, and no option may wait; a run that may stop must be saved; there is one worker and one piece
--- where nothing else is said
-abbrev pub order_in : Option (List ℕ) → Option (List ℕ) → RunWords → Option RunOrder
-order_in (Some run) None said =
-    if is_kept said.stop_after said.save then
-    Some (record {
-      run = run;
-      workers = unwrap_or said.workers 1;
-      pieces = unwrap_or said.pieces 1;
-      until = said.until;
-      from = said.from;
-      save = said.save;
-      stop_after = said.stop_after;
-    })
-    else None
-order_in _ _ said = None
-
--- `run RUN` with `--workers N`, `--pieces P`, `--until E`, `--from NAME`, `--save NAME` and `--stop-after N` in any order
-unfoldable pub run_order : List (List ℕ) → Option RunOrder
-run_order words = given (said_by (drop 1 words)) (λ said. order_in said.run said.waiting said)
-
--- ---- all commands
-
--- the first word is the command's name; none where the words are no command
+-- the first word is the command's name; none where the words are no command. The words of `run` are read from the left: what
+-- they say is `SaysRun` of RunWords, by the clause `run_words` of the top call
 unfoldable pub command_of : List (List ℕ) → Option Command
 command_of words =
     if bytes_eq (word_at words 0) (codes "plain") then option_map Plain (plain_order words)

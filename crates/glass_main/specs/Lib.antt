@@ -1,12 +1,14 @@
+-- what public contracts say: the words, what is asked for, how a call ends
 pub mod Words
 pub mod PottsWords
 pub mod AgeWords
+pub mod RunWords
+pub mod RunReading
 pub mod CommandLine
 pub mod Texts
 pub mod PottsRun
 pub mod AgeRun
 pub mod ManyBanks
-pub mod KeptPlans
 pub mod Beginnings
 pub mod Stops
 pub mod Outside
@@ -14,16 +16,18 @@ pub mod Request
 pub mod Lines
 pub mod Endings
 pub mod Statuses
-pub mod Gathers
-pub mod BankTables
-pub mod Resumes
-pub mod ReadPotts
-pub mod ReadAge
-pub mod ReadCommand
-pub mod Opened
-pub mod BanksOpened
 pub mod StopLaws
-pub mod DemoRun
 pub mod LawfulRuns
 pub mod SavedLaws
 pub mod SampleLaws
+-- how the code's commands and plans are read, what plans keep, and what the steps inside say: for proofs alone
+pub mod ReadPotts
+pub mod ReadAge
+pub mod ReadCommand
+pub mod KeptPlans
+pub mod Gathers
+pub mod BankTables
+pub mod Resumes
+pub mod Opened
+pub mod BanksOpened
+pub mod DemoRun

@@ -3,6 +3,8 @@ use Rattle.std.specs.Borrow.{Bor}
 use Rattle.std.specs.Prelude.{ℕ, ◌≤◌, List, Option, option_map, IfSome}
 use Rattle.spin_model.specs.Limits.{greatest_demo, last_epoch}
 use Rattle.glass_main.specs.CommandLine as model
+use Rattle.glass_main.specs.RunWords as run_words
+use Rattle.glass_main.specs.RunReading as run_reading
 use Rattle.glass_main.specs.ReadPotts.{read_potts_order, IsLawfulPotts}
 use Rattle.glass_main.specs.ReadAge.{read_age_order, IsLawfulAge}
 use Rattle.glass_main.specs.declared.average_words.AverageOrder.{AverageOrder}
@@ -22,7 +24,7 @@ abbrev pub name_bytes : Option (Bor (List ℕ)) → Option (List ℕ)
 name_bytes name = option_map (λ (n : Bor (List ℕ)). n.now) name
 
 -- the order of `run`
-abbrev pub read_run_order : RunOrder → model.RunOrder
+abbrev pub read_run_order : RunOrder → run_words.RunOrder
 read_run_order order = record {
   run = order.run.now;
   workers = order.workers;
@@ -53,7 +55,7 @@ read_command (Potts order) = model.Potts (read_potts_order order)
 read_command (Age order) = model.Age (read_age_order order)
 
 -- what the words of `run` have said
-abbrev pub read_said : RunWords → model.RunWords
+abbrev pub read_said : RunWords → run_reading.RunWords
 read_said said = record {
   run = option_map (λ run. run.now) said.run;
   waiting = option_map (λ name. name.now) said.waiting;

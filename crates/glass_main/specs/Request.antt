@@ -26,7 +26,8 @@ use Rattle.scalar_rule.specs.Plan.{Plan}
 use Rattle.scalar_rule.specs.declared.sample.Sample.{Sample}
 use Rattle.sample_average.specs.Averages.{AveragesView, averages_text}
 use Rattle.sample_average.specs.ReadReport.{averages_in}
-use Rattle.glass_main.specs.CommandLine.{PlainOrder, RunOrder, AverageOrder, LinesOrder, Command, Plain, Check, Run, Average, Demo, Lines, Potts, Age, command_of}
+use Rattle.glass_main.specs.RunWords.{RunOrder}
+use Rattle.glass_main.specs.CommandLine.{PlainOrder, AverageOrder, LinesOrder, Command, Plain, Check, Run, Average, Demo, Lines, Potts, Age, command_of}
 use Rattle.glass_main.specs.PottsRun.{potts_report}
 use Rattle.glass_main.specs.PottsWords.{PottsOrder}
 use Rattle.glass_main.specs.AgeRun.{age_text}

@@ -1,7 +1,9 @@
--- Words of the command line as bytes, and the numbers that some of them write.
-use Rattle.std.specs.Prelude.{ℕ, zero, suc, ◌+◌, ◌%◌, Bool, ◌&&◌, ◌==◌, nat_le, if◌then◌else◌, List, [], ◌∷◌, ◌++◌, map, slice_index_or, Option, Some, None, String, string_bytes}
+-- Words of the command line as bytes, the numbers that some of them write, and the names that others are.
+use Rattle.std.specs.Prelude.{ℕ, zero, suc, ◌+◌, ◌%◌, Bool, not, ◌&&◌, ◌==◌, nat_le, if◌then◌else◌, List, [], ◌∷◌, ◌++◌, length, take, codes, map, slice_index_or, Option, Some, None, String, string_bytes}
+use Rattle.std.specs.Str.{bytes_eq}
 use Rattle.std.specs.declared.alloc.Global.{Global}
 use Rattle.glass_edges.specs.Decimal.{is_numeral, value_of}
+use Rattle.glass_edges.specs.FileNames.{is_file_name}
 
 -- the bytes of each word
 abbrev pub texts : List (String Global) → List (List ℕ)
@@ -38,3 +40,15 @@ number_words low high words start (suc n) =
 -- the side of a lattice: an even number from 4 to 64
 abbrev pub size_word : List ℕ → Option ℕ
 size_word text = given (number_word 4 64 text) (λ size. if size % 2 == 0 then Some size else None)
+
+-- a word that begins with two hyphens is an option
+abbrev pub is_option : List ℕ → Bool
+is_option word = bytes_eq (take 2 word) (codes "--")
+
+-- the name of a file
+abbrev pub file_word : List ℕ → Option (List ℕ)
+file_word value = if is_file_name value then Some value else None
+
+-- a word that names a file and is no option
+abbrev pub name_word : List ℕ → Option (List ℕ)
+name_word word = if is_file_name word && not (is_option word) then Some word else None

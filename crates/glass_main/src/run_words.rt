@@ -1,7 +1,7 @@
 //! The words of the command `run`.
 
 ghost use Rattle.std.specs.Prelude.{◌≡◌, ℕ, ◌≤◌, drop, option_map, Some, None, IfSome};
-ghost use Rattle.glass_main.specs.CommandLine as model;
+ghost use Rattle.glass_main.specs.RunReading as model;
 ghost use Rattle.glass_main.specs.ReadCommand.{name_bytes, read_run_order, read_said, IsLawfulOrder, AreLawfulWords};
 ghost use Rattle.glass_main.specs.Words.{texts};
 
@@ -43,7 +43,7 @@ struct RunWords<'a> {
 }
 
 /// Reads the words of `run`, of which the first is the command's name.
-#[tactic(auto, unfolding(crate::specs::CommandLine::run_order))]
+#[tactic(auto, unfolding(crate::specs::RunReading::run_order))]
 pub(crate) fn read_run(words: &[String]) -> Option<RunOrder<'_>>
     ensures value { option_map read_run_order result ≡ model.run_order (texts words.now) }
     ensures lawful { IfSome result IsLawfulOrder }
@@ -59,7 +59,7 @@ fn after_first(words: &[String]) -> &[String]
 }
 
 // What all words say.
-#[tactic(auto, unfolding(crate::specs::CommandLine::said_by))]
+#[tactic(auto, unfolding(crate::specs::RunReading::said_by))]
 fn said_by(words: &[String]) -> Option<RunWords<'_>>
     ensures value { option_map read_said result ≡ model.said_by (texts words.now) }
     ensures lawful { IfSome result AreLawfulWords }
@@ -122,7 +122,7 @@ fn with_word<'a>(said: RunWords<'a>, word: &'a str) -> Option<RunWords<'a>>
 }
 
 // A word that is an option, with its value or without.
-#[tactic(auto, unfolding(crate::specs::CommandLine::with_option_word))]
+#[tactic(auto, unfolding(crate::specs::RunReading::with_option_word))]
 fn with_option_word<'a>(said: RunWords<'a>, word: &'a str) -> Option<RunWords<'a>>
     requires { AreLawfulWords said }
     ensures value { option_map read_said result ≡ model.with_option_word (read_said said.entry) word.now }
@@ -138,7 +138,7 @@ fn with_option_word<'a>(said: RunWords<'a>, word: &'a str) -> Option<RunWords<'a
 }
 
 // A word that names the run file.
-#[tactic(auto, unfolding(crate::specs::CommandLine::with_run))]
+#[tactic(auto, unfolding(crate::specs::RunReading::with_run))]
 fn with_run<'a>(said: RunWords<'a>, word: &'a str) -> Option<RunWords<'a>>
     requires { AreLawfulWords said }
     ensures value { option_map read_said result ≡ model.with_run (read_said said.entry) word.now }
@@ -154,7 +154,7 @@ fn with_run<'a>(said: RunWords<'a>, word: &'a str) -> Option<RunWords<'a>>
 }
 
 // An option with its value.
-#[tactic(auto, unfolding(crate::specs::CommandLine::with_option))]
+#[tactic(auto, unfolding(crate::specs::RunReading::with_option))]
 fn with_option<'a>(said: RunWords<'a>, name: &str, value: &'a str) -> Option<RunWords<'a>>
     requires { AreLawfulWords said }
     ensures value { option_map read_said result ≡ model.with_option (read_said said.entry) name.now value.now }

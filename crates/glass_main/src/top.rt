@@ -1,10 +1,11 @@
 //! The top call.
 
-ghost use Rattle.std.specs.Prelude.{◌≡◌, ◌↔◌, None, IfSome};
-ghost use Rattle.glass_main.specs.CommandLine.{command_of, saved_name};
+ghost use Rattle.std.specs.Prelude.{◌≡◌, ◌↔◌, Some, None, IfSome};
+ghost use Rattle.glass_main.specs.CommandLine.{Run, command_of, saved_name};
 ghost use Rattle.glass_main.specs.Endings.{ReadsNoFile};
 ghost use Rattle.glass_main.specs.Outside.{output, store};
 ghost use Rattle.glass_main.specs.Request.{request};
+ghost use Rattle.glass_main.specs.RunWords.{RunOrder, SaysRun};
 ghost use Rattle.glass_main.specs.Statuses.{Ends, Answers, Does, Completes, TellsFaults};
 ghost use Rattle.glass_main.specs.Words.{texts};
 
@@ -54,6 +55,11 @@ pub fn glass<R: Threads + Wait + Sync, H: Shelf, O: Sink, E: Sink, G: Gate + Syn
         (output E.taken E.faults err.old) (output E.taken E.faults err.new) }
     ensures words { (result ≡ 2) ↔ (command_of (texts words.now) ≡ None) }
     ensures untouched { ReadsNoFile (command_of (texts words.now)) → shelf.new ≡ shelf.old }
+
+    // The words are those of a run exactly where they say it: its run file's name and options with their
+    // values, in any order.
+    ensures run_words { (order : RunOrder) → (command_of (texts words.now) ≡ Some (Run order))
+        ↔ SaysRun (texts words.now) order }
 
     // A fault that was counted is told by the status.
     ensures faults { TellsFaults result

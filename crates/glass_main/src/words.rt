@@ -4,7 +4,6 @@ ghost use Rattle.std.specs.Prelude.{◌≡◌, ◌≤◌, ◌^◌, length, true,
 ghost use Rattle.std.specs.Char.{is_ascii_digit};
 ghost use Rattle.std.specs.List.{list_all};
 ghost use Rattle.glass_edges.specs.Decimal.{value_of};
-ghost use Rattle.glass_main.specs.CommandLine as commands;
 ghost use Rattle.glass_main.specs.Words as model;
 ghost use Rattle.glass_main.specs.Words.{texts};
 
@@ -22,7 +21,7 @@ pub(crate) fn word_at(words: &[String], k: usize) -> &str
 
 /// A word that can name a file and is no option.
 pub(crate) fn name_word(word: &str) -> Option<&str>
-    ensures { option_map (λ name. name.now) result ≡ commands.name_word word.now }
+    ensures { option_map (λ name. name.now) result ≡ model.name_word word.now }
 {
     if is_file_name(word) && !word.starts_with("--") {
         Some(word)

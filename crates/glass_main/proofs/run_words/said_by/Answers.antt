@@ -2,7 +2,7 @@ use Rattle.std.proofs.Common.{rules, arith, ◌≡◌, ◌+◌, ◌<◌, [], tak
 use Rattle.std.specs.List.{fold}
 use Rattle.std.proofs.lemmas.List.{length-map}
 use Rattle.std.proofs.lemmas.List.Sums.{fold_more}
-use Rattle.glass_main.specs.CommandLine.{with_word, nothing_said, said_by}
+use Rattle.glass_main.specs.RunReading.{with_word, nothing_said, said_by}
 use Rattle.glass_main.specs.ReadCommand.{read_said}
 use Rattle.glass_main.specs.Words.{texts, word_at}
 use Rattle.glass_main.proofs.SaidWords.{none-said}

@@ -1,6 +1,6 @@
 use Rattle.std.proofs.Common.{◌≡◌, Some, take}
 use Rattle.std.specs.List.{fold}
-use Rattle.glass_main.specs.CommandLine.{with_word, nothing_said}
+use Rattle.glass_main.specs.RunReading.{with_word, nothing_said}
 use Rattle.glass_main.specs.ReadCommand.{read_said, AreLawfulWords}
 use Rattle.glass_main.specs.Words.{texts}
 use Rattle.glass_main.proofs.run_words.said_by.Given as goal

@@ -1,5 +1,10 @@
+use Rattle.glass_main.specs.Words.{texts}
 use Rattle.glass_main.proofs.Completing.{completes}
+use Rattle.glass_main.proofs.SaidRuns.{command_of-run}
 use Rattle.glass_main.proofs.top.glass.Goals as goal
 
 pub returns-clause-complete : goal.returns-clause-complete
 returns-clause-complete g c = completes _ _ _ _ _ _ _ c.answer-ending.ensures.ends c.status.ensures
+
+pub returns-clause-run_words : goal.returns-clause-run_words
+returns-clause-run_words g c = command_of-run (texts c.args.words.now)
