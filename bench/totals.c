@@ -6,7 +6,7 @@
 
 enum { PLANES = 20, MOST = 64 * 64 * 64, PLANE = 64 * 32 };
 
-static uint64_t first[MOST], second[MOST], couplings[3 * MOST], ones[PLANE], in_x[PLANE], in_y[PLANE];
+static uint64_t first[MOST], second[MOST], couplings[3 * MOST], ones[PLANE];
 
 INLINE lanes row_at(const uint64_t *a, const uint64_t *b, const uint64_t *c) {
     lanes x, y, z;
@@ -66,48 +66,148 @@ INLINE void tally(lanes total[PLANES], const uint64_t *a, const uint64_t *b, con
     }
 }
 
-/* The bonds in one direction from a plane's sites, and the words of the neighbours there. */
-struct bonds {
-    const uint64_t *negative, *ahead;
+/* The words around the sites of colour 0 in a plane: the other colour's spins in the plane, one plane on and
+   one back, and the couplings ahead of the sites and of the neighbours behind. */
+struct around {
+    const uint64_t *own, *here, *above, *below, *ahead[3], *here_x, *here_y, *below_z;
 };
 
-/* Of the three bonds from each place of a vector the low and the high bit of their number. */
-INLINE void sum_row(const uint64_t *own, const struct bonds d[3], size_t at, lanes *ones, lanes *twos) {
-    lanes three[3];
-    for (int i = 0; i < 3; i++)
-        three[i] = row_at(d[i].negative + at, own + at, d[i].ahead + at);
-    full_adder(three[0], three[1], three[2], ones, twos);
+/* A row, and where those beside it begin. Its sites begin at x = 0 where it is even. */
+struct row {
+    size_t half, here, up, down;
+    int even;
+};
+
+/* How many of the six bonds of each place of a vector are unsatisfied, in low and high bits. */
+struct counts {
+    lanes ones[2], twos[2];
+};
+
+INLINE lanes load(const uint64_t *words) {
+    lanes v;
+    memcpy(&v, words, sizeof v);
+    return v;
 }
 
-/* Adds the bonds from four vectors of places, but for the carries of sixteen, which it gives. */
-INLINE lanes sum_bonds(lanes total[PLANES], const uint64_t *own, const struct bonds d[3], size_t at) {
-    lanes ones[4], twos[4];
-    for (int i = 0; i < 4; i++)
-        sum_row(own, d, at + i * WIDTH, &ones[i], &twos[i]);
-    lanes front = add_two(&total[0], ones[0], ones[1]), back = add_two(&total[0], ones[2], ones[3]);
-    lanes first = add_two(&total[1], twos[0], twos[1]), second = add_two(&total[1], twos[2], twos[3]);
-    lanes third = add_two(&total[1], front, back), fours = add_two(&total[2], first, second);
-    lanes more = total[2] & third;
-    total[2] ^= third;
-    return add_two(&total[3], fours, more);
+/* A vector of two lists behind each other, from a place on. */
+INLINE lanes shifted(lanes a, lanes b, uint64_t from) {
+    lanes places;
+    for (size_t i = 0; i < WIDTH; i++)
+        places[i] = from + i;
+    return __builtin_shuffle(a, b, places);
 }
 
-/* Adds to each sample's number its unsatisfied bonds in three directions. */
-INLINE void tally_bonds(lanes total[PLANES], const uint64_t *own, const struct bonds d[3], size_t n) {
-    enum { FOUR = 4 * WIDTH };
-    size_t at = 0;
-    for (; n - at >= 4 * FOUR; at += 4 * FOUR) {
-        lanes part[4];
-#pragma GCC unroll 4
-        for (int i = 0; i < 4; i++)
-            part[i] = sum_bonds(total, own, d, at + i * FOUR);
-        lanes front = add_two(&total[4], part[0], part[1]), back = add_two(&total[4], part[2], part[3]);
-        add_one(total, 6, add_two(&total[5], front, back));
+INLINE lanes ahead_in_x(const struct around *a, const struct row *r, size_t k) {
+    const uint64_t *words = a->here + r->here;
+    if (r->even) return load(words + k);
+    if (k + WIDTH < r->half) return load(words + k + 1);
+    return shifted(load(words + k), load(words), 1);
+}
+
+INLINE lanes behind_in_x(const struct around *a, const struct row *r, size_t k) {
+    const uint64_t *words = a->here + r->here, *bonds = a->here_x + r->here;
+    if (!r->even) return load(words + k) ^ load(bonds + k);
+    if (k > 0) return load(words + k - 1) ^ load(bonds + k - 1);
+    size_t end = r->half - WIDTH;
+    return shifted(load(words + end) ^ load(bonds + end), load(words) ^ load(bonds), WIDTH - 1);
+}
+
+INLINE struct counts count(const struct around *a, const struct row *r, size_t k) {
+    size_t here = r->here + k, up = r->up + k, down = r->down + k;
+    lanes own = load(a->own + here);
+    lanes x = ahead_in_x(a, r, k) ^ load(a->ahead[0] + here), y = load(a->here + up) ^ load(a->ahead[1] + here);
+    lanes z = load(a->above + here) ^ load(a->ahead[2] + here), u = behind_in_x(a, r, k);
+    lanes v = load(a->here + down) ^ load(a->here_y + down), w = load(a->below + here) ^ load(a->below_z + here);
+    struct counts sum;
+    full_adder(x ^ own, y ^ own, z ^ own, &sum.ones[0], &sum.twos[0]);
+    full_adder(u ^ own, v ^ own, w ^ own, &sum.ones[1], &sum.twos[1]);
+    return sum;
+}
+
+/* Adds two counts, but for the carries of eight and of four. */
+INLINE lanes add_counts(lanes total[PLANES], struct counts a, struct counts b, lanes *fours) {
+    lanes front = add_two(&total[0], a.ones[0], a.ones[1]), back = add_two(&total[0], b.ones[0], b.ones[1]);
+    lanes first = add_two(&total[1], a.twos[0], a.twos[1]), second = add_two(&total[1], b.twos[0], b.twos[1]);
+    *fours = add_two(&total[1], front, back);
+    return add_two(&total[2], first, second);
+}
+
+/* Adds two vectors of both rows, but for the carries of 32, which it gives. */
+INLINE lanes sum_square(lanes total[PLANES], const struct around *a, const struct row *first,
+                        const struct row *second, size_t k) {
+    lanes fours, more_fours, none = {0};
+    lanes eights = add_counts(total, count(a, first, k), count(a, first, k + WIDTH), &fours);
+    lanes more_eights = add_counts(total, count(a, second, k), count(a, second, k + WIDTH), &more_fours);
+    lanes last = add_two(&total[2], fours, more_fours);
+    lanes front = add_two(&total[3], eights, more_eights), back = add_two(&total[3], last, none);
+    return add_two(&total[4], front, back);
+}
+
+/* Adds one site, by single words. */
+INLINE void add_site(lanes total[PLANES], const struct around *a, const struct row *r, size_t k) {
+    size_t here = r->here + k, up = r->up + k, down = r->down + k;
+    size_t right = r->here + (r->even ? k : (k + 1) % r->half);
+    size_t left = r->here + (r->even ? (k + r->half - 1) % r->half : k);
+    const uint64_t six[6] = {a->here[right] ^ a->ahead[0][here], a->here[up] ^ a->ahead[1][here],
+                             a->above[here] ^ a->ahead[2][here], a->here[left] ^ a->here_x[left],
+                             a->here[down] ^ a->here_y[down], a->below[here] ^ a->below_z[here]};
+    for (int i = 0; i < 6; i += 2) {
+        lanes front = {six[i] ^ a->own[here]}, back = {six[i + 1] ^ a->own[here]};
+        add_one(total, 1, add_two(&total[0], front, back));
     }
-    for (; n - at >= FOUR; at += FOUR)
-        add_one(total, 4, sum_bonds(total, own, d, at));
-    for (int i = 0; i < 3; i++)
-        tally(total, d[i].negative + at, own + at, d[i].ahead + at, n - at);
+}
+
+/* Adds two rows: by two vectors of columns, by one and by single ones. */
+INLINE void add_rows(lanes total[PLANES], const struct around *a, const struct row *first,
+                     const struct row *second) {
+    size_t k = 0, half = first->half;
+    for (; half - k >= 2 * WIDTH; k += 2 * WIDTH)
+        add_one(total, 5, sum_square(total, a, first, second, k));
+    for (; half - k >= WIDTH; k += WIDTH) {
+        lanes fours, none = {0}, eights = add_counts(total, count(a, first, k), count(a, second, k), &fours);
+        add_one(total, 4, add_two(&total[3], eights, add_two(&total[2], fours, none)));
+    }
+    for (; k < half; k++) {
+        add_site(total, a, first, k);
+        add_site(total, a, second, k);
+    }
+}
+
+INLINE struct row row_behind(struct row r, size_t plane) {
+    struct row next = {r.half, r.here + r.half, r.up + r.half < plane ? r.up + r.half : 0, r.here, !r.even};
+    return next;
+}
+
+INLINE void count_pairs(lanes all[PLANES], const struct around *around, size_t size, int even) {
+    size_t half = size / 2, plane = size * half;
+    struct row first = {half, 0, half, (size - 1) * half, even};
+    /* Copies, so that the compiler sees that no word is written where others are read. */
+    lanes total[PLANES];
+    struct around a = *around;
+    memcpy(total, all, sizeof total);
+    for (size_t i = 0; i < half; i++) {
+        struct row second = row_behind(first, plane);
+        add_rows(total, &a, &first, &second);
+        first = row_behind(second, plane);
+    }
+    memcpy(all, total, sizeof total);
+}
+
+/* With code of its own for four sizes and both parities. */
+#define SIZED(SIZE) \
+    case SIZE: \
+        if (even) count_pairs(total, a, SIZE, 1); \
+        else count_pairs(total, a, SIZE, 0); \
+        break;
+
+static __attribute__((noinline)) void count_plane(lanes total[PLANES], const struct around *a, size_t size, int even) {
+    switch (size) {
+        SIZED(8)
+        SIZED(16)
+        SIZED(32)
+        SIZED(64)
+    default: count_pairs(total, a, size, even);
+    }
 }
 
 static void total_of(const lanes rows[PLANES], uint64_t total[PLANES]) {
@@ -122,43 +222,16 @@ static void total_of(const lanes rows[PLANES], uint64_t total[PLANES]) {
     }
 }
 
-/* The words so many places on, the last ones followed by the first. */
-INLINE void turn(uint64_t *out, const uint64_t *words, size_t n, size_t step) {
-    memcpy(out, words + step, (n - step) * sizeof *out);
-    memcpy(out + n - step, words, step * sizeof *out);
-}
-
-/* Row by row those of the same row, one place on in each second row. */
-INLINE void turn_rows(uint64_t *out, const uint64_t *words, size_t rows, size_t row, size_t parity) {
-    for (size_t y = 0; y < rows; y++)
-        if ((parity + y) % 2 == 0) turn(out + y * row, words + y * row, row, 0);
-        else turn(out + y * row, words + y * row, row, 1);
-}
-
-/* With code of its own for four lengths of a row. */
-INLINE void turn_plane(uint64_t *out, const uint64_t *words, size_t rows, size_t row, size_t parity) {
-    switch (row) {
-    case 4: turn_rows(out, words, rows, 4, parity); break;
-    case 8: turn_rows(out, words, rows, 8, parity); break;
-    case 16: turn_rows(out, words, rows, 16, parity); break;
-    case 32: turn_rows(out, words, rows, 32, parity); break;
-    default: turn_rows(out, words, rows, row, parity);
-    }
-}
-
 static __attribute__((noinline)) void unsatisfied(const uint64_t *words, size_t size, uint64_t total[PLANES]) {
-    size_t row = size / 2, plane = size * row, volume = size * size * size;
+    size_t plane = size * (size / 2), colour = size * plane, volume = 2 * colour;
+    const uint64_t *other = words + colour, *bonds = couplings;
     lanes rows[PLANES] = {{0}};
-    for (size_t q = 0; q < 2 * size; q++) {
-        size_t colour = q / size, z = q % size, other = (1 - colour) * size;
-        const uint64_t *own = words + q * plane, *beside = words + (other + z) * plane;
-        const uint64_t *negative = couplings + q * plane;
-        turn_plane(in_x, beside, size, row, (colour + z) % 2);
-        turn(in_y, beside, plane, row);
-        const struct bonds three[3] = {{negative, in_x},
-                                       {negative + volume, in_y},
-                                       {negative + 2 * volume, words + (other + (z + 1) % size) * plane}};
-        tally_bonds(rows, own, three, plane);
+    for (size_t z = 0; z < size; z++) {
+        size_t at = z * plane, on = (z + 1) % size * plane, back = (z + size - 1) % size * plane;
+        const struct around a = {words + at, other + at, other + on, other + back,
+                                 {bonds + at, bonds + volume + at, bonds + 2 * volume + at},
+                                 bonds + colour + at, bonds + volume + colour + at, bonds + 2 * volume + colour + back};
+        count_plane(rows, &a, size, z % 2 == 0);
     }
     total_of(rows, total);
 }
@@ -191,6 +264,8 @@ int main(int argc, char **argv) {
         first[i] = next_word(&state);
     for (size_t i = 0; i < volume; i++)
         second[i] = next_word(&state);
+    /* Written, since the pages of an array that is only read are one page of zeros. */
+    memset(couplings, 0, sizeof couplings);
     for (size_t i = 0; i < PLANE; i++)
         ones[i] = UINT64_MAX;
     time = UINT64_MAX;

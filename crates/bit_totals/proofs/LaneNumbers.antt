@@ -14,8 +14,8 @@ pub lane-word : (rows : List (List ℕ)) (i w : ℕ) → get_or (lane_words rows
 lane-word rows i w = get_or-map (λ (words : List ℕ). get_or words i 0) rows w []
 
 -- a row without bits has none in any lane
-pub none-set : (i b : ℕ) → i < 8 → bit_at (get_or (replicate 8 0) i 0) b ≡ 0
-none-set i b h = ap (λ x. bit_at x b) (get_or-replicate {A = ℕ} 8 i 0 0 h) ∙ bit_at-zero b
+pub none-set : (i b : ℕ) → i < 4 → bit_at (get_or (replicate 4 0) i 0) b ≡ 0
+none-set i b h = ap (λ x. bit_at x b) (get_or-replicate {A = ℕ} 4 i 0 0 h) ∙ bit_at-zero b
 
 -- a plane that is written, seen from m planes above it
 first-written : (ws : List ℕ) (w x b m : ℕ) → w < length ws

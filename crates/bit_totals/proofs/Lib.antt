@@ -1,5 +1,7 @@
 pub mod LaneNumbers
-pub mod Turning
 pub mod Tallying
 pub mod Places
 pub mod PlaceCounts
+pub mod ColourBonds
+pub mod RowCounts
+pub mod PlaneBonds

@@ -1,30 +1,26 @@
 -- Counts at the first places of the compact order, and over all bonds and sites.
-use Rattle.std.proofs.Common.{◌≡◌, ℕ, zero, suc, ◌+◌, ◌-◌, ◌*◌, ◌/◌, ◌%◌, ◌^◌, ◌<◌, ◌≤◌, Bool, true, false, not, List, [], length, get_or, bit_xor, ap, refl, sym, ◌∙◌, arith}
+use Rattle.std.proofs.Common.{◌≡◌, ℕ, zero, suc, ◌+◌, ◌-◌, ◌*◌, ◌/◌, ◌%◌, ◌^◌, ◌<◌, ◌≤◌, Bool, true, false, List, [], length, get_or, bit_xor, ap, refl, sym, ◌∙◌, arith}
 use Rattle.std.proofs.Math.Nat.{add-mul, mul_assoc, mul-le-mul_right}
 use Rattle.std.proofs.lemmas.Nat.{mul-le}
 use Rattle.spin_model.specs.Words.{is_set, one_if}
 use Rattle.spin_model.specs.Steps.{count_below}
-use Rattle.spin_model.specs.Couplings.{Bonds}
-use Rattle.spin_model.specs.Lattice.{IsLawfulSize, volume, bond, bond_count, forward, half_plane, half_volume, compact, from_compact}
+use Rattle.spin_model.specs.Lattice.{IsLawfulSize, volume, forward, half_plane, compact, from_compact}
 use Rattle.spin_model.proofs.Sites.{volume-bound}
 use Rattle.spin_model.proofs.Counts.{count-same, count-most}
 use Rattle.spin_model.proofs.Tables.{get_or-table, count_below-more}
 use Rattle.spin_model.proofs.CompactOrder.{compact-below, from_compact-compact, from_compact-below, compact-from_compact}
-use Rattle.coupling_set.specs.CouplingWords.{CouplingsView, bond_word, bonds_of}
 use Rattle.multispin_word.specs.Planes.{differs}
 use Rattle.multispin_word.proofs.Bits.{is_set-xor, is_set-ones}
-use Rattle.scalar_rule.specs.Neighbours.{spin, coupled, agree}
-use Rattle.scalar_rule.specs.Sums.{is_unsatisfied, unsatisfied, agreeing}
-use Rattle.scalar_rule.specs.Positions.{sum_below}
-use Rattle.scalar_rule.proofs.Extremes.{sum-same}
-use Rattle.scalar_rule.proofs.FiniteSums.{ArePermutation, count-sum, sum-permuted, sum-thirds}
+use Rattle.scalar_rule.specs.Neighbours.{spin, agree}
+use Rattle.scalar_rule.specs.Sums.{agreeing}
+use Rattle.scalar_rule.proofs.FiniteSums.{ArePermutation, count-sum, sum-permuted}
 use Rattle.scalar_rule.proofs.Shifts.{shift-x, shift-y, shift-z}
 use Rattle.plane_sweep.specs.Packed.{plane_at, word_at, spins_of, FitsReplica}
 use Rattle.plane_sweep.specs.declared.replica.Plane.{Plane}
 use Rattle.plane_sweep.specs.declared.replica.Replica.{Replica}
 use Rattle.bit_totals.specs.Tallies.{mixed, set_below}
-use Rattle.bit_totals.specs.Counted.{unsatisfied_along, unsatisfied_from, agreeing_from, AreAhead, HaveOneSize}
-use Rattle.bit_totals.proofs.Places.{Within, site-below, own-word, plane-place}
+use Rattle.bit_totals.specs.Counted.{agreeing_from, HaveOneSize}
+use Rattle.bit_totals.proofs.Places.{Within, site-below, own-word}
 
 -- a count, and then that of the numbers behind it
 pub count-add : (t : ℕ → Bool) (n m : ℕ) → count_below t (n + m) ≡ count_below t n + count_below (λ j. t (n + j)) m
@@ -35,86 +31,12 @@ count-add t n (suc m) =
     let place : n + suc m ≡ n + m + 1 = omega arith in
     ap (count_below t) place ∙ count_below-more t (n + m) ∙ omega arith
 
--- on truth values: J s s' = -1
-against : (j own ahead : Bool) → differs (differs j own) ahead ≡ not (agree (coupled j ahead) own)
-against true true true = refl
-against true true false = refl
-against true false true = refl
-against true false false = refl
-against false true true = refl
-against false true false = refl
-against false false true = refl
-against false false false = refl
-
 -- a step ahead stays on the lattice
 pub forward-below : (l i d : ℕ) → IsLawfulSize l → i < volume l → d < 3 → forward l i d < volume l
 forward-below l i zero lawful below h = (shift-x l (omega (arith, lawful.0))).on i below
 forward-below l i (suc zero) lawful below h = (shift-y l (omega (arith, lawful.0))).on i below
 forward-below l i (suc (suc zero)) lawful below h = (shift-z l (omega (arith, lawful.0))).on i below
 forward-below l i (suc (suc (suc d))) lawful below h = absurd (omega arith)
-
--- whether a bond is unsatisfied, from the words of its coupling and of its two sites
-unsatisfied-at : (l b i d : ℕ) (couplings : CouplingsView) (planes : List Plane) → IsLawfulSize l → i < volume l → d < 3
-    → is_unsatisfied l (bonds_of couplings b) (spins_of l b planes) (bond i d)
-    ≡ differs (differs (is_set (bond_word couplings i d) b) (is_set (word_at l planes i) b)) (is_set (word_at l planes (forward l i d)) b)
-unfolding spins_of
-unsatisfied-at l b i d couplings planes lawful below h =
-    let site : bond i d / 3 ≡ i = omega arith in
-    let direction : bond i d % 3 ≡ d = omega arith in
-    let item = λ (k : ℕ). is_set (word_at l planes k) b in
-    let own = get_or-table item (volume l) i false below in
-    let ahead = get_or-table item (volume l) (forward l i d) false (forward-below l i d lawful below h) in
-    rw (site, direction, own, ahead) (sym (against (is_set (bond_word couplings i d) b) (item i) (item (forward l i d))))
-
--- at place j of plane q, from the three words there
-pub bond-at : (l q j d b : ℕ) (couplings : CouplingsView) (planes : List Plane) (negative own ahead : List ℕ) → Within l q j → d < 3 → couplings.size ≡ l
-    → get_or negative j 0 ≡ bond_word couplings (from_compact couplings.size (q / l * half_volume couplings.size + q % l * half_plane couplings.size + j)) d
-    → own ≡ (plane_at planes q).words
-    → get_or ahead j 0 ≡ word_at l planes (forward l (from_compact l (q * half_plane l + j)) d)
-    → is_set (mixed negative own ahead j) b ≡ is_unsatisfied l (bonds_of couplings b) (spins_of l b planes) (bond (from_compact l (q * half_plane l + j)) d)
-bond-at l q j d b couplings planes negative own ahead w h size n o a =
-    let i = from_compact l (q * half_plane l + j) in
-    let place = ap (λ p. from_compact l (p + j)) (plane-place l q) in
-    let coupling : get_or negative j 0 ≡ bond_word couplings i d =
-    n ∙ ap (λ s. bond_word couplings (from_compact s (q / l * half_volume s + q % l * half_plane s + j)) d) size ∙ ap (λ p. bond_word couplings p d) place in
-    let mine = ap (λ ws. get_or ws j 0) o ∙ own-word l q j planes w in
-    is_set-xor (bit_xor (get_or negative j 0) (get_or own j 0)) (get_or ahead j 0) b
-    ∙ ap (λ t. differs t (is_set (get_or ahead j 0) b)) (is_set-xor (get_or negative j 0) (get_or own j 0) b)
-    ∙ rw (coupling, mine, a) (sym (unsatisfied-at l b i d couplings planes w.lawful (site-below l q j w) h))
-
--- a plane more
-pub plane-more : (l : ℕ) (bonds : Bonds) (spins : List Bool) (d q n : ℕ) → n ≡ count_below (λ j. is_unsatisfied l bonds spins (bond (from_compact l (q * half_plane l + j)) d)) (half_plane l)
-    → unsatisfied_along l bonds spins d ((q + 1) * half_plane l) ≡ unsatisfied_along l bonds spins d (q * half_plane l) + n
-unfolding unsatisfied_along
-plane-more l bonds spins d q n e =
-    let more = add-mul q 1 (half_plane l) in
-    let place : (q + 1) * half_plane l ≡ q * half_plane l + half_plane l = omega arith in
-    let test = λ (p : ℕ). is_unsatisfied l bonds spins (bond (from_compact l p) d) in
-    ap (count_below test) place ∙ count-add test (q * half_plane l) (half_plane l) ∙ ap (λ k. unsatisfied_along l bonds spins d (q * half_plane l) + k) (sym e)
-
--- the words of a plane and of the neighbours of its sites count its unsatisfied bonds
-pub plane-counted : (l q d b : ℕ) (couplings : CouplingsView) (planes : List Plane) (negative own ahead : List ℕ)
-    → IsLawfulSize l → q < 2 * l → d < 3 → couplings.size ≡ l → length negative ≡ half_plane l
-    → ((j : ℕ) → j < half_plane couplings.size
-    → get_or negative j 0 ≡ bond_word couplings (from_compact couplings.size (q / l * half_volume couplings.size + q % l * half_plane couplings.size + j)) d)
-    → own ≡ (plane_at planes q).words → AreAhead l planes q d ahead
-    → unsatisfied_along l (bonds_of couplings b) (spins_of l b planes) d ((q + 1) * half_plane l)
-    ≡ unsatisfied_along l (bonds_of couplings b) (spins_of l b planes) d (q * half_plane l) + set_below (mixed negative own ahead) b (length negative)
-plane-counted l q d b couplings planes negative own ahead lawful below h size long words o a =
-    let bonds = bonds_of couplings b in
-    let spins = spins_of l b planes in
-    let sized = ap half_plane size in
-    let each = count-same (λ j. is_set (mixed negative own ahead j) b) (λ j. is_unsatisfied l bonds spins (bond (from_compact l (q * half_plane l + j)) d)) (half_plane l)
-    (λ j k. bond-at l q j d b couplings planes negative own ahead (record { lawful = lawful; plane = below; place = k }) h size (words j (omega arith)) o (a j k)) in
-    plane-more l bonds spins d q (set_below (mixed negative own ahead) b (length negative)) (ap (set_below (mixed negative own ahead) b) long ∙ each)
-
-pub along-le : (l : ℕ) (bonds : Bonds) (spins : List Bool) (d n : ℕ) → unsatisfied_along l bonds spins d n ≤ n
-unfolding unsatisfied_along
-along-le l bonds spins d n = count-most _ n
-
-pub from-zero : (l : ℕ) (bonds : Bonds) (spins : List Bool) → unsatisfied_from l bonds spins 0 ≡ 0
-unfolding unsatisfied_along count_below
-from-zero l bonds spins = refl
 
 -- the compact order has each site once
 pub compact-order : (l : ℕ) → IsLawfulSize l → ArePermutation (from_compact l) (compact l) (volume l)
@@ -125,14 +47,6 @@ compact-order l lawful = record {
   redone = λ i h. from_compact-compact l i lawful h;
 }
 
--- a direction at all places is the direction at all sites
-along-all : (l : ℕ) (bonds : Bonds) (spins : List Bool) (d : ℕ) → IsLawfulSize l
-    → unsatisfied_along l bonds spins d (volume l) ≡ sum_below (λ i. one_if (is_unsatisfied l bonds spins (bond i d))) (volume l)
-unfolding unsatisfied_along
-along-all l bonds spins d lawful =
-    count-sum (λ p. is_unsatisfied l bonds spins (bond (from_compact l p) d)) (volume l)
-    ∙ sum-permuted (λ i. one_if (is_unsatisfied l bonds spins (bond i d))) (from_compact l) (compact l) (volume l) (compact-order l lawful)
-
 pub places-all : (l : ℕ) → IsLawfulSize l → 2 * l * half_plane l ≡ volume l
 places-all l lawful =
     let even : l ≡ l / 2 * 2 = omega (arith, lawful.2) in
@@ -142,20 +56,6 @@ places-all l lawful =
     let all = mul_assoc l (half_plane l) 2 in
     let twice = mul_assoc 2 l (half_plane l) in
     omega arith
-
--- over all three directions these are all bonds
-pub all-bonds : (l : ℕ) (bonds : Bonds) (spins : List Bool) → IsLawfulSize l → unsatisfied_from l bonds spins (2 * l * half_plane l) ≡ unsatisfied l bonds spins
-all-bonds l bonds spins lawful =
-    let test = λ (n : ℕ). one_if (is_unsatisfied l bonds spins n) in
-    let thirds = sum-thirds test (volume l) in
-    let all = count-sum (is_unsatisfied l bonds spins) (bond_count l) in
-    let first = sum-same (λ i. test (bond i 0)) (λ i. test (3 * i)) (volume l) (λ i _. let e : bond i 0 ≡ 3 * i = omega arith in ap test e) in
-    let second = sum-same (λ i. test (bond i 1)) (λ i. test (suc (3 * i))) (volume l) (λ i _. let e : bond i 1 ≡ suc (3 * i) = omega arith in ap test e) in
-    let third = sum-same (λ i. test (bond i 2)) (λ i. test (suc (suc (3 * i)))) (volume l) (λ i _. let e : bond i 2 ≡ suc (suc (3 * i)) = omega arith in ap test e) in
-    let x = along-all l bonds spins 0 lawful ∙ first in
-    let y = along-all l bonds spins 1 lawful ∙ second in
-    let z = along-all l bonds spins 2 lawful ∙ third in
-    rw (places-all l lawful, x, y, z) (sym (all ∙ thirds))
 
 -- a plane of a replica that fits has as many words as sites
 pub plane-sized : (l k : ℕ) (replica : Replica) → FitsReplica l replica → k < 2 * l → length (plane_at replica.planes k).words ≡ half_plane l

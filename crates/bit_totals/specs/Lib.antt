@@ -1,4 +1,3 @@
-pub mod Ahead
 pub mod Counted
-pub mod PlaneBonds
+pub mod RowBonds
 pub mod Tallies

@@ -1,4 +1,4 @@
--- Counts of set bits over many words: eight numbers of each sample side by side, in planes of eight words.
+-- Counts of set bits over many words: four numbers of each sample side by side, in planes of four words.
 use Rattle.std.specs.Prelude.{ℕ, zero, suc, ◌+◌, List, slice_index, bit_xor}
 use Rattle.multispin_word.specs.Planes.{is_set, number}
 use Rattle.local_rule.specs.SiteBits.{lane_words}
@@ -13,9 +13,9 @@ unfoldable pub in_lanes : List (List ℕ) → ℕ → ℕ → ℕ
 in_lanes rows b zero = 0
 in_lanes rows b (suc n) = in_lanes rows b n + lane_number rows n b
 
--- and in all eight
+-- and in all four
 abbrev pub tallied : List (List ℕ) → ℕ → ℕ
-tallied rows b = in_lanes rows b 8
+tallied rows b = in_lanes rows b 4
 
 -- the samples in which an odd number of three words at place j is set
 abbrev pub mixed : List ℕ → List ℕ → List ℕ → ℕ → ℕ
@@ -25,6 +25,6 @@ mixed first second third j = bit_xor (bit_xor (slice_index first j) (slice_index
 abbrev pub set_below : (ℕ → ℕ) → ℕ → ℕ → ℕ
 set_below word b n = count_below (λ j. is_set (word j) b) n
 
--- in how many of eight words sample b is set
+-- in how many of four words sample b is set
 unfoldable pub set_lanes : List ℕ → ℕ → ℕ
-set_lanes words b = set_below (slice_index words) b 8
+set_lanes words b = set_below (slice_index words) b 4

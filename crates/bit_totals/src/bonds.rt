@@ -1,115 +1,221 @@
-//! How many of the three bonds ahead of a plane's sites are unsatisfied in each sample.
+//! How many of the six bonds of a row's sites are unsatisfied in each sample.
 
-ghost use Rattle.std.specs.Prelude.{◌≡◌, ℕ, ◌+◌, ◌*◌, ◌^◌, ◌<◌, ◌≤◌, length};
-ghost use Rattle.bit_totals.specs.PlaneBonds.{AreBonds, unsatisfied_below};
+ghost use Rattle.std.specs.Prelude.{◌≡◌, ℕ, ◌+◌, ◌*◌, ◌^◌, ◌<◌, ◌≤◌, length, slice_index};
+ghost use Rattle.bit_totals.specs.RowBonds.{counted_lanes, pair_count, row_count, HasLanes};
 ghost use Rattle.bit_totals.specs.Tallies.{set_lanes, tallied};
+ghost use Rattle.multispin_word.specs.Planes.{differs, is_set};
+ghost use Rattle.plane_sweep.specs.PlaneSweep.{HasRows};
 
-use crate::lanes::{add_one, add_two, mixed_at};
-use crate::tally::add_row;
-use local_rule::full_adder_lanes;
+use crate::lanes::{add_one, add_two, words_at};
+use local_rule::{full_adder_lanes, load};
+use plane_sweep::{Row, Surroundings, pulls_of, pulls_of_four};
 use std::simd::prelude::*;
 
-/// The bonds in one direction from a plane's sites, and the spins of the neighbours there.
+/// How many of the six bonds of each of four sites are unsatisfied: the sum of two low and two high bits.
 #[derive(Drop)]
-pub(crate) struct Bonds<'a> {
-    pub(crate) negative: &'a [u64],
-    pub(crate) ahead: &'a [u64],
+struct BondCounts {
+    ones: u64x4,
+    more_ones: u64x4,
+    twos: u64x4,
+    more_twos: u64x4,
 }
 
-/// Adds to each sample's number its unsatisfied bonds in three directions from sites with these spins.
-#[inline(never)]
-pub(crate) fn add_bonds(rows: &mut [[u64; 8]; 20], own: &[u64], x: &Bonds, y: &Bonds, z: &Bonds)
-    requires bonds { (AreBonds (length own.now) x.now) × (AreBonds (length own.now) y.now)
-        × (AreBonds (length own.now) z.now) }
-    requires room { (b : ℕ) → b < 64 → tallied rows.old b + 3 * length own.now + 64 < 2 ^ 20 }
-    ensures { (b : ℕ) → b < 64 → tallied rows.new b
-        ≡ tallied rows.old b + unsatisfied_below own.now x.now y.now z.now b (length own.now) }
-{
-    let mut at = 0;
-    'sixteens: while own.len() - at >= 128 {
-        add_sixteen(rows, own, x, y, z, at);
-        at += 128;
-    }
-    'fours: while own.len() - at >= 32 {
-        let sixteens = sum_four(rows, own, x, y, z, at);
-        add_one(rows, 4, sixteens);
-        at += 32;
-    }
-    'rest: while at < own.len() {
-        add_row(rows, x.negative, own, x.ahead, at);
-        add_row(rows, y.negative, own, y.ahead, at);
-        add_row(rows, z.negative, own, z.ahead, at);
-        at += 8;
-    }
-}
-
-// The bonds from the 128 places from one on, with one ripple for the carries of 64.
+/// Adds to each sample's number its unsatisfied bonds of the sites of two rows. It has a copy for each size
+/// and parity, as what it calls has: no hint brings code into one function that is called from several.
 #[inline(always)]
-fn add_sixteen(rows: &mut [[u64; 8]; 20], own: &[u64], x: &Bonds, y: &Bonds, z: &Bonds, at: usize)
-    requires bonds { (AreBonds (length own.now) x.now) × (AreBonds (length own.now) y.now)
-        × (AreBonds (length own.now) z.now) }
-    requires within { at + 128 ≤ length own.now }
-    requires room { (b : ℕ) → b < 64 → tallied rows.old b + 384 < 2 ^ 20 }
-    ensures { (b : ℕ) → b < 64
-        → tallied rows.new b + unsatisfied_below own.now x.now y.now z.now b at
-        ≡ tallied rows.old b + unsatisfied_below own.now x.now y.now z.now b (at + 128) }
-{
-    let a = sum_four(rows, own, x, y, z, at);
-    let b = sum_four(rows, own, x, y, z, at + 32);
-    let front = add_two(rows, 4, a, b);
-    let c = sum_four(rows, own, x, y, z, at + 64);
-    let d = sum_four(rows, own, x, y, z, at + 96);
-    let back = add_two(rows, 4, c, d);
-    let most = add_two(rows, 5, front, back);
-    add_one(rows, 6, most);
-}
-
-// The bonds from the 32 places from one on, but for the carries of sixteen, which it gives.
-#[inline(always)]
-fn sum_four(
-    rows: &mut [[u64; 8]; 20],
+pub(crate) fn add_rows<const SIZE: usize, const EVEN: bool>(
+    counts: &mut [[u64; 4]; 20],
     own: &[u64],
-    x: &Bonds,
-    y: &Bonds,
-    z: &Bonds,
-    at: usize,
-) -> u64x8
-    requires bonds { (AreBonds (length own.now) x.now) × (AreBonds (length own.now) y.now)
-        × (AreBonds (length own.now) z.now) }
-    requires within { at + 32 ≤ length own.now }
-    ensures length { length result ≡ 8 }
-    ensures sum { (b : ℕ)
-        → tallied rows.new b + 16 * set_lanes result b + unsatisfied_below own.now x.now y.now z.now b at
-        ≡ tallied rows.old b + unsatisfied_below own.now x.now y.now z.now b (at + 32) }
+    around: &Surroundings,
+    first: &Row,
+    second: &Row,
+)
+    requires own { length own.now ≡ length around.now.here.now }
+    requires first { HasRows (length around.now.here.now) around.now first.now }
+    requires second { HasRows (length around.now.here.now) around.now second.now }
+    requires half { second.now.half ≡ first.now.half }
+    requires room { (b : ℕ) → b < 64 → tallied counts.old b + 12 * first.now.half < 2 ^ 20 }
+    ensures { (b : ℕ) → b < 64 → tallied counts.new b
+        ≡ tallied counts.old b + pair_count own.now around.now first.now second.now b first.now.half }
 {
-    let (ones_a, twos_a) = sum_row(own, x, y, z, at);
-    let (ones_b, twos_b) = sum_row(own, x, y, z, at + 8);
-    let front = add_two(rows, 0, ones_a, ones_b);
-    let (ones_c, twos_c) = sum_row(own, x, y, z, at + 16);
-    let (ones_d, twos_d) = sum_row(own, x, y, z, at + 24);
-    let back = add_two(rows, 0, ones_c, ones_d);
-    let first = add_two(rows, 1, twos_a, twos_b);
-    let second = add_two(rows, 1, twos_c, twos_d);
-    let third = add_two(rows, 1, front, back);
-    let fours = add_two(rows, 2, first, second);
-    let more = add_two(rows, 2, third, u64x8::splat(0));
-    add_two(rows, 3, fours, more)
+    let mut k = 0;
+    'eights: while first.half - k >= 8 {
+        add_eight::<SIZE, EVEN>(counts, own, around, first, second, k);
+        k += 8;
+    }
+    'fours: while first.half - k >= 4 {
+        add_four::<SIZE, EVEN>(counts, own, around, first, second, k);
+        k += 4;
+    }
+    'rest: while k < first.half {
+        add_site::<SIZE, EVEN>(counts, own, around, first, k);
+        add_site::<SIZE, EVEN>(counts, own, around, second, k);
+        k += 1;
+    }
 }
 
-// Of the three bonds from each of eight places from one on, the low and the high bit of their number.
+// The sites of eight columns from one on.
 #[inline(always)]
-fn sum_row(own: &[u64], x: &Bonds, y: &Bonds, z: &Bonds, at: usize) -> (u64x8, u64x8)
-    requires bonds { (AreBonds (length own.now) x.now) × (AreBonds (length own.now) y.now)
-        × (AreBonds (length own.now) z.now) }
-    requires within { at + 8 ≤ length own.now }
-    ensures lengths { (length result.0 ≡ 8) × (length result.1 ≡ 8) }
-    ensures sum { (b : ℕ)
-        → set_lanes result.0 b + 2 * set_lanes result.1 b + unsatisfied_below own.now x.now y.now z.now b at
-        ≡ unsatisfied_below own.now x.now y.now z.now b (at + 8) }
+fn add_eight<const SIZE: usize, const EVEN: bool>(
+    counts: &mut [[u64; 4]; 20],
+    own: &[u64],
+    around: &Surroundings,
+    first: &Row,
+    second: &Row,
+    k: usize,
+)
+    requires own { length own.now ≡ length around.now.here.now }
+    requires first { HasRows (length around.now.here.now) around.now first.now }
+    requires second { HasRows (length around.now.here.now) around.now second.now }
+    requires half { second.now.half ≡ first.now.half }
+    requires within { k + 8 ≤ first.now.half }
+    requires room { (b : ℕ) → b < 64 → tallied counts.old b + 96 < 2 ^ 20 }
+    ensures { (b : ℕ) → b < 64
+        → tallied counts.new b + pair_count own.now around.now first.now second.now b k
+        ≡ tallied counts.old b + pair_count own.now around.now first.now second.now b (k + 8) }
 {
-    full_adder_lanes(
-        mixed_at(x.negative, own, x.ahead, at),
-        mixed_at(y.negative, own, y.ahead, at),
-        mixed_at(z.negative, own, z.ahead, at),
-    )
+    let most = sum_eight::<SIZE, EVEN>(counts, own, around, first, second, k);
+    add_one(counts, 5, most);
+}
+
+// The sites of four columns from one on.
+#[inline(always)]
+fn add_four<const SIZE: usize, const EVEN: bool>(
+    counts: &mut [[u64; 4]; 20],
+    own: &[u64],
+    around: &Surroundings,
+    first: &Row,
+    second: &Row,
+    k: usize,
+)
+    requires own { length own.now ≡ length around.now.here.now }
+    requires first { HasRows (length around.now.here.now) around.now first.now }
+    requires second { HasRows (length around.now.here.now) around.now second.now }
+    requires half { second.now.half ≡ first.now.half }
+    requires within { k + 4 ≤ first.now.half }
+    requires room { (b : ℕ) → b < 64 → tallied counts.old b + 48 < 2 ^ 20 }
+    ensures { (b : ℕ) → b < 64
+        → tallied counts.new b + pair_count own.now around.now first.now second.now b k
+        ≡ tallied counts.old b + pair_count own.now around.now first.now second.now b (k + 4) }
+{
+    let a = count_four(own, around, first, k);
+    let b = count_four(own, around, second, k);
+    let (eights, fours) = add_counts(counts, &a, &b);
+    let more = add_two(counts, 2, fours, u64x4::splat(0));
+    let most = add_two(counts, 3, eights, more);
+    add_one(counts, 4, most);
+}
+
+// One site. Its six words stand in the four lanes, whose sum alone counts.
+#[inline(always)]
+fn add_site<const SIZE: usize, const EVEN: bool>(
+    counts: &mut [[u64; 4]; 20],
+    own: &[u64],
+    around: &Surroundings,
+    row: &Row,
+    k: usize,
+)
+    requires own { length own.now ≡ length around.now.here.now }
+    requires rows { HasRows (length around.now.here.now) around.now row.now }
+    requires within { k < row.now.half }
+    requires room { (b : ℕ) → b < 64 → tallied counts.old b + 6 < 2 ^ 20 }
+    ensures { (b : ℕ) → b < 64 → tallied counts.new b + row_count own.now around.now row.now b k
+        ≡ tallied counts.old b + row_count own.now around.now row.now b (k + 1) }
+{
+    let six = pulls_of(around, row, k);
+    let word = own[row.here + k];
+    let front = load(&[six[0] ^ word, six[1] ^ word, six[2] ^ word, six[3] ^ word]);
+    let back = load(&[six[4] ^ word, six[5] ^ word, 0, 0]);
+    let twos = add_two(counts, 0, front, back);
+    add_one(counts, 1, twos);
+}
+
+// The sites of eight columns of both rows, but for the carries of 32, which it gives.
+#[inline(always)]
+fn sum_eight<const SIZE: usize, const EVEN: bool>(
+    counts: &mut [[u64; 4]; 20],
+    own: &[u64],
+    around: &Surroundings,
+    first: &Row,
+    second: &Row,
+    k: usize,
+) -> u64x4
+    requires own { length own.now ≡ length around.now.here.now }
+    requires first { HasRows (length around.now.here.now) around.now first.now }
+    requires second { HasRows (length around.now.here.now) around.now second.now }
+    requires half { second.now.half ≡ first.now.half }
+    requires within { k + 8 ≤ first.now.half }
+    ensures length { length result ≡ 4 }
+    ensures sum { (b : ℕ) → tallied counts.new b + 32 * set_lanes result b
+        + pair_count own.now around.now first.now second.now b k
+        ≡ tallied counts.old b + pair_count own.now around.now first.now second.now b (k + 8) }
+{
+    let a = count_four(own, around, first, k);
+    let b = count_four(own, around, first, k + 4);
+    let (eights, fours) = add_counts(counts, &a, &b);
+    let c = count_four(own, around, second, k);
+    let d = count_four(own, around, second, k + 4);
+    let (more_eights, more_fours) = add_counts(counts, &c, &d);
+    let last = add_two(counts, 2, fours, more_fours);
+    let front = add_two(counts, 3, eights, more_eights);
+    let back = add_two(counts, 3, last, u64x4::splat(0));
+    add_two(counts, 4, front, back)
+}
+
+// Two counts, but for the carries of eight and of four, which it gives.
+#[inline(always)]
+fn add_counts(counts: &mut [[u64; 4]; 20], a: &BondCounts, b: &BondCounts) -> (u64x4, u64x4)
+    requires first { HasLanes a.now }
+    requires second { HasLanes b.now }
+    ensures lengths { (length result.0 ≡ 4) × (length result.1 ≡ 4) }
+    ensures sum { (s : ℕ) → tallied counts.new s + 8 * set_lanes result.0 s + 4 * set_lanes result.1 s
+        ≡ tallied counts.old s + counted_lanes a.now s + counted_lanes b.now s }
+{
+    let front = add_two(counts, 0, a.ones, a.more_ones);
+    let back = add_two(counts, 0, b.ones, b.more_ones);
+    let first = add_two(counts, 1, a.twos, a.more_twos);
+    let second = add_two(counts, 1, b.twos, b.more_twos);
+    let fours = add_two(counts, 1, front, back);
+    (add_two(counts, 2, first, second), fours)
+}
+
+// The bonds of four sites of a row, from a column on.
+#[inline(always)]
+fn count_four(own: &[u64], around: &Surroundings, row: &Row, k: usize) -> BondCounts
+    requires own { length own.now ≡ length around.now.here.now }
+    requires rows { HasRows (length around.now.here.now) around.now row.now }
+    requires within { k + 4 ≤ row.now.half }
+    ensures lanes { HasLanes result }
+    ensures sum { (b : ℕ) → row_count own.now around.now row.now b k + counted_lanes result b
+        ≡ row_count own.now around.now row.now b (k + 4) }
+{
+    let six = pulls_of_four(around, row, k);
+    let words = words_at(own, row.here + k);
+    let front = full_adder_lanes(
+        against(&six[0], words),
+        against(&six[1], words),
+        against(&six[2], words),
+    );
+    let back = full_adder_lanes(
+        against(&six[3], words),
+        against(&six[4], words),
+        against(&six[5], words),
+    );
+    BondCounts {
+        ones: front.0,
+        more_ones: back.0,
+        twos: front.1,
+        more_twos: back.1,
+    }
+}
+
+// The samples in which J times the neighbour's spin differs from the site's: the bond is unsatisfied.
+#[inline(always)]
+fn against(pulls: &[u64; 4], words: u64x4) -> u64x4
+    requires { length words ≡ 4 }
+    ensures length { length result ≡ 4 }
+    ensures differing { (i b : ℕ) → i < 4 → is_set (slice_index result i) b
+        ≡ differs (is_set (slice_index pulls.now i) b) (is_set (slice_index words i) b) }
+{
+    load(pulls) ^ words
 }

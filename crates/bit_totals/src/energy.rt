@@ -1,23 +1,23 @@
-//! The unsatisfied bonds of a replica.
+//! The unsatisfied bonds of a replica. Each bond has one end of colour 0, so those of that colour's sites
+//! are all of them.
 
-ghost use Rattle.std.specs.Prelude.{◌≡◌, ℕ, ◌+◌, ◌*◌, ◌/◌, ◌%◌, ◌<◌, ◌≤◌, length, slice_index};
-ghost use Rattle.bit_totals.specs.Counted.{unsatisfied_from, AreAhead};
+ghost use Rattle.std.specs.Prelude.{◌≡◌, ℕ, ◌+◌, ◌*◌, ◌%◌, ◌^◌, ◌<◌, ◌≤◌, ◌==◌, length, All};
+ghost use Rattle.bit_totals.specs.Counted.{unsatisfied_from};
+ghost use Rattle.bit_totals.specs.RowBonds.{plane_count};
 ghost use Rattle.bit_totals.specs.Tallies.{tallied};
-ghost use Rattle.coupling_set.specs.CouplingWords.{bond_word, bonds_of};
+ghost use Rattle.coupling_set.specs.CouplingWords.{bonds_of};
 ghost use Rattle.multispin_word.specs.Planes.{number};
-ghost use Rattle.plane_sweep.specs.Packed.{plane_at, spins_of, FitsReplica};
+ghost use Rattle.plane_sweep.specs.Packed.{spins_of, FitsPlane, FitsReplica};
 ghost use Rattle.scalar_rule.specs.Sums as model;
-ghost use Rattle.spin_model.specs.Lattice.{bond_count, from_compact, half_plane, half_volume, IsLawfulSize};
+ghost use Rattle.spin_model.specs.Lattice.{bond_count, half_plane, IsLawfulSize};
 
-use crate::ahead::{turn, turn_rows};
-use crate::bonds::{Bonds, add_bonds};
+use crate::bonds::add_rows;
+use crate::overlap::words_of;
 use crate::tally::Tally;
+use coupling_set::Couplings;
 use multispin_word::Planes;
-use plane_sweep::Replica;
+use plane_sweep::{Plane, Replica, first_row, lend, row_behind};
 use scalar_rule::Plan;
-
-/// The most words of a plane.
-pub(crate) const PLANE: usize = 2048;
 
 /// U of each disorder sample: the number of bonds with J s s' = -1, of 3V. Takes no memory.
 pub fn unsatisfied(replica: &Replica, plan: &Plan) -> Planes<20>
@@ -30,125 +30,140 @@ pub fn unsatisfied(replica: &Replica, plan: &Plan) -> Planes<20>
     count_planes(replica, plan).total()
 }
 
-// The same, not yet in planes. The buffer for the words of neighbours is cleared at each call, so a
-// small lattice takes less of it.
+// The same, not yet in planes: the bonds of all sites of colour 0.
 fn count_planes(replica: &Replica, plan: &Plan) -> Tally
     requires fits { FitsReplica plan.now.size replica.now }
     ensures counted { (b : ℕ) → b < 64 → tallied result.rows b
         ≡ unsatisfied_from plan.now.size (bonds_of plan.now.couplings b)
-        (spins_of plan.now.size b replica.now.planes) (2 * plan.now.size * half_plane plan.now.size) }
-    ensures lawful { IsLawfulSize plan.now.size }
-{
-    if plan.lattice().size() <= 16 {
-        count_by(replica, plan, &mut [0u64; 128], &mut [0u64; 128])
-    } else {
-        count_by(replica, plan, &mut [0u64; PLANE], &mut [0u64; PLANE])
-    }
-}
-
-// Plane by plane, with a buffer for the neighbours in x and one for those in y.
-fn count_by(replica: &Replica, plan: &Plan, in_x: &mut [u64], in_y: &mut [u64]) -> Tally
-    requires fits { FitsReplica plan.now.size replica.now }
-    requires room_x { half_plane plan.now.size ≤ length in_x.old }
-    requires room_y { half_plane plan.now.size ≤ length in_y.old }
-    ensures counted { (b : ℕ) → b < 64 → tallied result.rows b
-        ≡ unsatisfied_from plan.now.size (bonds_of plan.now.couplings b)
-        (spins_of plan.now.size b replica.now.planes) (2 * plan.now.size * half_plane plan.now.size) }
+        (spins_of plan.now.size b replica.now.planes) (plan.now.size * half_plane plan.now.size) }
     ensures lawful { IsLawfulSize plan.now.size }
 {
     let size = plan.lattice().size();
-    let half_plane = (size * (size / 2)) as usize;
-    let in_x = &mut in_x[..half_plane];
-    let in_y = &mut in_y[..half_plane];
+    let other = &replica.planes.as_slice()[size as usize..];
+    let couplings = plan.couplings();
     let mut tally = Tally::none();
-    'planes: for q in 0..2 * size {
-        count_plane(&mut tally, replica, plan, q, in_x, in_y);
+    'planes: for z in 0..size {
+        count_plane(&mut tally.rows, words_of(replica, z), other, couplings, z);
     }
     tally
 }
 
-// The bonds from the sites of plane q, in the three directions.
+// The bonds of the sites of colour 0 in plane z, by the planes of colour 1.
 fn count_plane(
-    tally: &mut Tally,
-    replica: &Replica,
-    plan: &Plan,
-    q: u32,
-    in_x: &mut [u64],
-    in_y: &mut [u64],
+    counts: &mut [[u64; 4]; 20],
+    own: &[u64],
+    other: &[Plane],
+    couplings: &Couplings,
+    z: u32,
 )
-    requires fits { FitsReplica plan.now.size replica.now }
-    requires plane { q < 2 * plan.now.size }
-    requires room_x { length in_x.old ≡ half_plane plan.now.size }
-    requires room_y { length in_y.old ≡ half_plane plan.now.size }
-    requires before { (b : ℕ) → b < 64 → tallied tally.old.rows b
-        ≡ unsatisfied_from plan.now.size (bonds_of plan.now.couplings b)
-        (spins_of plan.now.size b replica.now.planes) (q * half_plane plan.now.size) }
-    ensures { (b : ℕ) → b < 64 → tallied tally.new.rows b
-        ≡ unsatisfied_from plan.now.size (bonds_of plan.now.couplings b)
-        (spins_of plan.now.size b replica.now.planes) ((q + 1) * half_plane plan.now.size) }
+    requires lawful { IsLawfulSize couplings.now.size }
+    requires own { length own.now ≡ half_plane couplings.now.size }
+    requires count { length other.now ≡ couplings.now.size }
+    requires planes { All (FitsPlane couplings.now.size) other.now }
+    requires plane { z < couplings.now.size }
+    requires room { (b : ℕ) → b < 64
+        → tallied counts.old b + 6 * half_plane couplings.now.size < 2 ^ 20 }
+    ensures { (b : ℕ) → b < 64 → tallied counts.new b ≡ tallied counts.old b
+        + plane_count couplings.now other.now z own.now b (half_plane couplings.now.size) }
 {
-    let size = plan.lattice().size();
-    let other = (1 - q / size) * size;
-    ahead_in_x(in_x, replica, plan, q);
-    ahead_in_y(in_y, replica, plan, q);
-    let x = bonds_in(plan, q, 0, in_x);
-    let y = bonds_in(plan, q, 1, in_y);
-    let above = words_of(replica, other + (q % size + 1) % size);
-    let z = bonds_in(plan, q, 2, above);
-    add_bonds(&mut tally.rows, words_of(replica, q), &x, &y, &z);
+    match couplings.size() {
+        8 => count_sized::<8>(counts, own, other, couplings, z),
+        16 => count_sized::<16>(counts, own, other, couplings, z),
+        32 => count_sized::<32>(counts, own, other, couplings, z),
+        64 => count_sized::<64>(counts, own, other, couplings, z),
+        size => count_pairs::<0, false>(
+            counts,
+            own,
+            other,
+            couplings,
+            z,
+            size as usize,
+            z % 2 == 0,
+        ),
+    }
 }
 
-// The bonds in direction d from the sites of plane q, with the words of the neighbours there.
-fn bonds_in<'a>(plan: &'a Plan, q: u32, d: u32, ahead: &'a [u64]) -> Bonds<'a>
-    requires plane { q < 2 * plan.now.size }
-    requires direction { d < 3 }
-    ensures ahead { result.ahead.now ≡ ahead.now }
-    ensures sized { length result.negative.now ≡ half_plane plan.now.size }
-    ensures words { (j : ℕ) → j < half_plane plan.now.couplings.size → slice_index result.negative.now j
-        ≡ bond_word plan.now.couplings (from_compact plan.now.couplings.size
-        (q / plan.now.size * half_volume plan.now.couplings.size + q % plan.now.size * half_plane plan.now.couplings.size + j)) d }
+// The same, with code of its own for a size, and for planes whose first row begins at x = 0 or at x = 1:
+// both are then known in its loops.
+fn count_sized<const SIZE: usize>(
+    counts: &mut [[u64; 4]; 20],
+    own: &[u64],
+    other: &[Plane],
+    couplings: &Couplings,
+    z: u32,
+)
+    requires size { couplings.now.size ≡ SIZE }
+    requires lawful { IsLawfulSize couplings.now.size }
+    requires own { length own.now ≡ half_plane couplings.now.size }
+    requires count { length other.now ≡ couplings.now.size }
+    requires planes { All (FitsPlane couplings.now.size) other.now }
+    requires plane { z < couplings.now.size }
+    requires room { (b : ℕ) → b < 64
+        → tallied counts.old b + 6 * half_plane couplings.now.size < 2 ^ 20 }
+    ensures { (b : ℕ) → b < 64 → tallied counts.new b ≡ tallied counts.old b
+        + plane_count couplings.now other.now z own.now b (half_plane couplings.now.size) }
 {
-    let size = plan.lattice().size();
-    let negative = plan.couplings().plane(q / size, q % size, d);
-    Bonds { negative, ahead }
+    if z % 2 == 0 {
+        count_alike::<SIZE, true>(counts, own, other, couplings, z);
+    } else {
+        count_alike::<SIZE, false>(counts, own, other, couplings, z);
+    }
 }
 
-// The words of the neighbours in x: in the plane beside, row by row.
-fn ahead_in_x(ahead: &mut [u64], replica: &Replica, plan: &Plan, q: u32)
-    requires fits { FitsReplica plan.now.size replica.now }
-    requires plane { q < 2 * plan.now.size }
-    requires room { length ahead.old ≡ half_plane plan.now.size }
-    ensures { AreAhead plan.now.size replica.now.planes q 0 ahead.new }
+// Not expanded where it is called, so that each size and parity stays a function.
+#[inline(never)]
+fn count_alike<const SIZE: usize, const EVEN: bool>(
+    counts: &mut [[u64; 4]; 20],
+    own: &[u64],
+    other: &[Plane],
+    couplings: &Couplings,
+    z: u32,
+)
+    requires size { couplings.now.size ≡ SIZE }
+    requires lawful { IsLawfulSize couplings.now.size }
+    requires even { EVEN ≡ (z % 2 == 0) }
+    requires own { length own.now ≡ half_plane couplings.now.size }
+    requires count { length other.now ≡ couplings.now.size }
+    requires planes { All (FitsPlane couplings.now.size) other.now }
+    requires plane { z < couplings.now.size }
+    requires room { (b : ℕ) → b < 64
+        → tallied counts.old b + 6 * half_plane couplings.now.size < 2 ^ 20 }
+    ensures { (b : ℕ) → b < 64 → tallied counts.new b ≡ tallied counts.old b
+        + plane_count couplings.now other.now z own.now b (half_plane couplings.now.size) }
 {
-    let size = plan.lattice().size();
-    let (colour, z) = (q / size, q % size);
-    let beside = words_of(replica, (1 - colour) * size + z);
-    turn_rows(
-        ahead,
-        beside,
-        size as usize,
-        (size / 2) as usize,
-        ((colour + z) % 2) as usize,
-    );
+    count_pairs::<SIZE, EVEN>(counts, own, other, couplings, z, SIZE, EVEN);
 }
 
-// The words of the neighbours in y: in the plane beside, a row on.
-fn ahead_in_y(ahead: &mut [u64], replica: &Replica, plan: &Plan, q: u32)
-    requires fits { FitsReplica plan.now.size replica.now }
-    requires plane { q < 2 * plan.now.size }
-    requires room { length ahead.old ≡ half_plane plan.now.size }
-    ensures { AreAhead plan.now.size replica.now.planes q 1 ahead.new }
+// The same, two rows at a time: an even plane's first row begins at x = 0. The code's own size and parity
+// only tell its copies apart.
+#[inline(always)]
+fn count_pairs<const SIZE: usize, const EVEN: bool>(
+    counts: &mut [[u64; 4]; 20],
+    own: &[u64],
+    other: &[Plane],
+    couplings: &Couplings,
+    z: u32,
+    size: usize,
+    even: bool,
+)
+    requires size { size ≡ couplings.now.size }
+    requires lawful { IsLawfulSize couplings.now.size }
+    requires even { even ≡ (z % 2 == 0) }
+    requires own { length own.now ≡ half_plane couplings.now.size }
+    requires count { length other.now ≡ couplings.now.size }
+    requires planes { All (FitsPlane couplings.now.size) other.now }
+    requires plane { z < couplings.now.size }
+    requires room { (b : ℕ) → b < 64
+        → tallied counts.old b + 6 * half_plane couplings.now.size < 2 ^ 20 }
+    ensures { (b : ℕ) → b < 64 → tallied counts.new b ≡ tallied counts.old b
+        + plane_count couplings.now other.now z own.now b (half_plane couplings.now.size) }
 {
-    let size = plan.lattice().size();
-    let beside = words_of(replica, (1 - q / size) * size + q % size);
-    turn(ahead, beside, (size / 2) as usize);
-}
-
-// The words of one plane.
-#[inline]
-pub(crate) fn words_of(replica: &Replica, plane: u32) -> &[u64]
-    requires { plane < length replica.now.planes }
-    ensures { result.now ≡ (plane_at replica.now.planes plane).words }
-{
-    replica.planes.at(plane as usize).words.as_slice()
+    let around = lend(other, couplings, 0, z, size);
+    let words = size * (size / 2);
+    let mut row = first_row(size, even);
+    'pairs: for i in 0..size / 2 {
+        let behind = row_behind(&row, words);
+        add_rows::<SIZE, EVEN>(counts, own, &around, &row, &behind);
+        row = row_behind(&behind, words);
+    }
 }

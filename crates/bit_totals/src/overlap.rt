@@ -4,14 +4,16 @@ ghost use Rattle.std.specs.Prelude.{◌≡◌, ℕ, ◌-◌, ◌*◌, ◌^◌, �
 ghost use Rattle.bit_totals.specs.Counted.{agreeing_from, HaveOneSize};
 ghost use Rattle.bit_totals.specs.Tallies.{tallied};
 ghost use Rattle.multispin_word.specs.Planes.{number};
-ghost use Rattle.plane_sweep.specs.Packed.{spins_of, FitsReplica};
+ghost use Rattle.plane_sweep.specs.Packed.{plane_at, spins_of, FitsReplica};
 ghost use Rattle.scalar_rule.specs.Sums as model;
 ghost use Rattle.spin_model.specs.Lattice.{half_plane, volume};
 
-use crate::energy::{PLANE, words_of};
 use crate::tally::Tally;
 use multispin_word::Planes;
 use plane_sweep::Replica;
+
+// The most words of a plane.
+const PLANE: usize = 2048;
 
 /// Q of each disorder sample: at how many of V sites two replicas of one size from 4 to 64 agree.
 /// Takes no memory.
@@ -52,4 +54,13 @@ fn count_by(a: &Replica, b: &Replica, ones: &[u64]) -> Tally
         tally.add(&ones[..own.len()], own, words_of(b, q));
     }
     tally
+}
+
+/// The words of one plane.
+#[inline]
+pub(crate) fn words_of(replica: &Replica, plane: u32) -> &[u64]
+    requires { plane < length replica.now.planes }
+    ensures { result.now ≡ (plane_at replica.now.planes plane).words }
+{
+    replica.planes.at(plane as usize).words.as_slice()
 }

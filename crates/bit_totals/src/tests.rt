@@ -1,5 +1,5 @@
-//! Sums at the greatest size, and against the scalar calls at a size whose planes fill no row of eight
-//! words.
+//! Sums at the greatest size, and against the scalar calls at a size whose rows are shorter than a
+//! vector.
 
 ghost use Rattle.std.specs.Prelude.{◌≡◌, ◌<◌, length, IfOk, vec_len};
 ghost use Rattle.plane_sweep.specs.Packed.{FitsPlane, FitsReplica};

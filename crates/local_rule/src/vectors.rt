@@ -223,12 +223,12 @@ fn carry_lanes<const N: usize>(a: Simd<u64, N>, b: Simd<u64, N>, c: Simd<u64, N>
     (a & b) | ((a ^ b) & c)
 }
 
-/// Of three bits of each of eight lanes and each sample the low and the high bit of their sum.
+/// Of three bits of each of four lanes and each sample the low and the high bit of their sum.
 #[inline(always)]
-pub fn full_adder_lanes(a: u64x8, b: u64x8, carry: u64x8) -> (u64x8, u64x8)
-    requires { (length a ≡ 8) × (length b ≡ 8) × (length carry ≡ 8) }
-    ensures lengths { (length result.0 ≡ 8) × (length result.1 ≡ 8) }
-    ensures sum { (i k : ℕ) → i < 8
+pub fn full_adder_lanes(a: u64x4, b: u64x4, carry: u64x4) -> (u64x4, u64x4)
+    requires { (length a ≡ 4) × (length b ≡ 4) × (length carry ≡ 4) }
+    ensures lengths { (length result.0 ≡ 4) × (length result.1 ≡ 4) }
+    ensures sum { (i k : ℕ) → i < 4
         → bit_at (slice_index result.0 i) k + 2 * bit_at (slice_index result.1 i) k
         ≡ bit_at (slice_index a i) k + bit_at (slice_index b i) k + bit_at (slice_index carry i) k }
 {

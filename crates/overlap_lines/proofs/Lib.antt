@@ -1,3 +1,4 @@
+pub mod TurnedWords
 pub mod StepPlaces
 pub mod LineCounts
 pub mod CountedTexts

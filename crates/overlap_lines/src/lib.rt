@@ -11,3 +11,4 @@ mod shifting;
 mod slots;
 #[cfg(test)]
 mod tests;
+mod turning;

@@ -4,7 +4,7 @@ ghost use Rattle.std.specs.Prelude.{◌≡◌, ℕ, ◌+◌, ◌*◌, ◌/◌, �
 ghost use Rattle.overlap_lines.specs.Counted.{place_on, plane_on};
 ghost use Rattle.spin_model.specs.Lattice.{half_plane, IsLawfulSize};
 
-use bit_totals::{turn, turn_from};
+use crate::turning::{turn, turn_from};
 
 /// How many steps sites lie apart, and in which direction: 0 is x, 1 is y, 2 is z.
 #[derive(Clone, Copy)]

@@ -46,9 +46,9 @@ fn update_four(own: &mut [u64], rule: &SlotRule, draws: &[u32], at: usize, six: 
     load(&new).copy_to_slice(&mut own[at..at + 4]);
 }
 
-// J times the neighbours' spins at four columns from k on: ahead in x, y and z, and behind.
+/// J times the neighbours' spins at four columns from k on: ahead in x, y and z, and behind.
 #[inline(always)]
-fn pulls_of_four(around: &Surroundings, row: &Row, k: usize) -> [[u64; 4]; 6]
+pub fn pulls_of_four(around: &Surroundings, row: &Row, k: usize) -> [[u64; 4]; 6]
     requires rows { HasRows (length around.now.here.now) around.now row.now }
     requires within { k + 4 ≤ row.now.half }
     ensures { (i : ℕ) → i < 4 → lane_words result i ≡ pulls_lent around.now row.now (k + i) }

@@ -23,11 +23,14 @@ mod uneven;
 
 pub use cells::{Cell, cell_at, deepest, has_record, shallowest};
 pub use duos::sweep_duo_often;
+pub use lanes::pulls_of_four;
 pub use laws::{
     labels_permute_after_epochs, labels_permute_after_exchange, parts_are_starting_states,
 };
 pub use parts::site_word;
 pub use replica::{Duo, Plane, Replica};
+pub use rows::{Row, first_row, pulls_of, row_behind};
 pub use stand::{PairWheels, Stand};
+pub use surroundings::{Surroundings, lend};
 pub use sweeping::{sweep, sweep_often};
 pub use uneven::{Place, RaggedStand, record_in_range};

@@ -18,15 +18,15 @@ use threshold_table::{RuleKind, RuleRow, SlotRule};
 
 /// A row of a plane, and the two rows beside it.
 #[derive(Clone, Copy)]
-pub(crate) struct Row {
+pub struct Row {
     /// Words in a row.
-    pub(crate) half: usize,
+    pub half: usize,
     /// Where the row begins, and the rows one step on and one step back.
-    pub(crate) here: usize,
-    pub(crate) up: usize,
-    pub(crate) down: usize,
+    pub here: usize,
+    pub up: usize,
+    pub down: usize,
     /// The colour's sites in this row begin at x = 0, and not at 1.
-    pub(crate) even: bool,
+    pub even: bool,
 }
 
 /// The new words of the sites of a colour in plane `z`, from the planes of the other colour, each
@@ -237,7 +237,7 @@ fn sweep_one(
 
 /// The first row of a plane, which begins at x = 0 where the plane is even.
 #[inline(always)]
-pub(crate) fn first_row(size: usize, even: bool) -> Row
+pub fn first_row(size: usize, even: bool) -> Row
     requires size { IsLawfulSize size }
     ensures { (c z : ℕ) → even ≡ ((c + z) % 2 == 0) → IsRow size c z 0 result }
 {
@@ -253,7 +253,7 @@ pub(crate) fn first_row(size: usize, even: bool) -> Row
 
 /// The row behind a row, in a plane of so many words.
 #[inline(always)]
-pub(crate) fn row_behind(row: &Row, words: usize) -> Row
+pub fn row_behind(row: &Row, words: usize) -> Row
     requires few { words ≤ 2048 }
     requires here { row.now.here + row.now.half ≤ words }
     requires up { row.now.up + row.now.half ≤ words }
@@ -273,10 +273,10 @@ pub(crate) fn row_behind(row: &Row, words: usize) -> Row
     }
 }
 
-// J times the neighbours' spins at column k: ahead in x, y and z, and behind.
+/// J times the neighbours' spins at column k: ahead in x, y and z, and behind.
 #[inline(always)]
 #[tactic(auto, unfolding(crate::specs::PlaneSweep::pulls_lent))]
-fn pulls_of(around: &Surroundings, row: &Row, k: usize) -> [u64; 6]
+pub fn pulls_of(around: &Surroundings, row: &Row, k: usize) -> [u64; 6]
     requires rows { HasRows (length around.now.here.now) around.now row.now }
     requires within { k < row.now.half }
     ensures { result ≡ pulls_lent around.now row.now k }

@@ -10,24 +10,24 @@ use coupling_set::Couplings;
 
 /// The words around the sites of one colour in plane z, each list in order of y, then x.
 #[derive(Drop)]
-pub(crate) struct Surroundings<'a> {
+pub struct Surroundings<'a> {
     /// The spins of the other colour in plane z, one plane on, and one plane back.
-    pub(crate) here: &'a [u64],
-    pub(crate) above: &'a [u64],
-    pub(crate) below: &'a [u64],
+    pub here: &'a [u64],
+    pub above: &'a [u64],
+    pub below: &'a [u64],
     /// The bonds from the sites one step on in x, y and z.
-    pub(crate) ahead_x: &'a [u64],
-    pub(crate) ahead_y: &'a [u64],
-    pub(crate) ahead_z: &'a [u64],
+    pub ahead_x: &'a [u64],
+    pub ahead_y: &'a [u64],
+    pub ahead_z: &'a [u64],
     /// The bonds one step on from the other colour's sites: x and y in plane z, z one plane back.
-    pub(crate) here_x: &'a [u64],
-    pub(crate) here_y: &'a [u64],
-    pub(crate) below_z: &'a [u64],
+    pub here_x: &'a [u64],
+    pub here_y: &'a [u64],
+    pub below_z: &'a [u64],
 }
 
 /// The surroundings of the sites of a colour in plane `z`, from the planes of the other colour.
 #[inline]
-pub(crate) fn lend<'a>(
+pub fn lend<'a>(
     other: &'a [Plane],
     couplings: &'a Couplings,
     colour: u32,

@@ -1,4 +1,4 @@
--- The bonds from all places are all bonds, of which there are at most 786432.
+-- The bonds of the sites of colour 0 are all bonds, of which there are at most 786432.
 use Rattle.std.proofs.Common.{◌∙◌, arith}
 use Rattle.coupling_set.specs.CouplingWords.{bonds_of}
 use Rattle.plane_sweep.specs.Packed.{spins_of}
@@ -6,7 +6,7 @@ use Rattle.scalar_rule.specs.Sums.{is_unsatisfied}
 use Rattle.spin_model.specs.Lattice.{bond_count}
 use Rattle.spin_model.proofs.Sites.{volume-bound}
 use Rattle.spin_model.proofs.Counts.{count-most}
-use Rattle.bit_totals.proofs.PlaceCounts.{all-bonds}
+use Rattle.bit_totals.proofs.ColourBonds.{all-bonds}
 use Rattle.bit_totals.proofs.energy.unsatisfied.Goals as goal
 
 pub total-requires : goal.total-requires

@@ -5,6 +5,6 @@ use Rattle.bit_totals.proofs.lanes.add_one.Given as goal
 
 abbrev pub invariant-ripple : goal.invariant-ripple
 invariant-ripple l = record {
-  long : length l.carry ≡ 8;
+  long : length l.carry ≡ 4;
   added : (b : ℕ) → tallied l.rows b + 2 ^ l.w * set_lanes l.carry b ≡ tallied l.fn.rows b + 2 ^ l.from * set_lanes l.fn.word b;
 }

@@ -5,7 +5,7 @@ use Rattle.bit_totals.proofs.tally.last_row.Given as goal
 
 abbrev pub invariant-words : goal.invariant-words
 invariant-words l = record {
-  long : length l.row ≡ 8;
+  long : length l.row ≡ 4;
   done : (j : ℕ) → j < l.i → get_or l.row j 0 ≡ mixed l.first l.second l.third (l.at + j);
   rest : (j : ℕ) → l.i ≤ j → get_or l.row j 0 ≡ 0;
 }

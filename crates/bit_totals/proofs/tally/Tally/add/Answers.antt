@@ -6,8 +6,8 @@ use Rattle.bit_totals.specs.Tallies.{mixed}
 use Rattle.bit_totals.proofs.Tallying.{set-le, set-past}
 use Rattle.bit_totals.proofs.tally.Tally.add.Goals as goal
 
-pub sixteens-init : goal.sixteens-init
-sixteens-init c =
+pub long_blocks-init : goal.long_blocks-init
+long_blocks-init c =
     let word = mixed c.args.first.now c.args.second.now c.args.third.now in
     record {
       within = omega arith;
@@ -17,7 +17,7 @@ sixteens-init c =
 pub add_block-requires-clause-room : goal.add_block-requires-clause-room
 add_block-requires-clause-room c = λ b h.
     let word = mixed c.args.first.now c.args.second.now c.args.third.now in
-    omega (arith, c.requires.room b h, c.sixteens.invariant.counted b h, set-le word b c.sixteens.at)
+    omega (arith, c.requires.room b h, c.long_blocks.invariant.counted b h, set-le word b c.long_blocks.at)
 
 pub add_four-requires-clause-room : goal.add_four-requires-clause-room
 add_four-requires-clause-room c = λ b h.

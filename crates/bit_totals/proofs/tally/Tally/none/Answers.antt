@@ -7,4 +7,4 @@ use Rattle.bit_totals.proofs.tally.Tally.none.Goals as goal
 pub returns : goal.returns
 returns c = λ b.
     let zero = first-zeros 20 20 b (omega arith) in
-    tallied-is (replicate 20 (replicate 8 0)) b ∙ omega (arith, zero)
+    tallied-is (replicate 20 (replicate 4 0)) b ∙ omega (arith, zero)

@@ -20,8 +20,8 @@ add-requires c = (
           let before = c.lanes.invariant b h in
           let column = c.column.ensures b in
           let more = in_lanes-more rows b lane in
-          let rest : in_lanes rows b (lane + 1) ≤ in_lanes rows b (7 - lane + (lane + 1)) = in_lanes-le rows b (lane + 1) (7 - lane) in
-          let all : 7 - lane + (lane + 1) ≡ 8 = omega arith in
+          let rest : in_lanes rows b (lane + 1) ≤ in_lanes rows b (3 - lane + (lane + 1)) = in_lanes-le rows b (lane + 1) (3 - lane) in
+          let all : 3 - lane + (lane + 1) ≡ 4 = omega arith in
           let most = rw all at rest in
           omega (arith, c.requires b h),
     ),

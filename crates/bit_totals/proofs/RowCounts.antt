@@ -1,0 +1,146 @@
+-- The unsatisfied bonds of the sites of a row, from words: site by site, and four sites side by side.
+use Rattle.std.proofs.Common.{◌≡◌, ℕ, zero, suc, ◌+◌, ◌*◌, ◌<◌, ◌≤◌, Bool, List, [], ◌∷◌, length, get_or, bit_xor, refl, sym, ap, ◌∙◌, arith, add-one}
+use Rattle.std.specs.Int.{bit_at}
+use Rattle.std.proofs.lemmas.Nat.Bits.{bit_at-zero}
+use Rattle.std.proofs.lemmas.List.{length-map}
+use Rattle.std.proofs.lemmas.List.Sums.{count_by-le-length}
+use Rattle.spin_model.specs.Words.{one_if}
+use Rattle.scalar_rule.specs.Positions.{sum_below}
+use Rattle.multispin_word.specs.Planes.{differs, is_set}
+use Rattle.multispin_word.proofs.Bits.{is_set-xor, one_if-is_set}
+use Rattle.local_rule.specs.SiteBits.{lane_words, site_bits}
+use Rattle.local_rule.proofs.Counts.{lane-list}
+use Rattle.plane_sweep.specs.PlaneSweep.{pulls_lent}
+use Rattle.plane_sweep.specs.declared.rows.Row.{Row}
+use Rattle.plane_sweep.specs.declared.surroundings.Surroundings.{Surroundings}
+use Rattle.bit_totals.specs.RowBonds.{against_count, row_count}
+use Rattle.bit_totals.specs.Tallies.{set_lanes}
+use Rattle.bit_totals.proofs.Tallying.{set_lanes-is}
+
+pub row-none : (own : List ℕ) (s : Surroundings) (row : Row) (b : ℕ) → row_count own s row b 0 ≡ 0
+unfolding row_count sum_below
+row-none own s row b = refl
+
+pub row-more : (own : List ℕ) (s : Surroundings) (row : Row) (b n : ℕ)
+    → row_count own s row b (n + 1) ≡ row_count own s row b n + against_count (pulls_lent s row n) (get_or own (row.here + n) 0) b
+unfolding row_count sum_below
+row-more own s row b n = rw add-one refl
+
+-- a site has six bonds
+pub against-le : (six : List ℕ) (w b : ℕ) → length six ≡ 6 → against_count six w b ≤ 6
+against-le six w b sized =
+    let most = count_by-le-length (λ bit. differs bit (is_set w b)) (site_bits six b) in
+    let bits = length-map six (λ word. is_set word b) in
+    omega (arith, most, bits, sized)
+
+pulls-six : (s : Surroundings) (row : Row) (k : ℕ) → length (pulls_lent s row k) ≡ 6
+unfolding pulls_lent
+pulls-six s row k = refl
+
+pub row-le : (own : List ℕ) (s : Surroundings) (row : Row) (b n : ℕ) → row_count own s row b n ≤ 6 * n
+row-le own s row b zero = omega (arith, row-none own s row b)
+row-le own s row b (suc n) =
+    let place : suc n ≡ n + 1 = omega arith in
+    let more = row-more own s row b n in
+    let before = row-le own s row b n in
+    let site = against-le (pulls_lent s row n) (get_or own (row.here + n) 0) b (pulls-six s row n) in
+    rw place (omega arith)
+
+-- six words, and one that each is compared with
+pub six-against : (six : List ℕ) (w b : ℕ) → length six ≡ 6
+    → bit_at (bit_xor (get_or six 0 0) w) b + bit_at (bit_xor (get_or six 1 0) w) b + bit_at (bit_xor (get_or six 2 0) w) b
+    + bit_at (bit_xor (get_or six 3 0) w) b + bit_at (bit_xor (get_or six 4 0) w) b + bit_at (bit_xor (get_or six 5 0) w) b
+    ≡ against_count six w b
+six-against (p ∷ q ∷ r ∷ s ∷ t ∷ u ∷ []) w b e =
+    rw (
+      ← is_set-xor p w b,
+      ← is_set-xor q w b,
+      ← is_set-xor r w b,
+      ← is_set-xor s w b,
+      ← is_set-xor t w b,
+      ← is_set-xor u w b,
+      one_if-is_set (bit_xor p w) b,
+      one_if-is_set (bit_xor q w) b,
+      one_if-is_set (bit_xor r w) b,
+      one_if-is_set (bit_xor s w) b,
+      one_if-is_set (bit_xor t w) b,
+      one_if-is_set (bit_xor u w) b,
+    )
+    (omega arith)
+six-against [] w b e = absurd (omega (arith, e))
+six-against (p ∷ []) w b e = absurd (omega (arith, e))
+six-against (p ∷ q ∷ []) w b e = absurd (omega (arith, e))
+six-against (p ∷ q ∷ r ∷ []) w b e = absurd (omega (arith, e))
+six-against (p ∷ q ∷ r ∷ s ∷ []) w b e = absurd (omega (arith, e))
+six-against (p ∷ q ∷ r ∷ s ∷ t ∷ []) w b e = absurd (omega (arith, e))
+six-against (p ∷ q ∷ r ∷ s ∷ t ∷ u ∷ v ∷ vs) w b e = absurd (omega (arith, e))
+
+-- in a lane of six rows
+lane-against : (rows : List (List ℕ)) (i w b : ℕ) → length rows ≡ 6
+    → against_count (lane_words rows i) w b
+    ≡ one_if (differs (is_set (get_or (get_or rows 0 []) i 0) b) (is_set w b)) + one_if (differs (is_set (get_or (get_or rows 1 []) i 0) b) (is_set w b))
+    + one_if (differs (is_set (get_or (get_or rows 2 []) i 0) b) (is_set w b)) + one_if (differs (is_set (get_or (get_or rows 3 []) i 0) b) (is_set w b))
+    + one_if (differs (is_set (get_or (get_or rows 4 []) i 0) b) (is_set w b)) + one_if (differs (is_set (get_or (get_or rows 5 []) i 0) b) (is_set w b))
+lane-against rows i w b e = rw (lane-list rows i e) (omega arith)
+
+-- whether a bit is set, as a number
+set-bit : (x b : ℕ) (t : Bool) → is_set x b ≡ t → bit_at x b ≡ one_if t
+set-bit x b t e = sym (one_if-is_set x b) ∙ ap one_if e
+
+pub lane-bits : (rows : List (List ℕ)) (i w b x₀ x₁ x₂ x₃ x₄ x₅ : ℕ) → length rows ≡ 6
+    → is_set x₀ b ≡ differs (is_set (get_or (get_or rows 0 []) i 0) b) (is_set w b)
+    → is_set x₁ b ≡ differs (is_set (get_or (get_or rows 1 []) i 0) b) (is_set w b)
+    → is_set x₂ b ≡ differs (is_set (get_or (get_or rows 2 []) i 0) b) (is_set w b)
+    → is_set x₃ b ≡ differs (is_set (get_or (get_or rows 3 []) i 0) b) (is_set w b)
+    → is_set x₄ b ≡ differs (is_set (get_or (get_or rows 4 []) i 0) b) (is_set w b)
+    → is_set x₅ b ≡ differs (is_set (get_or (get_or rows 5 []) i 0) b) (is_set w b)
+    → bit_at x₀ b + bit_at x₁ b + bit_at x₂ b + bit_at x₃ b + bit_at x₄ b + bit_at x₅ b ≡ against_count (lane_words rows i) w b
+lane-bits rows i w b x₀ x₁ x₂ x₃ x₄ x₅ sized e₀ e₁ e₂ e₃ e₄ e₅ =
+    omega (arith, set-bit x₀ b _ e₀, set-bit x₁ b _ e₁, set-bit x₂ b _ e₂, set-bit x₃ b _ e₃, set-bit x₄ b _ e₄, set-bit x₅ b _ e₅, lane-against rows i w b sized)
+
+-- four sites side by side, whose six words are the lanes of six
+pub four-counted : (own : List ℕ) (s : Surroundings) (row : Row) (k b : ℕ) (x₀ x₁ x₂ x₃ x₄ x₅ : List ℕ)
+    → ((i : ℕ) → i < 4 → bit_at (get_or x₀ i 0) b + bit_at (get_or x₁ i 0) b + bit_at (get_or x₂ i 0) b + bit_at (get_or x₃ i 0) b + bit_at (get_or x₄ i 0) b + bit_at (get_or x₅ i 0) b
+    ≡ against_count (pulls_lent s row (k + i)) (get_or own (row.here + (k + i)) 0) b)
+    → row_count own s row b k + (set_lanes x₀ b + set_lanes x₁ b + set_lanes x₂ b + (set_lanes x₃ b + set_lanes x₄ b + set_lanes x₅ b)) ≡ row_count own s row b (k + 4)
+four-counted own s row k b x₀ x₁ x₂ x₃ x₄ x₅ each =
+    let none : k + 0 ≡ k = omega arith in
+    let two : k + 1 + 1 ≡ k + 2 = omega arith in
+    let three : k + 2 + 1 ≡ k + 3 = omega arith in
+    let four : k + 3 + 1 ≡ k + 4 = omega arith in
+    let e₀ = rw none at (each 0 (omega arith)) in
+    let e₁ = each 1 (omega arith) in
+    let e₂ = each 2 (omega arith) in
+    let e₃ = each 3 (omega arith) in
+    let m₀ = row-more own s row b k in
+    let m₁ = rw two at (row-more own s row b (k + 1)) in
+    let m₂ = rw three at (row-more own s row b (k + 2)) in
+    let m₃ = rw four at (row-more own s row b (k + 3)) in
+    rw (set_lanes-is x₀ b, set_lanes-is x₁ b, set_lanes-is x₂ b, set_lanes-is x₃ b, set_lanes-is x₄ b, set_lanes-is x₅ b)
+    (omega arith)
+
+-- some columns more have six bonds each
+pub row-more-le : (own : List ℕ) (s : Surroundings) (row : Row) (b k n : ℕ) → row_count own s row b (k + n) ≤ row_count own s row b k + 6 * n
+row-more-le own s row b k zero = let same : k + 0 ≡ k = omega arith in rw same (omega arith)
+row-more-le own s row b k (suc n) =
+    let before = row-more-le own s row b k n in
+    let place : k + suc n ≡ k + n + 1 = omega arith in
+    let more = row-more own s row b (k + n) in
+    let site = against-le (pulls_lent s row (k + n)) (get_or own (row.here + (k + n)) 0) b (pulls-six s row (k + n)) in
+    rw place (omega arith)
+
+-- one site, whose six words stand in the lanes of two vectors
+pub site-counted : (own : List ℕ) (s : Surroundings) (row : Row) (k b : ℕ) (six front back : List ℕ) → six ≡ pulls_lent s row k
+    → front ≡ bit_xor (get_or six 0 0) (get_or own (row.here + k) 0) ∷ bit_xor (get_or six 1 0) (get_or own (row.here + k) 0)
+    ∷ bit_xor (get_or six 2 0) (get_or own (row.here + k) 0) ∷ bit_xor (get_or six 3 0) (get_or own (row.here + k) 0) ∷ []
+    → back ≡ bit_xor (get_or six 4 0) (get_or own (row.here + k) 0) ∷ bit_xor (get_or six 5 0) (get_or own (row.here + k) 0) ∷ 0 ∷ 0 ∷ []
+    → row_count own s row b k + (set_lanes front b + set_lanes back b) ≡ row_count own s row b (k + 1)
+site-counted own s row k b six front back same e f =
+    let w = get_or own (row.here + k) 0 in
+    let sized = ap length same ∙ pulls-six s row k in
+    let counted = six-against six w b sized ∙ ap (λ xs. against_count xs w b) same in
+    let more = row-more own s row b k in
+    let none = bit_at-zero b in
+    let first = set_lanes-is front b in
+    let second = set_lanes-is back b in
+    rw (e, f) (omega (arith, rw e at first, rw f at second))
