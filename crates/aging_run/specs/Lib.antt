@@ -1,4 +1,6 @@
+-- what public contracts say
 pub mod Aging
+pub mod Laws
+-- what the spins that are kept hold, and what the steps inside say: for proofs alone
 pub mod Keeping
 pub mod Measuring
-pub mod Laws

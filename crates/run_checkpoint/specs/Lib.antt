@@ -1,9 +1,8 @@
+-- what public contracts say
 pub mod Encoding
 pub mod Lengths
-pub mod PackedBytes
 pub mod Rooms
 pub mod Reading
-pub mod Unfilled
 pub mod Tests
 pub mod Decoding
 pub mod UnevenEncoding
@@ -11,3 +10,6 @@ pub mod UnevenDecoding
 pub mod BankEncoding
 pub mod BankDecoding
 pub mod Laws
+-- what the steps inside say: for proofs alone
+pub mod PackedBytes
+pub mod Unfilled
