@@ -143,17 +143,31 @@ INLINE lanes sum_square(lanes total[PLANES], const struct around *a, const struc
     return add_two(&total[4], front, back);
 }
 
-/* Adds one site, by single words. */
-INLINE void add_site(lanes total[PLANES], const struct around *a, const struct row *r, size_t k) {
+/* The six words of a site, set where a bond is unsatisfied. */
+INLINE void six(const struct around *a, const struct row *r, size_t k, uint64_t words[6]) {
     size_t here = r->here + k, up = r->up + k, down = r->down + k;
     size_t right = r->here + (r->even ? k : (k + 1) % r->half);
     size_t left = r->here + (r->even ? (k + r->half - 1) % r->half : k);
-    const uint64_t six[6] = {a->here[right] ^ a->ahead[0][here], a->here[up] ^ a->ahead[1][here],
-                             a->above[here] ^ a->ahead[2][here], a->here[left] ^ a->here_x[left],
-                             a->here[down] ^ a->here_y[down], a->below[here] ^ a->below_z[here]};
-    for (int i = 0; i < 6; i += 2) {
-        lanes front = {six[i] ^ a->own[here]}, back = {six[i + 1] ^ a->own[here]};
-        add_one(total, 1, add_two(&total[0], front, back));
+    uint64_t own = a->own[here];
+    words[0] = own ^ a->here[right] ^ a->ahead[0][here];
+    words[1] = own ^ a->here[up] ^ a->ahead[1][here];
+    words[2] = own ^ a->above[here] ^ a->ahead[2][here];
+    words[3] = own ^ a->here[left] ^ a->here_x[left];
+    words[4] = own ^ a->here[down] ^ a->here_y[down];
+    words[5] = own ^ a->below[here] ^ a->below_z[here];
+}
+
+/* Adds one column, whose twelve words stand in the lanes of three vectors, or of six. */
+INLINE void add_column(lanes total[PLANES], const struct around *a, const struct row *first,
+                       const struct row *second, size_t k) {
+    uint64_t words[12];
+    lanes v[12 / WIDTH], low, high, none = {0};
+    six(a, first, k, words);
+    six(a, second, k, words + 6);
+    memcpy(v, words, sizeof v);
+    for (size_t i = 0; i < 12 / WIDTH; i += 3) {
+        full_adder(v[i], v[i + 1], v[i + 2], &low, &high);
+        add_one(total, 2, add_two(&total[1], high, add_two(&total[0], low, none)));
     }
 }
 
@@ -167,10 +181,8 @@ INLINE void add_rows(lanes total[PLANES], const struct around *a, const struct r
         lanes fours, none = {0}, eights = add_counts(total, count(a, first, k), count(a, second, k), &fours);
         add_one(total, 4, add_two(&total[3], eights, add_two(&total[2], fours, none)));
     }
-    for (; k < half; k++) {
-        add_site(total, a, first, k);
-        add_site(total, a, second, k);
-    }
+    for (; k < half; k++)
+        add_column(total, a, first, second, k);
 }
 
 INLINE struct row row_behind(struct row r, size_t plane) {

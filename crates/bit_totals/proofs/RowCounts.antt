@@ -1,7 +1,6 @@
 -- The unsatisfied bonds of the sites of a row, from words: site by site, and four sites side by side.
 use Rattle.std.proofs.Common.{◌≡◌, ℕ, zero, suc, ◌+◌, ◌*◌, ◌<◌, ◌≤◌, Bool, List, [], ◌∷◌, length, get_or, bit_xor, refl, sym, ap, ◌∙◌, arith, add-one}
 use Rattle.std.specs.Int.{bit_at}
-use Rattle.std.proofs.lemmas.Nat.Bits.{bit_at-zero}
 use Rattle.std.proofs.lemmas.List.{length-map}
 use Rattle.std.proofs.lemmas.List.Sums.{count_by-le-length}
 use Rattle.spin_model.specs.Words.{one_if}
@@ -129,18 +128,23 @@ row-more-le own s row b k (suc n) =
     let site = against-le (pulls_lent s row (k + n)) (get_or own (row.here + (k + n)) 0) b (pulls-six s row (k + n)) in
     rw place (omega arith)
 
--- one site, whose six words stand in the lanes of two vectors
-pub site-counted : (own : List ℕ) (s : Surroundings) (row : Row) (k b : ℕ) (six front back : List ℕ) → six ≡ pulls_lent s row k
-    → front ≡ bit_xor (get_or six 0 0) (get_or own (row.here + k) 0) ∷ bit_xor (get_or six 1 0) (get_or own (row.here + k) 0)
-    ∷ bit_xor (get_or six 2 0) (get_or own (row.here + k) 0) ∷ bit_xor (get_or six 3 0) (get_or own (row.here + k) 0) ∷ []
-    → back ≡ bit_xor (get_or six 4 0) (get_or own (row.here + k) 0) ∷ bit_xor (get_or six 5 0) (get_or own (row.here + k) 0) ∷ 0 ∷ 0 ∷ []
-    → row_count own s row b k + (set_lanes front b + set_lanes back b) ≡ row_count own s row b (k + 1)
-site-counted own s row k b six front back same e f =
-    let w = get_or own (row.here + k) 0 in
-    let sized = ap length same ∙ pulls-six s row k in
-    let counted = six-against six w b sized ∙ ap (λ xs. against_count xs w b) same in
-    let more = row-more own s row b k in
-    let none = bit_at-zero b in
+-- one column, whose twelve words stand in the lanes of three vectors
+pub column-counted : (own : List ℕ) (s : Surroundings) (p q : Row) (k b : ℕ) (six other front middle back : List ℕ) → six ≡ pulls_lent s p k → other ≡ pulls_lent s q k
+    → front ≡ bit_xor (get_or six 0 0) (get_or own (p.here + k) 0) ∷ bit_xor (get_or six 1 0) (get_or own (p.here + k) 0)
+    ∷ bit_xor (get_or six 2 0) (get_or own (p.here + k) 0) ∷ bit_xor (get_or six 3 0) (get_or own (p.here + k) 0) ∷ []
+    → middle ≡ bit_xor (get_or six 4 0) (get_or own (p.here + k) 0) ∷ bit_xor (get_or six 5 0) (get_or own (p.here + k) 0)
+    ∷ bit_xor (get_or other 4 0) (get_or own (q.here + k) 0) ∷ bit_xor (get_or other 5 0) (get_or own (q.here + k) 0) ∷ []
+    → back ≡ bit_xor (get_or other 0 0) (get_or own (q.here + k) 0) ∷ bit_xor (get_or other 1 0) (get_or own (q.here + k) 0)
+    ∷ bit_xor (get_or other 2 0) (get_or own (q.here + k) 0) ∷ bit_xor (get_or other 3 0) (get_or own (q.here + k) 0) ∷ []
+    → row_count own s p b k + row_count own s q b k + (set_lanes front b + set_lanes middle b + set_lanes back b) ≡ row_count own s p b (k + 1) + row_count own s q b (k + 1)
+column-counted own s p q k b six other front middle back same alike e f g =
+    let v = get_or own (p.here + k) 0 in
+    let w = get_or own (q.here + k) 0 in
+    let counted = six-against six v b (ap length same ∙ pulls-six s p k) ∙ ap (λ xs. against_count xs v b) same in
+    let also = six-against other w b (ap length alike ∙ pulls-six s q k) ∙ ap (λ xs. against_count xs w b) alike in
+    let more = row-more own s p b k in
+    let behind = row-more own s q b k in
     let first = set_lanes-is front b in
-    let second = set_lanes-is back b in
-    rw (e, f) (omega (arith, rw e at first, rw f at second))
+    let second = set_lanes-is middle b in
+    let third = set_lanes-is back b in
+    rw (e, f, g) (omega (arith, rw e at first, rw f at second, rw g at third))

@@ -48,8 +48,7 @@ pub(crate) fn add_rows<const SIZE: usize, const EVEN: bool>(
         k += 4;
     }
     'rest: while k < first.half {
-        add_site::<SIZE, EVEN>(counts, own, around, first, k);
-        add_site::<SIZE, EVEN>(counts, own, around, second, k);
+        add_column::<SIZE, EVEN>(counts, own, around, first, second, k);
         k += 1;
     }
 }
@@ -106,28 +105,37 @@ fn add_four<const SIZE: usize, const EVEN: bool>(
     add_one(counts, 4, most);
 }
 
-// One site. Its six words stand in the four lanes, whose sum alone counts.
+// One column. The twelve words of its two sites stand in the four lanes, whose sum alone counts.
 #[inline(always)]
-fn add_site<const SIZE: usize, const EVEN: bool>(
+fn add_column<const SIZE: usize, const EVEN: bool>(
     counts: &mut [[u64; 4]; 20],
     own: &[u64],
     around: &Surroundings,
-    row: &Row,
+    first: &Row,
+    second: &Row,
     k: usize,
 )
     requires own { length own.now ≡ length around.now.here.now }
-    requires rows { HasRows (length around.now.here.now) around.now row.now }
-    requires within { k < row.now.half }
-    requires room { (b : ℕ) → b < 64 → tallied counts.old b + 6 < 2 ^ 20 }
-    ensures { (b : ℕ) → b < 64 → tallied counts.new b + row_count own.now around.now row.now b k
-        ≡ tallied counts.old b + row_count own.now around.now row.now b (k + 1) }
+    requires first { HasRows (length around.now.here.now) around.now first.now }
+    requires second { HasRows (length around.now.here.now) around.now second.now }
+    requires half { second.now.half ≡ first.now.half }
+    requires within { k < first.now.half }
+    requires room { (b : ℕ) → b < 64 → tallied counts.old b + 12 < 2 ^ 20 }
+    ensures { (b : ℕ) → b < 64
+        → tallied counts.new b + pair_count own.now around.now first.now second.now b k
+        ≡ tallied counts.old b + pair_count own.now around.now first.now second.now b (k + 1) }
 {
-    let six = pulls_of(around, row, k);
-    let word = own[row.here + k];
-    let front = load(&[six[0] ^ word, six[1] ^ word, six[2] ^ word, six[3] ^ word]);
-    let back = load(&[six[4] ^ word, six[5] ^ word, 0, 0]);
-    let twos = add_two(counts, 0, front, back);
-    add_one(counts, 1, twos);
+    let a = pulls_of(around, first, k);
+    let b = pulls_of(around, second, k);
+    let v = own[first.here + k];
+    let w = own[second.here + k];
+    let front = load(&[a[0] ^ v, a[1] ^ v, a[2] ^ v, a[3] ^ v]);
+    let middle = load(&[a[4] ^ v, a[5] ^ v, b[4] ^ w, b[5] ^ w]);
+    let back = load(&[b[0] ^ w, b[1] ^ w, b[2] ^ w, b[3] ^ w]);
+    let (ones, twos) = full_adder_lanes(front, middle, back);
+    let more = add_two(counts, 0, ones, u64x4::splat(0));
+    let most = add_two(counts, 1, twos, more);
+    add_one(counts, 2, most);
 }
 
 // The sites of eight columns of both rows, but for the carries of 32, which it gives.

@@ -1,5 +1,5 @@
 -- The columns are counted by eight, four and one.
-use Rattle.std.proofs.Common.{◌≡◌, ◌+◌, arith}
+use Rattle.std.proofs.Common.{◌≡◌, arith}
 use Rattle.bit_totals.proofs.RowCounts.{row-none, row-le}
 use Rattle.bit_totals.proofs.bonds.add_rows.Goals as goal
 
@@ -33,22 +33,16 @@ fours-preserved g c = record {
   counted = λ b h. omega (arith, c.add_four.ensures b h, c.fours.invariant.counted b h);
 }
 
-pub add_site-requires-clause-room : goal.add_site-requires-clause-room
-add_site-requires-clause-room g c = λ b h.
+pub add_column-requires-clause-room : goal.add_column-requires-clause-room
+add_column-requires-clause-room g c = λ b h.
     let first = row-le c.args.own.now c.args.around.now c.args.first.now b c.rest.k in
     let second = row-le c.args.own.now c.args.around.now c.args.second.now b c.rest.k in
     omega (arith, c.requires.room b h, c.rest.invariant.counted b h, first, second)
 
-pub add_site-requires-in-rest-clause-room : goal.add_site-requires-in-rest-clause-room
-add_site-requires-in-rest-clause-room g c = λ b h.
-    let first = row-le c.args.own.now c.args.around.now c.args.first.now b (c.rest.k + 1) in
-    let second = row-le c.args.own.now c.args.around.now c.args.second.now b c.rest.k in
-    omega (arith, c.requires.room b h, c.rest.invariant.counted b h, c.add_site.ensures b h, first, second)
-
 pub rest-preserved : goal.rest-preserved
 rest-preserved g c = record {
   within = omega arith;
-  counted = λ b h. omega (arith, c.add_site.ensures b h, c.add_site-in-rest.ensures b h, c.rest.invariant.counted b h);
+  counted = λ b h. omega (arith, c.add_column.ensures b h, c.rest.invariant.counted b h);
 }
 
 pub returns : goal.returns
