@@ -6,7 +6,7 @@ ghost use Rattle.plane_sweep.specs.Packed.{StandFits};
 ghost use Rattle.scalar_rule.specs.Plan.{slots_of};
 ghost use Rattle.scalar_rule.specs.Shape.{Fits};
 
-use super::boards::{Order, Pause, end_of, opening, random_slots, record, work};
+use super::boards::{Order, end_of, finish, holds, opening, random_slots, record};
 use super::sameness::{same_sample, same_stand};
 use crate::{Board, Window};
 use plane_sweep::Stand;
@@ -85,8 +85,47 @@ fn worked<R: Abort + Threads + Sync>(
         takes: 32000000000,
     };
     let mut board = Board::open(alloc, plan, start.copy(alloc)?, window)?;
-    assert_eq!(rt; work(rt, &mut board, plan, order), Pause::Finished);
+    finish(rt, &mut board, plan, order);
     end_of(board, plan)
+}
+
+// A board that is worked on in this order ends with this state and these records.
+fn order_agrees<R: Abort + Threads + Sync>(
+    rt: &R,
+    alloc: Global,
+    plan: &Arc<Plan, Global>,
+    start: &Stand,
+    end: &Stand,
+    records: &[Record],
+    order: Order,
+) -> Result<(), Fail>
+    requires slots { slots_of (arc_value plan.now) ≡ 3 }
+    requires start { StandFits (arc_value plan.now) start.now }
+    requires begun { start.now.epoch ≡ 0 }
+{
+    let (other, rows) = worked(rt, alloc, plan, start, order)?;
+    let same = same_stand(end, &other) && rows.as_slice() == records;
+    holds(rt, "another order ends otherwise", 0, same);
+    Ok(())
+}
+
+// Each sample alone goes to this end and has these records.
+fn samples_agree<R: Abort>(
+    rt: &R,
+    alloc: Global,
+    plan: &Plan,
+    start: &Stand,
+    end: &Stand,
+    records: &[Record],
+) -> Result<(), Fail>
+    requires start { StandFits plan.now start.now }
+    requires end { StandFits plan.now end.now }
+{
+    for bit in 0..64 {
+        let same = agrees(alloc, plan, start, end, records, bit)?;
+        holds(rt, "a sample alone ends otherwise:", bit as u64, same);
+    }
+    Ok(())
 }
 
 fn orders_agree<R: Abort + Threads + Sync>(
@@ -97,17 +136,12 @@ fn orders_agree<R: Abort + Threads + Sync>(
     let plan = random_slots(alloc, 6, kind)?;
     let start = opening(alloc, &plan, Start::Random)?;
     let (end, records) = worked(rt, alloc, &plan, &start, Order::OneByOne)?;
+    let records = records.as_slice();
     for order in [Order::FirstBackFirst, Order::LastBackFirst] {
-        let (other, rows) = worked(rt, alloc, &plan, &start, order)?;
-        assert!(rt; same_stand(&end, &other), "{order:?}");
-        assert!(rt; rows.as_slice() == records.as_slice(), "{order:?}");
+        order_agrees(rt, alloc, &plan, &start, &end, records, order)?;
     }
-    assert_eq!(rt; records.len(), 384);
-    for bit in 0..64 {
-        let same = agrees(alloc, &plan, &start, &end, records.as_slice(), bit)?;
-        assert!(rt; same, "sample {bit}");
-    }
-    Ok(())
+    holds(rt, "384 records", 0, records.len() == 384);
+    samples_agree(rt, alloc, &plan, &start, &end, records)
 }
 
 #[test]

@@ -1,6 +1,6 @@
 //! Plans, boards, and ways to work on them.
 
-ghost use Rattle.std.specs.Prelude.{◌≡◌, ◌+◌, ◌*◌, ◌<◌, length, IfOk};
+ghost use Rattle.std.specs.Prelude.{◌≡◌, ◌+◌, ◌*◌, ◌<◌, ◌≤◌, length, IfOk};
 ghost use Rattle.std.specs.Arc.{arc_value};
 ghost use Rattle.exchange_board.specs.declared.board.Next.TheVariants as nexts;
 ghost use Rattle.plane_sweep.specs.Packed.{StandFits};
@@ -16,83 +16,87 @@ use std::process::Abort;
 use std::sync::Arc;
 use std::test::Fail;
 use std::thread::Threads;
-use threshold_table::{RuleKind, RuleRow, RuleTable, SwapTable};
+use threshold_table::{RuleKind, read_rule, read_swap};
 
-const ALWAYS: u64 = 4294967296;
+// Heat bath against the field, at which every bond ends unsatisfied, and one that keeps every spin +1.
+const AGAINST_AND_UP: &str = "4294967296,4294967296,4294967296,0,0,0,0
+0,0,0,0,0,0,4294967296
+";
 
-// Heat bath that keeps every spin +1.
-const UP: RuleRow = RuleRow {
-    values: [0, 0, 0, 0, 0, 0, ALWAYS],
-};
-
-// Heat bath against the field: every bond ends unsatisfied.
-const AGAINST: RuleRow = RuleRow {
-    values: [ALWAYS, ALWAYS, ALWAYS, 0, 0, 0, 0],
-};
+// The latter at three slots.
+const UP: &str = "0,0,0,0,0,0,4294967296
+0,0,0,0,0,0,4294967296
+0,0,0,0,0,0,4294967296
+";
 
 // Heat bath at three temperatures, the coldest first: thresholds at 0 to 6 aligned neighbours.
-const HEAT: [RuleRow; 3] = [
-    RuleRow {
-        values: [
-            0, 200000000, 900000000, 2147483648, 3400000000, 4100000000, ALWAYS,
-        ],
-    },
-    RuleRow {
-        values: [
-            100000000, 500000000, 1200000000, 2147483648, 3000000000, 3700000000, 4200000000,
-        ],
-    },
-    RuleRow {
-        values: [
-            700000000, 1100000000, 1600000000, 2147483648, 2600000000, 3100000000, 3500000000,
-        ],
-    },
-];
+const HEAT: &str = "0,200000000,900000000,2147483648,3400000000,4100000000,4294967296
+100000000,500000000,1200000000,2147483648,3000000000,3700000000,4200000000
+700000000,1100000000,1600000000,2147483648,2600000000,3100000000,3500000000
+";
 
 // Metropolis at three temperatures: thresholds at 4 to 6 satisfied bonds.
-const METROPOLIS: [RuleRow; 3] = [
-    RuleRow {
-        values: [1500000000, 500000000, 100000000, 0, 0, 0, 0],
-    },
-    RuleRow {
-        values: [2500000000, 1200000000, 600000000, 0, 0, 0, 0],
-    },
-    RuleRow {
-        values: [3300000000, 2400000000, 1700000000, 0, 0, 0, 0],
-    },
-];
+const METROPOLIS: &str = "1500000000,500000000,100000000
+2500000000,1200000000,600000000
+3300000000,2400000000,1700000000
+";
+
+// An exchange is made half the times where it costs up to so much energy.
+const HALF: &str =
+    "2147483648,2147483648,2147483648,2147483648,2147483648,2147483648,2147483648,2147483648
+2147483648,2147483648,2147483648,2147483648,2147483648,2147483648,2147483648,2147483648
+";
+
+// Ends the test, with the name and the number of the case, where something does not hold.
+pub(super) fn holds<R: Abort>(rt: &R, case: &str, number: u64, whether: bool) {
+    if !whether {
+        panic!(rt; "{case} {number}");
+    }
+}
+
+// The plan of so many slots by the texts of its tables.
+fn plan_by(
+    alloc: Global,
+    lattice: Lattice,
+    couplings: Couplings,
+    kind: RuleKind,
+    rules: &str,
+    swaps: &str,
+    slots: u32,
+    seed: u64,
+) -> Result<Arc<Plan, Global>, Fail>
+    requires couplings { couplings.size ≡ lattice }
+    requires seed { seed ≤ 1000000 }
+    ensures { IfOk result (λ plan. slots_of (arc_value plan) ≡ slots) }
+{
+    let rules = read_rule(alloc, rules.as_bytes(), kind)?;
+    let swaps = read_swap(alloc, swaps.as_bytes(), rules.slots())?;
+    if rules.slots() != slots || swaps.pairs() + 1 != slots {
+        return Err("another number of slots".into());
+    }
+    let plan = Plan::new(lattice, rules, swaps, couplings, 1, seed);
+    Ok(Arc::new(alloc, plan)?)
+}
 
 // Two slots of the ferromagnet, of which the colder one is always the higher.
 pub(super) fn two_slots(alloc: Global) -> Result<Arc<Plan, Global>, Fail>
     ensures { IfOk result (λ plan. slots_of (arc_value plan) ≡ 2) }
 {
-    let lattice = Lattice::of(4)?;
-    let rules = RuleTable::from_rows(alloc, RuleKind::Heat, &[AGAINST, UP])?;
-    if rules.slots() != 2 {
-        return Err("two slots".into());
-    }
-    let swaps = SwapTable::from_rows(alloc, &[[0]])?;
+    let (lattice, kind) = (Lattice::of(4)?, RuleKind::Heat);
     let couplings = Couplings::plus(alloc, lattice)?;
-    let plan = Plan::new(lattice, rules, swaps, couplings, 1, 7);
-    Ok(Arc::new(alloc, plan)?)
+    plan_by(alloc, lattice, couplings, kind, AGAINST_AND_UP, "0\n", 2, 7)
 }
 
 // Three slots of the ferromagnet that are alike.
 pub(super) fn three_slots(alloc: Global) -> Result<Arc<Plan, Global>, Fail>
     ensures { IfOk result (λ plan. slots_of (arc_value plan) ≡ 3) }
 {
-    let lattice = Lattice::of(4)?;
-    let rules = RuleTable::from_rows(alloc, RuleKind::Heat, &[UP, UP, UP])?;
-    if rules.slots() != 3 {
-        return Err("three slots".into());
-    }
-    let swaps = SwapTable::from_rows(alloc, &[[0], [0]])?;
+    let (lattice, kind) = (Lattice::of(4)?, RuleKind::Heat);
     let couplings = Couplings::plus(alloc, lattice)?;
-    let plan = Plan::new(lattice, rules, swaps, couplings, 1, 7);
-    Ok(Arc::new(alloc, plan)?)
+    plan_by(alloc, lattice, couplings, kind, UP, "0\n0\n", 3, 7)
 }
 
-// Three temperatures with random couplings; an exchange is made half the times where it costs energy.
+// Three temperatures with random couplings.
 pub(super) fn random_slots(
     alloc: Global,
     size: u32,
@@ -101,17 +105,12 @@ pub(super) fn random_slots(
     ensures { IfOk result (λ plan. slots_of (arc_value plan) ≡ 3) }
 {
     let lattice = Lattice::of(size)?;
-    let rules = match kind {
-        RuleKind::Heat => RuleTable::from_rows(alloc, kind, HEAT.as_slice())?,
-        RuleKind::Metropolis => RuleTable::from_rows(alloc, kind, METROPOLIS.as_slice())?,
-    };
-    if rules.slots() != 3 {
-        return Err("three slots".into());
-    }
-    let swaps = SwapTable::from_rows(alloc, &[[2147483648; 8], [2147483648; 8]])?;
     let couplings = Couplings::random(alloc, lattice, 11)?;
-    let plan = Plan::new(lattice, rules, swaps, couplings, 1, 11);
-    Ok(Arc::new(alloc, plan)?)
+    let rules = match kind {
+        RuleKind::Heat => HEAT,
+        RuleKind::Metropolis => METROPOLIS,
+    };
+    plan_by(alloc, lattice, couplings, kind, rules, HALF, 3, 11)
 }
 
 // The state at epoch 0.
@@ -138,7 +137,7 @@ pub(super) fn record(energy: i32, label: u8) -> Record {
 }
 
 // An answer of a board that hands nothing out.
-#[derive(Clone, Copy, Debug, PartialEq, Eq)]
+#[derive(Clone, Copy, PartialEq, Eq)]
 pub(super) enum Pause {
     Nothing,
     Finished,
@@ -187,13 +186,13 @@ pub(super) fn bring<R: Abort + Threads + Sync>(
     let (slot, epoch) = (job.slot(), job.epoch());
     assert!(rt; slot < count(board));
     assert!(rt; epoch < 1000);
-    assert_eq!(rt; board.progress(slot), 4 * epoch + 1);
+    assert!(rt; board.progress(slot) == 4 * epoch + 1);
     let swept = job.sweep(rt, plan, 1);
     board.arrive(plan, swept)
 }
 
 // How slots are handed out and back.
-#[derive(Clone, Copy, Debug)]
+#[derive(Clone, Copy)]
 pub(super) enum Order {
     // Each is back before the next one goes out.
     OneByOne,
@@ -271,6 +270,20 @@ pub(super) fn work<R: Abort + Threads + Sync>(
         }
     }
     pause_of(rt, board)
+}
+
+// The same to the end of the board.
+pub(super) fn finish<R: Abort + Threads + Sync>(
+    rt: &R,
+    board: &mut Board,
+    plan: &Plan,
+    order: Order,
+)
+    requires { plan.now ≡ arc_value board.old.origin.plan }
+    ensures { board.new.origin ≡ board.old.origin }
+{
+    let pause = work(rt, board, plan, order);
+    holds(rt, "a board is not finished", 0, pause == Pause::Finished);
 }
 
 // The state of a board at its end, and its records.

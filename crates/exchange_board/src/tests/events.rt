@@ -1,16 +1,18 @@
 //! Two and three slots, hand-out by hand-out.
 
-ghost use Rattle.std.specs.Prelude.{◌≡◌, ◌<◌};
+ghost use Rattle.std.specs.Prelude.{◌≡◌, ◌<◌, ◌≤◌, IfOk};
 ghost use Rattle.std.specs.Arc.{arc_value};
+ghost use Rattle.scalar_rule.specs.Plan.{slots_of};
 
 use super::boards::{
-    Order, Pause, bring, count, end_of, job_of, opening, pause_of, record, three_slots, two_slots,
-    work,
+    Order, Pause, bring, count, end_of, finish, holds, job_of, opening, pause_of, record,
+    three_slots, two_slots,
 };
 use crate::{Arrival, Board, Job, Window};
-use scalar_rule::{Plan, Start};
+use scalar_rule::{Plan, Record, Start};
 use std::alloc::Global;
 use std::process::Abort;
+use std::sync::Arc;
 use std::test::Fail;
 use std::thread::Threads;
 
@@ -49,9 +51,9 @@ fn comes_back<R: Abort + Threads + Sync>(
     requires same { job.origin ≡ board.old.origin }
     ensures { board.new.origin ≡ board.old.origin }
 {
-    let (slot, epoch) = (job.slot(), job.epoch());
+    let slot = job.slot();
     let given = bring(rt, board, plan, job);
-    assert_eq!(rt; given, answer, "slot {slot} at epoch {epoch}");
+    holds(rt, "the answer to slot", slot as u64, given == answer);
 }
 
 // The next slot that is handed out is this one.
@@ -60,7 +62,8 @@ fn next_is<R: Abort>(rt: &R, board: &mut Board, slot: u32, epoch: u64) -> Job
     ensures origin { board.new.origin ≡ board.old.origin }
 {
     let job = job_of(rt, board.next());
-    assert_eq!(rt; (job.slot(), job.epoch()), (slot, epoch));
+    let same = job.slot() == slot && job.epoch() == epoch;
+    holds(rt, "the next job is not of slot", slot as u64, same);
     job
 }
 
@@ -117,6 +120,14 @@ fn both_go_on<R: Abort + Threads + Sync>(
     comes_back(rt, board, plan, again, Arrival::Waiting);
 }
 
+// Nothing is handed out, and the board has not ended.
+fn hands_out_nothing<R: Abort>(rt: &R, board: &mut Board)
+    ensures { board.new.origin ≡ board.old.origin }
+{
+    let pause = pause_of(rt, board);
+    holds(rt, "a pause", 0, pause == Pause::Nothing);
+}
+
 // When slot 1 comes back at epoch 1: before slot 0 does, or while slot 0 is in work at epoch 2, or
 // after it.
 #[derive(Clone, Copy)]
@@ -143,7 +154,7 @@ fn later_epochs<R: Abort + Threads + Sync>(rt: &R, board: &mut Board, plan: &Pla
             comes_back(rt, board, plan, warmer, Arrival::Waiting);
         }
     }
-    assert_eq!(rt; pause_of(rt, board), Pause::Nothing);
+    hands_out_nothing(rt, board);
 }
 
 // Slot 2, which was in work at epoch 0 all the while, comes back, and is the only one that can go on.
@@ -154,8 +165,8 @@ fn last_slot<R: Abort + Threads + Sync>(rt: &R, board: &mut Board, plan: &Plan, 
 {
     comes_back(rt, board, plan, last, Arrival::Alone);
     assert!(rt; count(board) == 3);
-    let numbers = (board.progress(0), board.progress(1), board.progress(2));
-    assert_eq!(rt; numbers, (10, 6, 4));
+    let first_two = board.progress(0) == 10 && board.progress(1) == 6;
+    holds(rt, "the progress", 0, first_two && board.progress(2) == 4);
     let again = next_is(rt, board, 2, 1);
     comes_back(rt, board, plan, again, Arrival::Settled { pair: 1 });
 }
@@ -191,10 +202,7 @@ fn three_slot_events<R: Abort + Threads + Sync>(
     first_epoch(rt, &mut board, &plan, warmer_first, pair);
     later_epochs(rt, &mut board, &plan, moment);
     last_slot(rt, &mut board, &plan, last);
-    assert_eq!(rt;
-        work(rt, &mut board, &plan, Order::OneByOne),
-        Pause::Finished
-    );
+    finish(rt, &mut board, &plan, Order::OneByOne);
     Ok(())
 }
 
@@ -227,59 +235,72 @@ fn in_work<R: Abort + Threads + Sync>(rt: &R, board: Board, plan: &Plan, jobs: (
 {
     let mut board = board;
     let (colder, warmer) = jobs;
-    assert_eq!(rt; pause_of(rt, &mut board), Pause::Nothing);
+    hands_out_nothing(rt, &mut board);
     comes_back(rt, &mut board, plan, colder, Arrival::Waiting);
-    assert_eq!(rt; pause_of(rt, &mut board), Pause::Nothing);
+    hands_out_nothing(rt, &mut board);
     let mut board = handed_back(rt, board);
     comes_back(rt, &mut board, plan, warmer, Arrival::Settled { pair: 0 });
     board
 }
 
+// Fails where a board does not end with these records and epoch.
+fn ends_with(board: Board, plan: &Plan, rows: &[Record], epoch: u64) -> Result<(), Fail>
+    requires { plan.now ≡ arc_value board.origin.plan }
+{
+    let (stand, records) = end_of(board, plan)?;
+    if records.as_slice() == rows && stand.epoch == epoch {
+        return Ok(());
+    }
+    Err("other records or another epoch".into())
+}
+
+// Nothing is handed out, and the board has ended.
+fn is_finished<R: Abort>(rt: &R, board: &mut Board)
+    ensures { board.new.origin ≡ board.old.origin }
+{
+    let pause = pause_of(rt, board);
+    holds(rt, "a board at its end", 0, pause == Pause::Finished);
+}
+
+// The board of two slots, from all spins up to this epoch.
+fn board_of_two(alloc: Global, plan: &Arc<Plan, Global>, until: u64) -> Result<Board, Fail>
+    requires slots { slots_of (arc_value plan.now) ≡ 2 }
+    requires until { until ≤ 1000 }
+    ensures { IfOk result (λ board. arc_value plan.now ≡ arc_value board.origin.plan) }
+{
+    let stand = opening(alloc, plan, Start::Up)?;
+    Ok(Board::open(alloc, plan, stand, window(until))?)
+}
+
 #[test]
 fn two_slots_in_work_hand_out_nothing(rt: HostRuntime) -> Result<(), Fail> {
-    let alloc = rt.alloc();
-    let plan = two_slots(alloc)?;
-    let stand = opening(alloc, &plan, Start::Up)?;
-    let mut board = Board::open(alloc, &plan, stand, window(1))?;
+    let plan = two_slots(rt.alloc())?;
+    let mut board = board_of_two(rt.alloc(), &plan, 1)?;
     let jobs = two_jobs(&rt, &mut board);
     let mut board = in_work(&rt, board, &plan, jobs);
-    assert_eq!(rt; pause_of(&rt, &mut board), Pause::Finished);
-    let (_, records) = end_of(board, &plan)?;
+    is_finished(&rt, &mut board);
     let rows = [record(192, 0), record(-192, 1)];
-    assert_eq!(rt; records.as_slice(), rows.as_slice());
-    Ok(())
+    ends_with(board, &plan, rows.as_slice(), 1)
 }
 
 #[test]
 fn two_slot_schedule_to_its_end(rt: HostRuntime) -> Result<(), Fail> {
-    let alloc = rt.alloc();
-    let plan = two_slots(alloc)?;
-    let stand = opening(alloc, &plan, Start::Up)?;
-    let mut board = Board::open(alloc, &plan, stand, window(2))?;
-    assert_eq!(rt;
-        work(&rt, &mut board, &plan, Order::OneByOne),
-        Pause::Finished
-    );
-    let (stand, records) = end_of(board, &plan)?;
+    let plan = two_slots(rt.alloc())?;
+    let mut board = board_of_two(rt.alloc(), &plan, 2)?;
+    finish(&rt, &mut board, &plan, Order::OneByOne);
     let rows = [
         record(192, 0),
         record(-192, 1),
         record(192, 1),
         record(-192, 0),
     ];
-    assert_eq!(rt; records.as_slice(), rows.as_slice());
-    assert_eq!(rt; stand.epoch, 2);
-    Ok(())
+    ends_with(board, &plan, rows.as_slice(), 2)
 }
 
 #[test]
 fn a_board_opened_at_its_end_is_finished(rt: HostRuntime) -> Result<(), Fail> {
-    let alloc = rt.alloc();
-    let plan = two_slots(alloc)?;
-    let stand = opening(alloc, &plan, Start::Up)?;
-    let mut board = Board::open(alloc, &plan, stand, window(0))?;
-    assert_eq!(rt; pause_of(&rt, &mut board), Pause::Finished);
-    let (_, records) = end_of(board, &plan)?;
-    assert!(rt; records.is_empty());
-    Ok(())
+    let plan = two_slots(rt.alloc())?;
+    let mut board = board_of_two(rt.alloc(), &plan, 0)?;
+    is_finished(&rt, &mut board);
+    ends_with(board, &plan, [].as_slice(), 0)
 }

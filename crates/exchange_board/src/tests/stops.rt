@@ -7,7 +7,7 @@ ghost use Rattle.plane_sweep.specs.Uneven.{positions_of, RaggedStandFits};
 ghost use Rattle.scalar_rule.specs.Plan.{slots_of};
 ghost use Rattle.scalar_rule.specs.Positions.{deepest_of};
 
-use super::boards::{Order, Pause, end_of, opening, random_slots, work};
+use super::boards::{Order, Pause, end_of, finish, holds, opening, random_slots, work};
 use super::sameness::same_stand;
 use crate::{Board, RaggedEnded, Window};
 use plane_sweep::{RaggedStand, Stand};
@@ -60,7 +60,7 @@ fn stopped<R: Abort + Threads + Sync>(
     } else {
         Pause::Finished
     };
-    assert_eq!(rt; pause, wanted, "{takes} hand-outs");
+    holds(rt, "the pause after hand-outs:", takes, pause == wanted);
     match board.into_ragged() {
         Ok(stop) => Ok(stop),
         Err(_) => Err("a slot is in work".into()),
@@ -79,10 +79,7 @@ fn resumed<R: Abort + Threads + Sync>(
     requires reach { deepest_of (positions_of base) ≤ 4 }
 {
     let mut board = Board::open_ragged(alloc, plan, base, window(1000))?;
-    assert_eq!(rt;
-        work(rt, &mut board, plan, Order::FirstBackFirst),
-        Pause::Finished
-    );
+    finish(rt, &mut board, plan, Order::FirstBackFirst);
     end_of(board, plan)
 }
 
@@ -103,10 +100,26 @@ fn goes_on<R: Abort + Threads + Sync>(
     let stop = stopped(rt, alloc, plan, start, takes)?;
     let (stand, rest) = resumed(rt, alloc, plan, stop.stand().copy(alloc)?)?;
     let (end, all) = whole;
-    assert!(rt; same_stand(&stand, end), "{takes} hand-outs");
+    let same = same_stand(&stand, end);
     let joined = are_joined(all.as_slice(), stop.records(), rest.as_slice());
-    assert!(rt; joined, "{takes} hand-outs");
+    holds(rt, "the end after hand-outs:", takes, same && joined);
     Ok(())
+}
+
+// The end and the records of the board that does not stop.
+fn unstopped<R: Abort + Threads + Sync>(
+    rt: &R,
+    alloc: Global,
+    plan: &Arc<Plan, Global>,
+    start: &Stand,
+) -> Result<(Stand, Vec<Record>), Fail>
+    requires slots { slots_of (arc_value plan.now) ≡ 3 }
+    requires start { StandFits (arc_value plan.now) start.now }
+    requires begun { start.now.epoch ≡ 0 }
+{
+    let mut board = Board::open(alloc, plan, start.copy(alloc)?, window(1000))?;
+    finish(rt, &mut board, plan, Order::OneByOne);
+    end_of(board, plan)
 }
 
 #[test]
@@ -114,13 +127,8 @@ fn a_stopped_board_goes_on_as_one_that_was_not_stopped(rt: HostRuntime) -> Resul
     let alloc = rt.alloc();
     let plan = random_slots(alloc, 4, RuleKind::Heat)?;
     let start = opening(alloc, &plan, Start::Random)?;
-    let mut board = Board::open(alloc, &plan, start.copy(alloc)?, window(1000))?;
-    assert_eq!(rt;
-        work(&rt, &mut board, &plan, Order::OneByOne),
-        Pause::Finished
-    );
-    let whole = end_of(board, &plan)?;
-    assert_eq!(rt; whole.1.len(), 18);
+    let whole = unstopped(&rt, alloc, &plan, &start)?;
+    holds(&rt, "18 records", 0, whole.1.len() == 18);
     for takes in 0..14 {
         goes_on(&rt, alloc, &plan, &start, &whole, takes)?;
     }
