@@ -20,24 +20,54 @@ use std::sync::atomic::{AtomicU64, Ordering};
 use std::sync::{Arc, Wait};
 use std::test::Fail;
 use std::thread::Threads;
-use threshold_table::{RuleKind, RuleRow, RuleTable, SwapTable};
+use threshold_table::{RuleKind, read_rule, read_swap};
 
 mod banks;
 mod saving;
 mod summary;
 
-const ALL: u64 = 4294967296;
+/// Thresholds of heat bath that turn each spin against its field in the first of two slots, and turn a spin
+/// up where all neighbours are up in the second.
+const AGAINST_AND_UP: &str = "4294967296,4294967296,4294967296,0,0,0,0
+0,0,0,0,0,0,4294967296
+";
 
-/// Thresholds of heat bath that turn every spin down, and those that turn each against its field.
-const DOWN: RuleRow = RuleRow { values: [0; 7] };
+/// The latter in one slot and in three.
+const UP: &str = "0,0,0,0,0,0,4294967296\n";
 
-const AGAINST: RuleRow = RuleRow {
-    values: [ALL, ALL, ALL, 0, 0, 0, 0],
-};
-/// Those that turn a spin up where all neighbours are up.
-const UP: RuleRow = RuleRow {
-    values: [0, 0, 0, 0, 0, 0, ALL],
-};
+const THREE_UP: &str = "0,0,0,0,0,0,4294967296
+0,0,0,0,0,0,4294967296
+0,0,0,0,0,0,4294967296
+";
+
+/// The number of hand-outs at which no run stops.
+const ENDLESS: u64 = 32000000000;
+
+/// Fails, with the name of the case, where something does not hold.
+fn holds(case: &str, whether: bool) -> Result<(), Fail> {
+    if whether {
+        Ok(())
+    } else {
+        Err(Fail::new(case))
+    }
+}
+
+/// The plan of the ferromagnet on the lattice of size 4 by the texts of its tables.
+fn plan_of(alloc: Global, rules: &str, swaps: &str) -> Result<Plan, Fail> {
+    let rules = read_rule(alloc, rules.as_bytes(), RuleKind::Heat)?;
+    let swaps = read_swap(alloc, swaps.as_bytes(), rules.slots())?;
+    if swaps.pairs() + 1 != rules.slots() {
+        return Err("a pair for each two neighbouring slots".into());
+    }
+    let lattice = Lattice::of(4)?;
+    let couplings = Couplings::plus(alloc, lattice)?;
+    Ok(Plan::new(lattice, rules, swaps, couplings, 1, 7))
+}
+
+/// The plan of two slots that swap at each turn.
+fn two_slots(alloc: Global) -> Result<Plan, Fail> {
+    plan_of(alloc, AGAINST_AND_UP, "4294967296\n")
+}
 
 /// One sample of the ferromagnet from all up, each epoch recorded, and the last spins.
 const ORDERS: Orders = Orders {
@@ -90,30 +120,25 @@ impl Gate for Entries {
     }
 }
 
-/// What a run of the ferromagnet on the lattice of size 4 puts.
+/// What a run of a plan puts.
 fn reported<R: Threads + Wait + Sync, G: Gate + Sync>(
     rt: &R,
     gate: &G,
     alloc: Global,
-    rules: RuleTable,
-    swaps: SwapTable,
+    plan: Plan,
     orders: &Orders,
     until: u64,
     takes: u64,
     workers: u32,
 ) -> Result<MemorySink, NoMemory>
-    requires pairs { length swaps + 1 ≡ length rules.rows }
     requires orders { AreLawfulOrders orders.now }
     requires until { until ≤ last_epoch }
     requires takes { takes ≤ 32000000000 }
     requires workers { (1 ≤ workers) × (workers ≤ 64) }
 {
     let mut out = MemorySink::new(alloc, 5000, 300, Vec::new(alloc))?;
-    let Ok(lattice) = Lattice::of(4) else {
-        return Ok(out);
-    };
-    let couplings = Couplings::plus(alloc, lattice)?;
-    let plan = Plan::new(lattice, rules, swaps, couplings, 1, 7);
+    // A plan has a slot.
+    let _ = plan.slots();
     let stand = Stand::opening(alloc, &plan, orders.start)?;
     if stand.epoch > until || check_amount(&plan, orders, stand.epoch, until).is_err() {
         return Ok(out);
@@ -134,56 +159,58 @@ fn reported<R: Threads + Wait + Sync, G: Gate + Sync>(
     Ok(out)
 }
 
-/// The same of two slots that always swap, the first of them against its field and the second up.
-fn two_slots<R: Threads + Wait + Sync, G: Gate + Sync>(
+/// Fails where a run of a plan, without a hook, puts another report.
+fn reports<R: Threads + Wait + Sync>(
     rt: &R,
-    gate: &G,
     alloc: Global,
+    plan: Plan,
+    orders: &Orders,
     until: u64,
     takes: u64,
     workers: u32,
-) -> Result<MemorySink, Fail>
+    report: &str,
+) -> Result<(), Fail>
+    requires orders { AreLawfulOrders orders.now }
     requires until { until ≤ last_epoch }
     requires takes { takes ≤ 32000000000 }
     requires workers { (1 ≤ workers) × (workers ≤ 64) }
 {
-    let rules = RuleTable::from_rows(alloc, RuleKind::Heat, &[AGAINST, UP])?;
-    let swaps = SwapTable::from_rows(alloc, &[[ALL]])?;
-    Ok(reported(
-        rt, gate, alloc, rules, swaps, &ORDERS, until, takes, workers,
-    )?)
+    let out = reported(rt, &OpenGate, alloc, plan, orders, until, takes, workers)?;
+    holds(report, out.taken() == report.as_bytes())
 }
 
-#[test]
-fn report_of_all_down(rt: HostRuntime) -> Result<(), Fail> {
-    let alloc = rt.alloc();
-    let rules = RuleTable::from_rows(alloc, RuleKind::Heat, &[DOWN])?;
-    let swaps = SwapTable::from_rows::<1>(alloc, &[])?;
-    let out = reported(
-        &rt,
-        &OpenGate,
-        alloc,
-        rules,
-        swaps,
-        &ORDERS,
-        1,
-        32000000000,
-        2,
-    )?;
-    assert_eq!(rt;
-        out.taken(),
-        b"glass 1 size=4 slots=1 samples=1 rule=heat from=0 to=1
+/// The same of two slots that always swap, the first of them against its field and the second up.
+fn two_slots_report<R: Threads + Wait + Sync>(
+    rt: &R,
+    alloc: Global,
+    until: u64,
+    takes: u64,
+    workers: u32,
+    report: &str,
+) -> Result<(), Fail>
+    requires until { until ≤ last_epoch }
+    requires takes { takes ≤ 32000000000 }
+    requires workers { (1 ≤ workers) × (workers ≤ 64) }
+{
+    let plan = two_slots(alloc)?;
+    reports(rt, alloc, plan, &ORDERS, until, takes, workers, report)
+}
+
+const ALL_DOWN: &str = "glass 1 size=4 slots=1 samples=1 rule=heat from=0 to=1
 row,0,0,0,-192,-192,64,0,0
 end,1
 spin,0,0,0,0000000000000000
 spin,0,0,1,0000000000000000
-"
-            .as_slice()
-    );
-    Ok(())
+";
+
+#[test]
+fn report_of_all_down(rt: HostRuntime) -> Result<(), Fail> {
+    let alloc = rt.alloc();
+    let plan = plan_of(alloc, "0,0,0,0,0,0,0\n", "")?;
+    reports(&rt, alloc, plan, &ORDERS, 1, ENDLESS, 2, ALL_DOWN)
 }
 
-const TWO_SLOTS: &[u8] = b"glass 1 size=4 slots=2 samples=1 rule=heat from=0 to=2
+const TWO_SLOTS: &str = "glass 1 size=4 slots=2 samples=1 rule=heat from=0 to=2
 row,0,0,0,192,192,64,0,0
 row,0,0,1,-192,-192,64,1,1
 row,1,0,0,192,192,64,1,1
@@ -199,19 +226,12 @@ spin,0,1,1,ffffffffffffffff
 #[test]
 fn report_of_two_slots_that_swap(rt: HostRuntime) -> Result<(), Fail> {
     for workers in [1, 2, 64] {
-        let out = two_slots(&rt, &OpenGate, rt.alloc(), 2, 32000000000, workers)?;
-        assert!(rt; out.taken() == TWO_SLOTS, "{workers} workers");
+        two_slots_report(&rt, rt.alloc(), 2, ENDLESS, workers, TWO_SLOTS)?;
     }
     Ok(())
 }
 
-// The spins are those after the last exchange.
-#[test]
-fn report_that_ends_with_a_swap(rt: HostRuntime) -> Result<(), Fail> {
-    let out = two_slots(&rt, &OpenGate, rt.alloc(), 1, 32000000000, 2)?;
-    assert_eq!(rt;
-        out.taken(),
-        b"glass 1 size=4 slots=2 samples=1 rule=heat from=0 to=1
+const ENDS_WITH_A_SWAP: &str = "glass 1 size=4 slots=2 samples=1 rule=heat from=0 to=1
 row,0,0,0,192,192,64,0,0
 row,0,0,1,-192,-192,64,1,1
 end,1
@@ -219,65 +239,36 @@ spin,0,0,0,ffffffffffffffff
 spin,0,0,1,ffffffffffffffff
 spin,0,1,0,5a5aa5a55a5aa5a5
 spin,0,1,1,5a5aa5a55a5aa5a5
-"
-            .as_slice()
-    );
-    Ok(())
+";
+
+// The spins are those after the last exchange.
+#[test]
+fn report_that_ends_with_a_swap(rt: HostRuntime) -> Result<(), Fail> {
+    two_slots_report(&rt, rt.alloc(), 1, ENDLESS, 2, ENDS_WITH_A_SWAP)
 }
+
+const STOPPED_AT_1: &str = "glass 1 size=4 slots=2 samples=1 rule=heat from=0 to=1
+row,0,0,0,192,192,64,0,0
+row,0,0,1,-192,-192,64,1,1
+end,1
+";
+
+const STOPPED_AT_0: &str = "glass 1 size=4 slots=2 samples=1 rule=heat from=0 to=0
+end,0
+";
 
 // Which slots stop where is free, but not how far every slot came: after three hand-outs each was swept
 // in epoch 0, after one not every slot.
 #[test]
 fn report_of_a_run_that_stops(rt: HostRuntime) -> Result<(), Fail> {
     for workers in [1, 2] {
-        let out = two_slots(&rt, &OpenGate, rt.alloc(), 2, 3, workers)?;
-        assert!(rt;
-            out.taken()
-                == b"glass 1 size=4 slots=2 samples=1 rule=heat from=0 to=1
-row,0,0,0,192,192,64,0,0
-row,0,0,1,-192,-192,64,1,1
-end,1
-"
-                    .as_slice(),
-            "{workers} workers"
-        );
-        let out = two_slots(&rt, &OpenGate, rt.alloc(), 2, 1, workers)?;
-        assert!(rt;
-            out.taken()
-                == b"glass 1 size=4 slots=2 samples=1 rule=heat from=0 to=0
-end,0
-"
-                    .as_slice(),
-            "{workers} workers"
-        );
+        two_slots_report(&rt, rt.alloc(), 2, 3, workers, STOPPED_AT_1)?;
+        two_slots_report(&rt, rt.alloc(), 2, 1, workers, STOPPED_AT_0)?;
     }
     Ok(())
 }
 
-// Slots of equal energies change places wherever their pair has its turn.
-#[test]
-fn three_slots_through_two_seats(rt: HostRuntime) -> Result<(), Fail> {
-    let alloc = rt.alloc();
-    let rules = RuleTable::from_rows(alloc, RuleKind::Heat, &[UP, UP, UP])?;
-    let swaps = SwapTable::from_rows(alloc, &[[0], [0]])?;
-    let orders = Orders {
-        spins: false,
-        ..ORDERS
-    };
-    let out = reported(
-        &rt,
-        &OpenGate,
-        alloc,
-        rules,
-        swaps,
-        &orders,
-        3,
-        32000000000,
-        2,
-    )?;
-    assert_eq!(rt;
-        out.taken(),
-        b"glass 1 size=4 slots=3 samples=1 rule=heat from=0 to=3
+const THREE_SLOTS: &str = "glass 1 size=4 slots=3 samples=1 rule=heat from=0 to=3
 row,0,0,0,-192,-192,64,0,0
 row,0,0,1,-192,-192,64,1,1
 row,0,0,2,-192,-192,64,2,2
@@ -288,10 +279,18 @@ row,2,0,0,-192,-192,64,1,1
 row,2,0,1,-192,-192,64,2,2
 row,2,0,2,-192,-192,64,0,0
 end,3
-"
-            .as_slice()
-    );
-    Ok(())
+";
+
+// Slots of equal energies change places wherever their pair has its turn.
+#[test]
+fn three_slots_through_two_seats(rt: HostRuntime) -> Result<(), Fail> {
+    let alloc = rt.alloc();
+    let plan = plan_of(alloc, THREE_UP, "0\n0\n")?;
+    let orders = Orders {
+        spins: false,
+        ..ORDERS
+    };
+    reports(&rt, alloc, plan, &orders, 3, ENDLESS, 2, THREE_SLOTS)
 }
 
 #[test]
@@ -299,9 +298,9 @@ fn hook_is_entered_once_for_each_slot_and_epoch(rt: HostRuntime) -> Result<(), F
     let gate = Entries {
         entered: AtomicU64::new(0),
     };
-    two_slots(&rt, &gate, rt.alloc(), 2, 32000000000, 2)?;
-    assert_eq!(rt; gate.entered.load(Ordering::SeqCst), 0x0303);
-    Ok(())
+    let plan = two_slots(rt.alloc())?;
+    reported(&rt, &gate, rt.alloc(), plan, &ORDERS, 2, ENDLESS, 2)?;
+    holds("0x0303", gate.entered.load(Ordering::SeqCst) == 0x0303)
 }
 
 /// A hook whose first entry in each of four epochs returns only once the second came, or after so many
@@ -347,9 +346,10 @@ fn two_workers_overlap_in_every_epoch(rt: HostRuntime) -> Result<(), Fail> {
         came: four_counts(),
         met: four_counts(),
     };
-    two_slots(&rt, &gate, rt.alloc(), 4, 32000000000, 2)?;
+    let plan = two_slots(rt.alloc())?;
+    reported(&rt, &gate, rt.alloc(), plan, &ORDERS, 4, ENDLESS, 2)?;
     for met in &gate.met {
-        assert_eq!(rt; met.load(Ordering::SeqCst), 1);
+        holds("the second came", met.load(Ordering::SeqCst) == 1)?;
     }
     Ok(())
 }

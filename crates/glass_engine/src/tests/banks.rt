@@ -9,12 +9,10 @@ ghost use Rattle.glass_engine.specs.BankRuns.{plans_of};
 ghost use Rattle.glass_engine.specs.Runs.{RunView};
 ghost use Rattle.glass_engine.specs.declared.run.SaveKind.TheVariants as saves;
 
-use super::UP;
 use super::saving::bytes_of;
+use super::{UP, holds, plan_of};
 use crate::{Banks, drive_banks, open_banks, save_banks, write_banks};
-use coupling_set::Couplings;
 use glass_edges::{MemoryShelf, MemorySink, NoMemory, OpenGate};
-use lattice_geometry::Lattice;
 use plane_sweep::Stand;
 use run_plan::Orders;
 use scalar_rule::{Plan, Start};
@@ -22,7 +20,6 @@ use std::alloc::Global;
 use std::sync::{Arc, Wait};
 use std::test::Fail;
 use std::thread::Threads;
-use threshold_table::{RuleKind, RuleTable, SwapTable};
 
 /// 64 samples of bank 0 and one of bank 1, from all up.
 const ORDERS: Orders = Orders {
@@ -38,15 +35,6 @@ const LAST_AT_1: [u8; 32] = [
     0x96, 0x82, 0x1c, 0x13, 0x94, 0xc0, 0xc9, 0x9d, 0x0f, 0xb5, 0xba, 0x72, 0xcd, 0xf5, 0x1b, 0x8e,
     0xf6, 0x7b, 0x9e, 0x6a, 0xda, 0x67, 0x96, 0xc1, 0x36, 0x43, 0x0a, 0xb8, 0x1b, 0xaa, 0xf3, 0xd6,
 ];
-
-/// The plan of one slot that stays up.
-fn one_slot(alloc: Global) -> Result<Plan, Fail> {
-    let rules = RuleTable::from_rows(alloc, RuleKind::Heat, &[UP])?;
-    let swaps = SwapTable::from_rows::<1>(alloc, &[])?;
-    let lattice = Lattice::of(4)?;
-    let couplings = Couplings::plus(alloc, lattice)?;
-    Ok(Plan::new(lattice, rules, swaps, couplings, 1, 7))
-}
 
 /// The plan for each bank.
 fn twice(plan: &Arc<Plan, Global>) -> Result<[Arc<Plan, Global>; 2], NoMemory>
@@ -118,7 +106,7 @@ fn run_of_two<R: Threads + Wait + Sync>(
     let mut shelf = MemoryShelf::new(alloc, Vec::new(alloc));
     shelf.room("first", 20000)?;
     shelf.room("second", 20000)?;
-    let plan = one_slot(alloc)?;
+    let plan = plan_of(alloc, UP, "")?;
     let stands = openings(alloc, &plan)?;
     // A plan has at most 32 slots.
     let _ = plan.slots();
@@ -149,19 +137,29 @@ fn report(alloc: Global) -> Result<String, Fail> {
     Ok(text)
 }
 
+/// Fails where so many workers put another report or place another checkpoint than they are to.
+fn two_banks_agree<R: Threads + Wait + Sync>(
+    rt: &R,
+    alloc: Global,
+    workers: u32,
+) -> Result<(), Fail>
+    requires workers { (1 ≤ workers) × (workers ≤ 64) }
+{
+    let (out, mut shelf) = run_of_two(rt, alloc, workers)?;
+    let first = bytes_of(alloc, &mut shelf, "first");
+    let second = bytes_of(alloc, &mut shelf, "second");
+    let report = report(alloc)?;
+    holds("the report", out.taken() == report.as_bytes())?;
+    holds("the length", first.len() == 10332)?;
+    holds(
+        "the last bytes",
+        first.as_slice().ends_with(LAST_AT_1.as_slice()),
+    )?;
+    holds("the second save", second == first)
+}
+
 #[test]
 fn report_and_checkpoint_of_two_banks(rt: HostRuntime) -> Result<(), Fail> {
-    let alloc = rt.alloc();
-    for workers in [1, 2] {
-        let (out, mut shelf) = run_of_two(&rt, alloc, workers)?;
-        assert!(rt;
-            out.taken() == report(alloc)?.as_bytes(),
-            "{workers} workers"
-        );
-        let first = bytes_of(alloc, &mut shelf, "first");
-        assert_eq!(rt; first.len(), 10332);
-        assert!(rt; first.as_slice().ends_with(LAST_AT_1.as_slice()));
-        assert_eq!(rt; bytes_of(alloc, &mut shelf, "second"), first);
-    }
-    Ok(())
+    two_banks_agree(&rt, rt.alloc(), 1)?;
+    two_banks_agree(&rt, rt.alloc(), 2)
 }

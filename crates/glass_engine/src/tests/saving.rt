@@ -4,19 +4,15 @@ ghost use Rattle.std.specs.Prelude.{◌≡◌, ◌≢◌, ◌≤◌};
 ghost use Rattle.spin_model.specs.Limits.{last_epoch};
 ghost use Rattle.glass_engine.specs.declared.run.SaveKind.TheVariants as saves;
 
-use super::{AGAINST, ALL, ORDERS, UP, begun};
+use super::{ENDLESS, ORDERS, begun, holds, two_slots};
 use crate::{SaveKind, drive, save};
-use coupling_set::Couplings;
-use glass_edges::{Fetched, MemoryShelf, NoMemory, OpenGate, Shelf};
-use lattice_geometry::Lattice;
+use glass_edges::{Fetched, MemoryShelf, OpenGate, Shelf};
 use plane_sweep::Stand;
 use run_plan::check_amount;
-use scalar_rule::Plan;
 use std::alloc::Global;
 use std::sync::{Arc, Wait};
 use std::test::Fail;
 use std::thread::Threads;
-use threshold_table::{RuleKind, RuleTable, SwapTable};
 
 /// The last bytes of the checkpoints at epochs 1 and 2, by an independent program.
 const DIGEST_AT_1: [u8; 32] = [
@@ -29,17 +25,6 @@ const DIGEST_AT_2: [u8; 32] = [
     0x59, 0xae, 0x06, 0xb1, 0x6d, 0x13, 0xe1, 0x18, 0x7e, 0xc0, 0x6f, 0xde, 0x26, 0x29, 0x63, 0x3c,
 ];
 
-/// The plan of two slots that swap at each turn.
-pub(super) fn two_slots(alloc: Global) -> Result<Option<Plan>, NoMemory> {
-    let rules = RuleTable::from_rows(alloc, RuleKind::Heat, &[AGAINST, UP])?;
-    let swaps = SwapTable::from_rows(alloc, &[[ALL]])?;
-    let Ok(lattice) = Lattice::of(4) else {
-        return Ok(None);
-    };
-    let couplings = Couplings::plus(alloc, lattice)?;
-    Ok(Some(Plan::new(lattice, rules, swaps, couplings, 1, 7)))
-}
-
 /// A store in which two saves of a run of two slots are placed.
 fn placed_twice<R: Threads + Wait + Sync>(
     rt: &R,
@@ -47,7 +32,7 @@ fn placed_twice<R: Threads + Wait + Sync>(
     until: u64,
     takes: u64,
     kind: SaveKind,
-) -> Result<MemoryShelf, NoMemory>
+) -> Result<MemoryShelf, Fail>
     requires until { until ≤ last_epoch }
     requires takes { takes ≤ 32000000000 }
     requires whole { kind ≡ saves.Level → takes ≡ 32000000000 }
@@ -56,9 +41,9 @@ fn placed_twice<R: Threads + Wait + Sync>(
     let mut shelf = MemoryShelf::new(alloc, Vec::new(alloc));
     shelf.room("first", 20000)?;
     shelf.room("second", 20000)?;
-    let Some(plan) = two_slots(alloc)? else {
-        return Ok(shelf);
-    };
+    let plan = two_slots(alloc)?;
+    // A plan has a slot.
+    let _ = plan.slots();
     let stand = Stand::opening(alloc, &plan, ORDERS.start)?;
     if stand.epoch > until || check_amount(&plan, &ORDERS, stand.epoch, until).is_err() {
         return Ok(shelf);
@@ -79,33 +64,44 @@ pub(super) fn bytes_of(alloc: Global, shelf: &mut MemoryShelf, name: &str) -> Ve
     }
 }
 
+/// Fails where the first save of a run of two slots has not so many bytes and these last ones, or the second
+/// has others.
+fn saves<R: Threads + Wait + Sync>(
+    rt: &R,
+    alloc: Global,
+    until: u64,
+    takes: u64,
+    kind: SaveKind,
+    len: usize,
+    last: &[u8],
+) -> Result<(), Fail>
+    requires until { until ≤ last_epoch }
+    requires takes { takes ≤ 32000000000 }
+    requires whole { kind ≡ saves.Level → takes ≡ 32000000000 }
+    requires some { kind ≢ saves.Never }
+{
+    let mut shelf = placed_twice(rt, alloc, until, takes, kind)?;
+    let first = bytes_of(alloc, &mut shelf, "first");
+    let second = bytes_of(alloc, &mut shelf, "second");
+    holds("the length", first.len() == len)?;
+    holds("the last bytes", first.as_slice().ends_with(last))?;
+    holds("the second save", second == first)
+}
+
 #[test]
 fn a_second_save_places_the_same_bytes(rt: HostRuntime) -> Result<(), Fail> {
-    let alloc = rt.alloc();
-    let mut shelf = placed_twice(&rt, alloc, 1, 32000000000, SaveKind::Level)?;
-    let first = bytes_of(alloc, &mut shelf, "first");
-    assert_eq!(rt; first.len(), 10688);
-    assert!(rt; first.as_slice().ends_with(DIGEST_AT_1.as_slice()));
-    assert_eq!(rt; bytes_of(alloc, &mut shelf, "second"), first);
-    Ok(())
+    let last = DIGEST_AT_1.as_slice();
+    saves(&rt, rt.alloc(), 1, ENDLESS, SaveKind::Level, 10688, last)
 }
 
 #[test]
 fn save_at_the_epoch_behind_a_swap(rt: HostRuntime) -> Result<(), Fail> {
-    let alloc = rt.alloc();
-    let mut shelf = placed_twice(&rt, alloc, 2, 32000000000, SaveKind::Level)?;
-    let first = bytes_of(alloc, &mut shelf, "first");
-    assert!(rt; first.as_slice().ends_with(DIGEST_AT_2.as_slice()));
-    Ok(())
+    let last = DIGEST_AT_2.as_slice();
+    saves(&rt, rt.alloc(), 2, ENDLESS, SaveKind::Level, 10688, last)
 }
 
 // One slot waits, and its record is kept ahead.
 #[test]
 fn save_of_a_run_that_stops(rt: HostRuntime) -> Result<(), Fail> {
-    let alloc = rt.alloc();
-    let mut shelf = placed_twice(&rt, alloc, 2, 1, SaveKind::Ragged)?;
-    let first = bytes_of(alloc, &mut shelf, "first");
-    assert_eq!(rt; first.len(), 10728);
-    assert_eq!(rt; bytes_of(alloc, &mut shelf, "second"), first);
-    Ok(())
+    saves(&rt, rt.alloc(), 2, 1, SaveKind::Ragged, 10728, b"")
 }

@@ -2,7 +2,7 @@
 
 ghost use Rattle.std.specs.Prelude.{◌≡◌};
 
-use super::saving::two_slots;
+use super::{holds, two_slots};
 use crate::{SaveKind, drive, open, write_summary};
 use glass_edges::{MemorySink, OpenGate};
 use plane_sweep::{RaggedStand, Stand};
@@ -19,14 +19,18 @@ const ORDERS: Orders = Orders {
     spins: false,
 };
 
+const SUMMARY: &str = "demo 1 n=3 size=4 slots=2 samples=64 epochs=2
+slot,0,24576,64
+slot,1,-24576,64
+end,2
+";
+
 // In each sample the slots swapped at epoch 0 and not at epoch 1, so every replica is away.
 #[test]
 fn summary_of_two_slots(rt: HostRuntime) -> Result<(), Fail> {
     let alloc = rt.alloc();
     let mut out = MemorySink::new(alloc, 5000, 300, Vec::new(alloc))?;
-    let Some(plan) = two_slots(alloc)? else {
-        return Err("a lattice of size 4".into());
-    };
+    let plan = two_slots(alloc)?;
     // A plan has a slot.
     let _ = plan.slots();
     let stand = Stand::opening(alloc, &plan, ORDERS.start)?;
@@ -46,15 +50,6 @@ fn summary_of_two_slots(rt: HostRuntime) -> Result<(), Fail> {
         SaveKind::Never,
     )?;
     let done = drive(&rt, run, &plan, 1, &OpenGate);
-    assert!(rt; write_summary(&done, &plan, 3, &mut out).is_ok());
-    assert_eq!(rt;
-        out.taken(),
-        b"demo 1 n=3 size=4 slots=2 samples=64 epochs=2
-slot,0,24576,64
-slot,1,-24576,64
-end,2
-"
-            .as_slice()
-    );
-    Ok(())
+    let written = write_summary(&done, &plan, 3, &mut out).is_ok();
+    holds("the summary", written && out.taken() == SUMMARY.as_bytes())
 }
