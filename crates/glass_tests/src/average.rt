@@ -1,7 +1,8 @@
 //! The command `average`: the sums of a report, and each way in which a report is refused.
 
-use crate::called::{Called, ample, call, call_with, call_words_of, output};
-use crate::files::{RUN, changed, store};
+use crate::called::{call_on, empty};
+use crate::checkpoints;
+use crate::endings::{are_no_commands, holds, leaves_a_prefix, prints, refuses};
 use glass_edges::MemoryShelf;
 use std::sync::Wait;
 use std::test::Fail;
@@ -31,6 +32,8 @@ without,1,0,0,0,0,0
 end
 ";
 
+const LINE: &str = "average report.txt 1";
+
 // A store of one report, which fails at one call.
 fn shelf_failing<R: AllocGlobal>(rt: &R, report: &[u8], failing: u64) -> Result<MemoryShelf, Fail> {
     let mut shelf = MemoryShelf::new(rt.alloc(), [failing].to_vec(rt.alloc())?);
@@ -38,56 +41,59 @@ fn shelf_failing<R: AllocGlobal>(rt: &R, report: &[u8], failing: u64) -> Result<
     Ok(shelf)
 }
 
-// A call over a report.
-fn call_on<R: AllocGlobal + Threads + Wait + Sync>(
+// A store of the report of two slots, which fails at one call.
+fn two_slots_failing<R: AllocGlobal>(rt: &R, failing: u64) -> Result<MemoryShelf, Fail> {
+    let report = format!(in rt.alloc(); "{HEADER}{FIRST_ROW}{REST}")?;
+    shelf_failing(rt, report.as_bytes(), failing)
+}
+
+// A store of the report of two slots.
+fn two_slots<R: AllocGlobal>(rt: &R) -> Result<MemoryShelf, Fail> {
+    two_slots_failing(rt, u64::MAX)
+}
+
+// Fails where a report is not refused at a line.
+fn is_wrong_at<R: AllocGlobal + Threads + Wait + Sync>(
     rt: &R,
-    line: &str,
-    report: &str,
-) -> Result<Called, Fail> {
-    call_with(rt, line, shelf_failing(rt, report.as_bytes(), u64::MAX)?)
+    report: &[u8],
+    line: u32,
+) -> Result<(), Fail> {
+    let mut shelf = shelf_failing(rt, report, u64::MAX)?;
+    let told = format!(in rt.alloc(); "the report is wrong at line {line}")?;
+    refuses(rt, LINE, &mut shelf, 12, told.as_str())
 }
 
-// The report of two slots.
-fn two_slots<R: AllocGlobal>(rt: &R) -> Result<String, Fail> {
-    Ok(format!(in rt.alloc(); "{HEADER}{FIRST_ROW}{REST}")?)
-}
-
-// Whether the call told this line with this status, and wrote nothing.
-fn is_refused(called: &Called, status: u8, line: &str) -> bool {
-    called.status == status
-        && called.out.taken().is_empty()
-        && called.err.taken() == line.as_bytes()
+// Fails where a report of two slots that goes on so behind its first line is not refused at a line after it.
+fn is_wrong_behind<R: AllocGlobal + Threads + Wait + Sync>(
+    rt: &R,
+    behind: &str,
+    line: u32,
+) -> Result<(), Fail> {
+    let report = format!(in rt.alloc(); "{HEADER}{behind}")?;
+    is_wrong_at(rt, report.as_bytes(), line)
 }
 
 #[test]
 fn averages_of_a_report_of_two_slots(rt: HostRuntime) -> Result<(), Fail> {
-    let called = call_on(&rt, "average report.txt 1", two_slots(&rt)?.as_str())?;
-    assert_eq!(rt; called.status, 0);
-    assert_eq!(rt; called.out.taken(), SUMS.as_bytes());
-    assert!(rt; called.err.taken().is_empty());
-    Ok(())
+    prints(&rt, LINE, &mut two_slots(&rt)?, SUMS)
 }
 
 #[test]
 fn a_sample_is_no_two_blocks(rt: HostRuntime) -> Result<(), Fail> {
-    let called = call_on(&rt, "average report.txt 2", two_slots(&rt)?.as_str())?;
-    let line = "glass: the report has 1 samples, too few for 2 blocks\n";
-    assert!(rt; is_refused(&called, 12, line));
-    Ok(())
+    let told = "the report has 1 samples, too few for 2 blocks";
+    refuses(&rt, "average report.txt 2", &mut two_slots(&rt)?, 12, told)
 }
 
+// At 80 bytes.
 #[test]
 fn a_report_cut_behind_its_first_row(rt: HostRuntime) -> Result<(), Fail> {
-    let report = format!(in rt.alloc(); "{HEADER}{FIRST_ROW}")?;
-    assert_eq!(rt; report.len(), 80);
-    let called = call_on(&rt, "average report.txt 1", report.as_str())?;
-    assert!(rt; is_refused(&called, 12, "glass: the report is wrong at line 2\n"));
-    Ok(())
+    holds("80 bytes", HEADER.len() + FIRST_ROW.len() == 80)?;
+    is_wrong_behind(&rt, FIRST_ROW, 2)
 }
 
 #[test]
 fn bad_words_of_average(rt: HostRuntime) -> Result<(), Fail> {
-    for line in [
+    let lines = [
         "average",
         "average report.txt",
         "average report.txt 0",
@@ -96,14 +102,8 @@ fn bad_words_of_average(rt: HostRuntime) -> Result<(), Fail> {
         "average report.txt one",
         "average  1",
         "average --report.txt 1",
-    ] {
-        let called = call_on(&rt, line, two_slots(&rt)?.as_str())?;
-        assert!(rt;
-            is_refused(&called, 2, "glass: the command line is not understood\n"),
-            "{line}"
-        );
-    }
-    Ok(())
+    ];
+    are_no_commands(&rt, lines.as_slice(), &mut two_slots(&rt)?)
 }
 
 #[test]
@@ -125,93 +125,47 @@ fn each_kind_of_wrong_line_is_told_once(rt: HostRuntime) -> Result<(), Fail> {
         ("end,2\nspin,0,0,0,5a5aa5a55a5aa5a5\n", 3),
         ("end,2", 1),
     ] {
-        let report = format!(in rt.alloc(); "{HEADER}{behind}")?;
-        let told = format!(in rt.alloc(); "glass: the report is wrong at line {line}\n")?;
-        let called = call_on(&rt, "average report.txt 1", report.as_str())?;
-        assert!(rt; is_refused(&called, 12, told.as_str()), "{behind}");
+        is_wrong_behind(&rt, behind, line)?;
     }
     Ok(())
 }
 
 #[test]
 fn a_spin_line_too_many_and_an_empty_report(rt: HostRuntime) -> Result<(), Fail> {
-    let report = format!(in rt.alloc(); "{HEADER}{FIRST_ROW}{REST}spin,0,1,1,ffffffffffffffff\n")?;
-    let called = call_on(&rt, "average report.txt 1", report.as_str())?;
-    assert!(rt; is_refused(&called, 12, "glass: the report is wrong at line 10\n"));
-    let called = call_on(&rt, "average report.txt 1", "")?;
-    assert!(rt; is_refused(&called, 12, "glass: the report is wrong at line 0\n"));
-    Ok(())
+    let behind = format!(in rt.alloc(); "{FIRST_ROW}{REST}spin,0,1,1,ffffffffffffffff\n")?;
+    is_wrong_behind(&rt, behind.as_str(), 10)?;
+    is_wrong_at(&rt, b"", 0)
 }
 
 #[test]
 fn a_report_at_its_limit_and_past_it(rt: HostRuntime) -> Result<(), Fail> {
     let long = vec![in rt.alloc(); b'\n'; 67108865]?;
-    let called = call_with(
-        &rt,
-        "average report.txt 1",
-        shelf_failing(&rt, long.as_slice(), u64::MAX)?,
-    )?;
-    let line = "glass: the report is too long: 67108865 bytes\n";
-    assert!(rt; is_refused(&called, 12, line));
-    let called = call_with(
-        &rt,
-        "average report.txt 1",
-        shelf_failing(&rt, &long[1..], u64::MAX)?,
-    )?;
-    assert!(rt; is_refused(&called, 12, "glass: the report is wrong at line 0\n"));
-    Ok(())
+    let mut shelf = shelf_failing(&rt, long.as_slice(), u64::MAX)?;
+    let told = "the report is too long: 67108865 bytes";
+    refuses(&rt, LINE, &mut shelf, 12, told)?;
+    is_wrong_at(&rt, &long[1..], 0)
 }
 
 #[test]
 fn a_report_that_is_absent_or_unread(rt: HostRuntime) -> Result<(), Fail> {
-    let called = call(&rt, "average report.txt 1")?;
-    assert!(rt; is_refused(&called, 7, "glass: the report is not held\n"));
-    let report = two_slots(&rt)?;
-    let called = call_with(
-        &rt,
-        "average report.txt 1",
-        shelf_failing(&rt, report.as_bytes(), 0)?,
-    )?;
-    assert!(rt; is_refused(&called, 8, "glass: reading the report failed\n"));
-    Ok(())
+    refuses(&rt, LINE, &mut empty(&rt), 7, "the report is not held")?;
+    let mut unread = two_slots_failing(&rt, 0)?;
+    refuses(&rt, LINE, &mut unread, 8, "reading the report failed")
 }
 
 #[test]
 fn sums_that_can_not_be_written_leave_a_prefix(rt: HostRuntime) -> Result<(), Fail> {
-    let report = two_slots(&rt)?;
-    let called = call_words_of(
-        &rt,
-        "average report.txt 1",
-        shelf_failing(&rt, report.as_bytes(), u64::MAX)?,
-        output(&rt, 16, 1)?,
-        ample(&rt)?,
-    )?;
-    assert_eq!(rt; called.status, 9);
-    assert_eq!(rt; called.out.taken(), b"average 1 size=4".as_slice());
-    assert_eq!(rt;
-        called.err.taken(),
-        b"glass: writing the report failed\n".as_slice()
-    );
-    Ok(())
+    leaves_a_prefix(&rt, LINE, &mut two_slots(&rt)?, 16, 1, "average 1 size=4")
+}
+
+// A store of the report that a run of two slots prints.
+fn printed_by_a_run<R: AllocGlobal + Threads + Wait + Sync>(rt: &R) -> Result<MemoryShelf, Fail> {
+    let printed = call_on(rt, "run run.toml", &mut checkpoints::two_slots(rt)?)?;
+    shelf_failing(rt, printed.out.taken(), u64::MAX)
 }
 
 // What `run` prints is what `average` reads.
 #[test]
 fn the_report_of_a_run_is_read(rt: HostRuntime) -> Result<(), Fail> {
-    let rules = "4294967296,4294967296,4294967296,0,0,0,0\n0,0,0,0,0,0,4294967296\n";
-    let run = changed(&rt, RUN, "epochs = 1", "epochs = 2")?;
-    let printed = call_with(
-        &rt,
-        "run run.toml",
-        store(&rt, run.as_str(), rules, "4294967296\n")?,
-    )?;
-    assert_eq!(rt; printed.status, 0);
-    let called = call_with(
-        &rt,
-        "average report.txt 1",
-        shelf_failing(&rt, printed.out.taken(), u64::MAX)?,
-    )?;
-    assert_eq!(rt; called.status, 0);
-    assert_eq!(rt; called.out.taken(), SUMS.as_bytes());
-    Ok(())
+    prints(&rt, LINE, &mut printed_by_a_run(&rt)?, SUMS)
 }

@@ -2,8 +2,8 @@
 
 use crate::called::call_on;
 use crate::checkpoints::{bytes_of, ends_with, sealed, with_byte};
+use crate::endings::{holds, prints, refuses};
 use crate::files::{RUN, changed, store};
-use crate::resuming::{is_refused, printed};
 use glass_edges::MemoryShelf;
 use std::sync::Wait;
 use std::test::Fail;
@@ -56,74 +56,94 @@ const LAST_AT_1: [u8; 32] = [
     0xf6, 0x7b, 0x9e, 0x6a, 0xda, 0x67, 0x96, 0xc1, 0x36, 0x43, 0x0a, 0xb8, 0x1b, 0xaa, 0xf3, 0xd6,
 ];
 
-#[test]
-fn sixty_five_samples(rt: HostRuntime) -> Result<(), Fail> {
-    for line in [
-        "run run.toml --save c",
-        "run run.toml --save c --workers 2 --pieces 3",
-    ] {
-        let mut shelf = two_banks(&rt)?;
-        let called = call_on(&rt, line, &mut shelf)?;
-        assert!(rt;
-            printed(&called, report(&rt, 0, 1, ALL_UP)?.as_str()),
-            "{line}"
-        );
-        let saved = bytes_of(&rt, &mut shelf, "c");
-        assert_eq!(rt; saved.len(), TWO_BANKS);
-        assert!(rt; ends_with(saved.as_slice(), LAST_AT_1.as_slice()));
-        let called = call_on(&rt, "run run.toml --from c --until 2", &mut shelf)?;
-        assert!(rt;
-            printed(&called, report(&rt, 1, 2, ALL_UP)?.as_str()),
-            "{line}"
-        );
-    }
-    Ok(())
+// Fails where the checkpoint is not as long as one of two banks, or ends with other bytes.
+fn is_saved<R: AllocGlobal>(rt: &R, shelf: &mut MemoryShelf, last: &[u8]) -> Result<(), Fail> {
+    let saved = bytes_of(rt, shelf, "c");
+    holds("the checkpoint's length", saved.len() == TWO_BANKS)?;
+    holds("the checkpoint's digest", ends_with(saved.as_slice(), last))
 }
 
-// All samples of the file but the last have no negative bond, and the last has no other.
+// Fails where a run by these words does not print and save the run of 65 samples, or does not go on from it.
+fn saves_and_goes_on<R: AllocGlobal + Threads + Wait + Sync>(
+    rt: &R,
+    line: &str,
+) -> Result<(), Fail> {
+    let mut shelf = two_banks(rt)?;
+    prints(rt, line, &mut shelf, report(rt, 0, 1, ALL_UP)?.as_str())?;
+    is_saved(rt, &mut shelf, LAST_AT_1.as_slice())?;
+    let rest = report(rt, 1, 2, ALL_UP)?;
+    prints(
+        rt,
+        "run run.toml --from c --until 2",
+        &mut shelf,
+        rest.as_str(),
+    )
+}
+
 #[test]
-fn sixty_five_samples_with_couplings_file(rt: HostRuntime) -> Result<(), Fail> {
+fn sixty_five_samples(rt: HostRuntime) -> Result<(), Fail> {
+    saves_and_goes_on(&rt, "run run.toml --save c")?;
+    saves_and_goes_on(&rt, "run run.toml --save c --workers 2 --pieces 3")
+}
+
+// The bytes of a couplings file in which all samples but the last have no negative bond, and the last has no
+// other.
+fn couplings_of_65<R: AllocGlobal>(rt: &R) -> Result<Vec<u8>, Fail> {
     let head = [71u8, 76, 65, 83, 83, 67, 74, 49, 0, 0, 0, 4, 0, 0, 0, 65];
     let mut file = Vec::from_slice(rt.alloc(), head.as_slice())?;
     file.extend_from_slice([0u8; 1536].as_slice())?;
     file.extend_from_slice([255u8; 24].as_slice())?;
     file.extend_from_slice([0u8; 32].as_slice())?;
-    let file = sealed(&rt, file.as_slice())?;
-    assert_eq!(rt; file.len(), 1608);
-    let mut shelf = two_banks(&rt)?;
-    let run = changed(&rt, RUN, "samples = 1", "samples = 65")?;
-    let run = changed(&rt, run.as_str(), "\"plus\"", "\"file:j\"")?;
+    sealed(rt, file.as_slice())
+}
+
+// The store of a run with these couplings.
+fn two_banks_of_a_file<R: AllocGlobal>(rt: &R) -> Result<MemoryShelf, Fail> {
+    let file = couplings_of_65(rt)?;
+    holds("the couplings file's length", file.len() == 1608)?;
+    let mut shelf = two_banks(rt)?;
+    let run = changed(rt, RUN, "samples = 1", "samples = 65")?;
+    let run = changed(rt, run.as_str(), "\"plus\"", "\"file:j\"")?;
     shelf.add("run.toml", run.as_bytes())?;
     shelf.add("j", file.as_slice())?;
-    let called = call_on(&rt, "run run.toml --save c", &mut shelf)?;
-    assert!(rt; printed(&called, report(&rt, 0, 1, "5a5aa5a55a5aa5a5")?.as_str()));
-    assert_eq!(rt; bytes_of(&rt, &mut shelf, "c").len(), TWO_BANKS);
-    Ok(())
+    Ok(shelf)
+}
+
+#[test]
+fn sixty_five_samples_with_couplings_file(rt: HostRuntime) -> Result<(), Fail> {
+    let mut shelf = two_banks_of_a_file(&rt)?;
+    let text = report(&rt, 0, 1, "5a5aa5a55a5aa5a5")?;
+    prints(&rt, "run run.toml --save c", &mut shelf, text.as_str())?;
+    holds(
+        "two banks are saved",
+        bytes_of(&rt, &mut shelf, "c").len() == TWO_BANKS,
+    )
 }
 
 // The digest of the plans of two banks, by an independent program.
 #[test]
 fn check_prints_the_digest_of_two_banks(rt: HostRuntime) -> Result<(), Fail> {
-    let called = call_on(&rt, "check run.toml", &mut two_banks(&rt)?)?;
-    assert!(rt;
-        printed(
-            &called,
-            "plan 1 size=4 slots=1 samples=65 rule=heat sweeps=1 digest=995ff91c929bebd7e4ca501aec2effa0b6a67f395d3598e5d6dc20793dc0f805\n"
-        )
-    );
-    Ok(())
+    let text =
+        "plan 1 size=4 slots=1 samples=65 rule=heat sweeps=1 digest=995ff91c929bebd7e4ca501aec2effa0b6a67f395d3598e5d6dc20793dc0f805\n";
+    prints(&rt, "check run.toml", &mut two_banks(&rt)?, text)
 }
 
-// Whether a run to epoch 2 from these bytes is refused with this line.
-fn refuses<R: AllocGlobal + Threads + Wait + Sync>(
+// The store of that run with its checkpoint at epoch 1 as `c`.
+fn saved_at_1<R: AllocGlobal + Threads + Wait + Sync>(rt: &R) -> Result<MemoryShelf, Fail> {
+    let mut shelf = two_banks(rt)?;
+    call_on(rt, "run run.toml --save c", &mut shelf)?;
+    Ok(shelf)
+}
+
+// Fails where a run to epoch 2 from these bytes is not refused with this line.
+fn bytes_are_refused<R: AllocGlobal + Threads + Wait + Sync>(
     rt: &R,
     shelf: &mut MemoryShelf,
     bytes: &[u8],
-    line: &str,
-) -> Result<bool, Fail> {
+    told: &str,
+) -> Result<(), Fail> {
     shelf.add("e", bytes)?;
-    let called = call_on(rt, "run run.toml --from e --until 2", shelf)?;
-    is_refused(rt, &called, 6, line)
+    refuses(rt, "run run.toml --from e --until 2", shelf, 6, told)
 }
 
 // The first bytes, and those behind them; all are first where there are no more.
@@ -131,69 +151,86 @@ fn parted(bytes: &[u8], place: usize) -> (&[u8], &[u8]) {
     bytes.split_at(place.min(bytes.len()))
 }
 
+// The checkpoint with a wrong label of sample 5 of bank 1, whose own digest is made anew.
+fn with_wrong_label<R: AllocGlobal>(rt: &R, saved: &[u8]) -> Result<Vec<u8>, Fail> {
+    let other = with_byte(rt, saved, 12 + BANK + 56 + 5, 1)?;
+    let (front, rest) = parted(other.as_slice(), 12 + BANK);
+    let (bank, end) = parted(rest, BANK);
+    let mut joined = front.to_vec(rt.alloc())?;
+    joined.extend_from_slice(sealed(rt, bank)?.as_slice())?;
+    joined.extend_from_slice(end)?;
+    sealed(rt, joined.as_slice())
+}
+
 #[test]
 fn bank_count_is_checked(rt: HostRuntime) -> Result<(), Fail> {
-    let mut shelf = two_banks(&rt)?;
-    call_on(&rt, "run run.toml --save c", &mut shelf)?;
+    let mut shelf = saved_at_1(&rt)?;
     let saved = bytes_of(&rt, &mut shelf, "c");
-    let three = with_byte(&rt, saved.as_slice(), 11, 3)?;
-    let line = "the checkpoint has 3 banks, not 2";
-    assert!(rt; refuses(&rt, &mut shelf, three.as_slice(), line)?);
-    for (len, line) in [
+    let saved = saved.as_slice();
+    let three = with_byte(&rt, saved, 11, 3)?;
+    let told = "the checkpoint has 3 banks, not 2";
+    bytes_are_refused(&rt, &mut shelf, three.as_slice(), told)?;
+    for (len, told) in [
         (43, "the checkpoint is too short: 43 bytes"),
         (10331, "the checkpoint has 10331 bytes, not 10332"),
     ] {
-        let cut = parted(saved.as_slice(), len).0;
-        assert!(rt; refuses(&rt, &mut shelf, cut, line)?, "at {line}");
+        bytes_are_refused(&rt, &mut shelf, parted(saved, len).0, told)?;
     }
-    // A label of sample 5 of bank 1, whose own digest is made anew.
-    let other = with_byte(&rt, saved.as_slice(), 12 + BANK + 56 + 5, 1)?;
-    let (front, rest) = parted(other.as_slice(), 12 + BANK);
-    let (bank, end) = parted(rest, BANK);
-    let mut other = front.to_vec(rt.alloc())?;
-    other.extend_from_slice(sealed(&rt, bank)?.as_slice())?;
-    other.extend_from_slice(end)?;
-    let other = sealed(&rt, other.as_slice())?;
-    let line = "the checkpoint has a wrong replica at slot 0, copy 0, sample 5";
-    assert!(rt; refuses(&rt, &mut shelf, other.as_slice(), line)?);
-    Ok(())
+    let other = with_wrong_label(&rt, saved)?;
+    let told = "the checkpoint has a wrong replica at slot 0, copy 0, sample 5";
+    bytes_are_refused(&rt, &mut shelf, other.as_slice(), told)
+}
+
+// A checkpoint whose first bank is at epoch 1 and whose second is at epoch 2.
+fn banks_at_two_epochs<R: AllocGlobal + Threads + Wait + Sync>(
+    rt: &R,
+    shelf: &mut MemoryShelf,
+) -> Result<Vec<u8>, Fail> {
+    call_on(rt, "run run.toml --until 2 --save d", shelf)?;
+    let first = bytes_of(rt, shelf, "c");
+    let later = bytes_of(rt, shelf, "d");
+    let mut both = parted(first.as_slice(), 12 + BANK).0.to_vec(rt.alloc())?;
+    both.extend_from_slice(parted(later.as_slice(), 12 + BANK).1)?;
+    sealed(rt, both.as_slice())
 }
 
 #[test]
 fn banks_at_two_epochs_are_refused(rt: HostRuntime) -> Result<(), Fail> {
-    let mut shelf = two_banks(&rt)?;
-    call_on(&rt, "run run.toml --save c", &mut shelf)?;
-    call_on(&rt, "run run.toml --until 2 --save d", &mut shelf)?;
-    let (first, later) = (
-        bytes_of(&rt, &mut shelf, "c"),
-        bytes_of(&rt, &mut shelf, "d"),
-    );
-    let mut both = parted(first.as_slice(), 12 + BANK).0.to_vec(rt.alloc())?;
-    both.extend_from_slice(parted(later.as_slice(), 12 + BANK).1)?;
-    let both = sealed(&rt, both.as_slice())?;
-    let line = "the checkpoint has bank 1 at epoch 2, not 1";
-    assert!(rt; refuses(&rt, &mut shelf, both.as_slice(), line)?);
-    Ok(())
+    let mut shelf = saved_at_1(&rt)?;
+    let both = banks_at_two_epochs(&rt, &mut shelf)?;
+    let told = "the checkpoint has bank 1 at epoch 2, not 1";
+    bytes_are_refused(&rt, &mut shelf, both.as_slice(), told)
+}
+
+// Beside that run and its checkpoint, those of one bank: `d` at an epoch, and `e` between.
+fn one_bank_and_two<R: AllocGlobal + Threads + Wait + Sync>(rt: &R) -> Result<MemoryShelf, Fail> {
+    let mut shelf = saved_at_1(rt)?;
+    shelf.add("one.toml", RUN.as_bytes())?;
+    call_on(rt, "run one.toml --save d", &mut shelf)?;
+    call_on(rt, "run one.toml --stop-after 1 --save e", &mut shelf)?;
+    Ok(shelf)
 }
 
 // Of one bank for a run of two, and of two for a run of one.
 #[test]
 fn checkpoints_of_other_banks_are_refused(rt: HostRuntime) -> Result<(), Fail> {
-    let mut shelf = two_banks(&rt)?;
-    call_on(&rt, "run run.toml --save c", &mut shelf)?;
-    shelf.add("one.toml", RUN.as_bytes())?;
-    call_on(&rt, "run one.toml --save d", &mut shelf)?;
-    assert_eq!(rt; bytes_of(&rt, &mut shelf, "d").len(), BANK);
-    shelf.room("e", TWO_BANKS)?;
-    call_on(&rt, "run one.toml --stop-after 1 --save e", &mut shelf)?;
-    let line = "the checkpoint is of another kind";
-    for words in [
+    let mut shelf = one_bank_and_two(&rt)?;
+    holds(
+        "one bank is saved",
+        bytes_of(&rt, &mut shelf, "d").len() == BANK,
+    )?;
+    for line in [
         "run run.toml --from d",
         "run run.toml --from e",
         "run one.toml --from c",
     ] {
-        let called = call_on(&rt, words, &mut shelf)?;
-        assert!(rt; is_refused(&rt, &called, 6, line)?, "{words}");
+        refuses(
+            &rt,
+            line,
+            &mut shelf,
+            6,
+            "the checkpoint is of another kind",
+        )?;
     }
     Ok(())
 }
@@ -201,19 +238,29 @@ fn checkpoints_of_other_banks_are_refused(rt: HostRuntime) -> Result<(), Fail> {
 #[test]
 fn stop_after_refuses_banks(rt: HostRuntime) -> Result<(), Fail> {
     let mut shelf = two_banks(&rt)?;
-    let called = call_on(&rt, "run run.toml --stop-after 1 --save c", &mut shelf)?;
-    let line = "this command needs at most 64 samples, not 65";
-    assert!(rt; is_refused(&rt, &called, 3, line)?);
-    assert!(rt; bytes_of(&rt, &mut shelf, "c").is_empty());
-    Ok(())
+    let told = "this command needs at most 64 samples, not 65";
+    refuses(
+        &rt,
+        "run run.toml --stop-after 1 --save c",
+        &mut shelf,
+        3,
+        told,
+    )?;
+    holds(
+        "nothing is saved",
+        bytes_of(&rt, &mut shelf, "c").is_empty(),
+    )
 }
 
 #[test]
 fn samples_past_256_are_refused(rt: HostRuntime) -> Result<(), Fail> {
-    let mut shelf = two_banks(&rt)?;
     let run = changed(&rt, RUN, "samples = 1", "samples = 257")?;
-    shelf.add("run.toml", run.as_bytes())?;
-    let called = call_on(&rt, "run run.toml", &mut shelf)?;
-    assert!(rt; is_refused(&rt, &called, 3, "key samples is out of range: 257")?);
-    Ok(())
+    let mut shelf = store(&rt, run.as_str(), UP, "")?;
+    refuses(
+        &rt,
+        "run run.toml",
+        &mut shelf,
+        3,
+        "key samples is out of range: 257",
+    )
 }

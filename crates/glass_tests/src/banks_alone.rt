@@ -5,9 +5,11 @@ ghost use Rattle.std.specs.Prelude.{◌≡◌, ◌<◌, ◌≤◌, length};
 ghost use Rattle.scalar_rule.specs.Plan.{slots_of};
 ghost use Rattle.scalar_rule.specs.Shape.{Fits};
 
-use crate::called::{call_on, call_with};
-use crate::checkpoints::{bytes_of, ends_with};
+use crate::called::call_on;
+use crate::checkpoints::bytes_of;
+use crate::endings::holds;
 use crate::files::{changed, store};
+use crate::resuming::is_saved;
 use crate::samples_alone::{METROPOLIS, SWAPS, rows, rows_printed};
 use crate::sixteen_temperatures as sixteen;
 use coupling_set::Couplings;
@@ -15,7 +17,9 @@ use lattice_geometry::Lattice;
 use scalar_rule::{Plan, Record, Sample, Start};
 use sha2::{Digest, Sha256};
 use std::alloc::Global;
+use std::sync::Wait;
 use std::test::Fail;
+use std::thread::Threads;
 use threshold_table::{RuleKind, read_rule, read_swap};
 
 // The run file of so many samples of three slots, from a random start.
@@ -42,12 +46,13 @@ fn three_banks_with_random_couplings(rt: HostRuntime) -> Result<(), Fail> {
     let mut shelf = store(&rt, run.as_str(), METROPOLIS, SWAPS)?;
     shelf.room("c", 48740)?;
     let called = call_on(&rt, "run run.toml --workers 2 --save c", &mut shelf)?;
-    assert_eq!(rt; called.status, 0);
-    assert_eq!(rt; Sha256::digest(called.out.taken()), REPORT_OF_130);
-    let saved = bytes_of(&rt, &mut shelf, "c");
-    assert_eq!(rt; saved.len(), 48740);
-    assert!(rt; ends_with(saved.as_slice(), LAST_OF_130.as_slice()));
-    Ok(())
+    holds("status 0", called.status == 0)?;
+    holds(
+        "the report",
+        Sha256::digest(called.out.taken()) == REPORT_OF_130,
+    )?;
+    holds("the length", bytes_of(&rt, &mut shelf, "c").len() == 48740)?;
+    is_saved(&rt, &mut shelf, "c", LAST_OF_130.as_slice())
 }
 
 // The rows of a sample that goes on by itself from its bank's opening, of each `every`th epoch.
@@ -104,7 +109,7 @@ fn plan_of(
     Ok(Plan::new(lattice, rules, swaps, couplings, sweeps, seed))
 }
 
-// Whether a sample of a report has the rows of the same sample run by itself.
+// Fails where a sample of a report does not have the rows of the same sample run by itself.
 fn agrees(
     alloc: Global,
     report: &str,
@@ -112,7 +117,7 @@ fn agrees(
     sample: u32,
     epochs: u64,
     every: u64,
-) -> Result<bool, Fail>
+) -> Result<(), Fail>
     requires sample { sample < 256 }
     requires epochs { epochs ≤ 1000 }
     requires every { 1 ≤ every }
@@ -120,86 +125,84 @@ fn agrees(
     let name = format!(in alloc; "{sample}")?;
     let found = rows_printed(alloc, report, name.as_str())?;
     let alone = rows_alone(alloc, plan, sample, epochs, every)?;
-    Ok(!found.is_empty() && found.as_str() == alone.as_str())
+    holds(
+        name.as_str(),
+        !found.is_empty() && found.as_str() == alone.as_str(),
+    )
+}
+
+// The report of a run by these words, which ends with status 0.
+fn report_of<R: AllocGlobal + Threads + Wait + Sync>(
+    rt: &R,
+    line: &str,
+    run: &str,
+    rules: &str,
+    swaps: &str,
+) -> Result<String, Fail> {
+    let called = call_on(rt, line, &mut store(rt, run, rules, swaps)?)?;
+    holds("status 0", called.status == 0)?;
+    let report = std::str::from_utf8(called.out.taken())?;
+    Ok(String::from_str(rt.alloc(), report)?)
+}
+
+// Fails where the first and the last sample of the second bank at sixteen temperatures do not agree.
+fn second_bank_agrees(alloc: Global, report: &str, rules: &str, swaps: &str) -> Result<(), Fail> {
+    let lattice = Lattice::of(8)?;
+    let plan = plan_of(alloc, lattice, rules, swaps, 2, 20240611, 1)?;
+    agrees(alloc, report, &plan, 64, 20, 10)?;
+    agrees(alloc, report, &plan, 127, 20, 10)
 }
 
 // The files of sixteen temperatures at size 8.
 #[test]
 fn samples_of_the_second_bank_run_alone(rt: HostRuntime) -> Result<(), Fail> {
-    let alloc = rt.alloc();
     let run = changed(&rt, sixteen::RUN, "samples = 64", "samples = 128")?;
     let (rules, swaps) = (sixteen::rules(&rt)?, sixteen::swaps(&rt)?);
-    let shelf = store(&rt, run.as_str(), rules.as_str(), swaps.as_str())?;
-    let called = call_with(&rt, "run run.toml --workers 4", shelf)?;
-    assert_eq!(rt; called.status, 0);
-    let report = std::str::from_utf8(called.out.taken())?;
-    let lattice = Lattice::of(8)?;
-    let plan = plan_of(
-        alloc,
-        lattice,
-        rules.as_str(),
-        swaps.as_str(),
-        2,
-        20240611,
-        1,
-    )?;
-    for sample in [64, 127] {
-        assert!(rt;
-            agrees(alloc, report, &plan, sample, 20, 10)?,
-            "sample {sample}"
-        );
+    let (rules, swaps) = (rules.as_str(), swaps.as_str());
+    let report = report_of(&rt, "run run.toml --workers 4", run.as_str(), rules, swaps)?;
+    second_bank_agrees(rt.alloc(), report.as_str(), rules, swaps)
+}
+
+// Fails where four samples of a bank of three slots do not agree.
+fn bank_agrees(alloc: Global, report: &str, bank: u32) -> Result<(), Fail>
+    requires { bank < 4 }
+{
+    let lattice = Lattice::of(4)?;
+    let plan = plan_of(alloc, lattice, METROPOLIS, SWAPS, 2, 611, bank)?;
+    for bit in [0u32, 31, 32, 63] {
+        agrees(alloc, report, &plan, 64 * bank + bit, 3, 1)?;
     }
     Ok(())
 }
 
 #[test]
 fn samples_of_four_banks_run_alone(rt: HostRuntime) -> Result<(), Fail> {
-    let alloc = rt.alloc();
-    let run = random_run(alloc, 256, 3, 2)?;
-    let shelf = store(&rt, run.as_str(), METROPOLIS, SWAPS)?;
-    let called = call_with(&rt, "run run.toml --workers 3", shelf)?;
-    assert_eq!(rt; called.status, 0);
-    let report = std::str::from_utf8(called.out.taken())?;
-    let lattice = Lattice::of(4)?;
+    let run = random_run(rt.alloc(), 256, 3, 2)?;
+    let line = "run run.toml --workers 3";
+    let report = report_of(&rt, line, run.as_str(), METROPOLIS, SWAPS)?;
     for bank in 0..4u32 {
-        let plan = plan_of(alloc, lattice, METROPOLIS, SWAPS, 2, 611, bank)?;
-        for bit in [0u32, 31, 32, 63] {
-            let sample = 64 * bank + bit;
-            assert!(rt;
-                agrees(alloc, report, &plan, sample, 3, 1)?,
-                "sample {sample}"
-            );
-        }
+        bank_agrees(rt.alloc(), report.as_str(), bank)?;
     }
     Ok(())
 }
 
-// The rows of the samples below 64.
-fn rows_of_bank_0(alloc: Global, report: &str) -> Result<String, Fail> {
-    let mut text = String::new(alloc);
+// The rows of the samples below 64 of a run of so many samples.
+fn rows_of_bank_0<R: AllocGlobal + Threads + Wait + Sync>(
+    rt: &R,
+    samples: u32,
+) -> Result<String, Fail> {
+    let run = random_run(rt.alloc(), samples, 3, 1)?;
+    let report = report_of(rt, "run run.toml", run.as_str(), METROPOLIS, SWAPS)?;
+    let mut text = String::new(rt.alloc());
     for sample in 0..64u32 {
-        let name = format!(in alloc; "{sample}")?;
-        text.push_str(rows_printed(alloc, report, name.as_str())?.as_str())?;
+        let name = format!(in rt.alloc(); "{sample}")?;
+        text.push_str(rows_printed(rt.alloc(), report.as_str(), name.as_str())?.as_str())?;
     }
     Ok(text)
 }
 
 #[test]
 fn first_64_samples_are_those_of_a_run_of_64(rt: HostRuntime) -> Result<(), Fail> {
-    let alloc = rt.alloc();
-    let mut found = Vec::new(alloc);
-    for samples in [64, 200] {
-        let run = random_run(alloc, samples, 3, 1)?;
-        let called = call_with(
-            &rt,
-            "run run.toml",
-            store(&rt, run.as_str(), METROPOLIS, SWAPS)?,
-        )?;
-        assert_eq!(rt; called.status, 0);
-        let report = std::str::from_utf8(called.out.taken())?;
-        found.push(rows_of_bank_0(alloc, report)?)?;
-    }
-    let (first, second) = (found.first(), found.last());
-    assert!(rt; first.map(|rows| rows.as_str()) == second.map(|rows| rows.as_str()));
-    Ok(())
+    let (first, second) = (rows_of_bank_0(&rt, 64)?, rows_of_bank_0(&rt, 200)?);
+    holds("the same rows", first.as_str() == second.as_str())
 }

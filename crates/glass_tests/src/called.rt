@@ -39,7 +39,7 @@ fn words_of<R: AllocGlobal>(rt: &R, line: &str) -> Result<Vec<String>, Fail> {
 }
 
 /// A store that holds nothing.
-fn empty<R: AllocGlobal>(rt: &R) -> MemoryShelf {
+pub fn empty<R: AllocGlobal>(rt: &R) -> MemoryShelf {
     MemoryShelf::new(rt.alloc(), Vec::new(rt.alloc()))
 }
 

@@ -21,9 +21,14 @@ pub fn two_slots_failing<R: AllocGlobal>(rt: &R, failing: u64) -> Result<MemoryS
     Ok(shelf)
 }
 
-/// The same of a store that never fails, with the checkpoint `c` at epoch 1.
+/// The same of a store that never fails.
+pub fn two_slots<R: AllocGlobal>(rt: &R) -> Result<MemoryShelf, Fail> {
+    two_slots_failing(rt, u64::MAX)
+}
+
+/// The same with the checkpoint `c` at epoch 1.
 pub fn stopped_at_1<R: AllocGlobal + Threads + Wait + Sync>(rt: &R) -> Result<MemoryShelf, Fail> {
-    let mut shelf = two_slots_failing(rt, u64::MAX)?;
+    let mut shelf = two_slots(rt)?;
     call_on(rt, "run run.toml --until 1 --save c", &mut shelf)?;
     Ok(shelf)
 }

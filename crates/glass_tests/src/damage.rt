@@ -1,25 +1,23 @@
 //! Files that are wrong, of a small run and of one that goes on.
 
-use crate::called::call_on;
 use crate::checkpoints::{beginning, bytes_of, stopped_at_1, with_byte};
+use crate::endings::{refuses, refuses_with};
 use crate::files::{DOWN, RUN, changed, store};
-use crate::resuming::is_refused;
 use std::sync::Wait;
 use std::test::Fail;
 use std::thread::Threads;
 
-// Whether `check` and `run` over this run file and this rule table both tell this line.
+// Fails where `check` and `run` over this run file and this rule table do not both tell this line.
 fn both_refuse<R: AllocGlobal + Threads + Wait + Sync>(
     rt: &R,
     run: &str,
     rules: &str,
     status: u8,
-    line: &str,
-) -> Result<bool, Fail> {
+    told: &str,
+) -> Result<(), Fail> {
     let mut shelf = store(rt, run, rules, "")?;
-    let checked = call_on(rt, "check run.toml", &mut shelf)?;
-    let ran = call_on(rt, "run run.toml", &mut shelf)?;
-    Ok(is_refused(rt, &checked, status, line)? && is_refused(rt, &ran, status, line)?)
+    refuses(rt, "check run.toml", &mut shelf, status, told)?;
+    refuses(rt, "run run.toml", &mut shelf, status, told)
 }
 
 // The record of a rule table, 33 times.
@@ -34,23 +32,31 @@ fn records_33<R: AllocGlobal>(rt: &R) -> Result<String, Fail> {
 // Those of the changed checkpoints, couplings files and long files are in the tests of their commands.
 #[test]
 fn each_file_damaged_once(rt: HostRuntime) -> Result<(), Fail> {
-    let many = records_33(&rt)?;
-    for (rules, line) in [
+    let (many, run) = (records_33(&rt)?, changed(&rt, RUN, "size = 4", "size = ")?);
+    for (run, rules, status, told) in [
         (
+            RUN,
             "1,2,x,4,5,6,7\n",
+            4,
             "the rule table, record 0, field 2 is not a number",
         ),
         (
+            RUN,
             "1,2,3,,5,6,7\n",
+            4,
             "the rule table, record 0, field 3 is not a number",
         ),
-        (many.as_str(), "the rule table has 33 records, not 32"),
+        (
+            RUN,
+            many.as_str(),
+            4,
+            "the rule table has 33 records, not 32",
+        ),
+        (run.as_str(), DOWN, 3, "the run file is not TOML"),
+        ("size = ", DOWN, 3, "the run file is not TOML"),
     ] {
-        assert!(rt; both_refuse(&rt, RUN, rules, 4, line)?, "{line}");
+        both_refuse(&rt, run, rules, status, told)?;
     }
-    let run = changed(&rt, RUN, "size = 4", "size = ")?;
-    assert!(rt; both_refuse(&rt, run.as_str(), DOWN, 3, "the run file is not TOML")?);
-    assert!(rt; both_refuse(&rt, "size = ", DOWN, 3, "the run file is not TOML")?);
     Ok(())
 }
 
@@ -61,9 +67,8 @@ fn short_is_told_before_another_kind(rt: HostRuntime) -> Result<(), Fail> {
     let whole = bytes_of(&rt, &mut shelf, "c");
     let other = with_byte(&rt, whole.as_slice(), 0, 0)?;
     shelf.add("c", beginning(other.as_slice(), 87))?;
-    let called = call_on(&rt, "run run.toml --from c", &mut shelf)?;
-    assert!(rt; is_refused(&rt, &called, 6, "the checkpoint is too short: 87 bytes")?);
-    Ok(())
+    let told = "the checkpoint is too short: 87 bytes";
+    refuses(&rt, "run run.toml --from c", &mut shelf, 6, told)
 }
 
 // Of a checkpoint that is both damaged and of another plan the damage is told.
@@ -75,18 +80,8 @@ fn damage_is_told_before_another_plan(rt: HostRuntime) -> Result<(), Fail> {
     let whole = bytes_of(&rt, &mut shelf, "c");
     // the last sample of one spin word of slot 0's first copy
     let spin = whole.as_slice().get(400).copied().unwrap_or(0);
-    shelf.add(
-        "c",
-        with_byte(&rt, whole.as_slice(), 400, spin ^ 1)?.as_slice(),
-    )?;
-    let called = call_on(&rt, "run run.toml --from c", &mut shelf)?;
-    assert_eq!(rt; called.status, 6);
-    assert!(rt; called.out.taken().is_empty());
-    assert!(rt;
-        called
-            .err
-            .taken()
-            .starts_with(b"glass: the checkpoint is damaged: f5061320")
-    );
-    Ok(())
+    let other = with_byte(&rt, whole.as_slice(), 400, spin ^ 1)?;
+    shelf.add("c", other.as_slice())?;
+    let first = "glass: the checkpoint is damaged: f5061320";
+    refuses_with(&rt, "run run.toml --from c", &mut shelf, 6, first)
 }

@@ -1,6 +1,7 @@
 //! The command `demo`: its ten lines, the numbers that it takes, and a fault of the output.
 
-use crate::called::{Called, ample, call, call_over, output};
+use crate::called::empty;
+use crate::endings::{are_no_commands, leaves_a_prefix, prints, prints_first};
 use std::test::Fail;
 
 // By an independent program, which goes one spin at a time.
@@ -16,24 +17,17 @@ slot,7,-248652,44
 end,16
 ";
 
-// Whether the call did its work and told nothing.
-fn is_done(called: &Called) -> bool {
-    called.status == 0 && called.err.taken().is_empty()
-}
-
 #[test]
 fn demo_twice_is_equal(rt: HostRuntime) -> Result<(), Fail> {
     for _ in 0..2 {
-        let called = call(&rt, "demo 1")?;
-        assert!(rt; is_done(&called));
-        assert_eq!(rt; called.out.taken(), DEMO_1.as_bytes());
+        prints(&rt, "demo 1", &mut empty(&rt), DEMO_1)?;
     }
     Ok(())
 }
 
 #[test]
 fn least_and_greatest_number_have_a_demo(rt: HostRuntime) -> Result<(), Fail> {
-    for (line, header) in [
+    for (line, first) in [
         (
             "demo 00000000000000000000",
             "demo 1 n=0 size=16 slots=8 samples=64 epochs=16\nslot,0,-",
@@ -43,16 +37,14 @@ fn least_and_greatest_number_have_a_demo(rt: HostRuntime) -> Result<(), Fail> {
             "demo 1 n=1000000 size=16 slots=8 samples=64 epochs=16\nslot,0,-",
         ),
     ] {
-        let called = call(&rt, line)?;
-        assert!(rt; is_done(&called), "{line}");
-        assert!(rt; called.out.taken().starts_with(header.as_bytes()), "{line}");
+        prints_first(&rt, line, &mut empty(&rt), first)?;
     }
     Ok(())
 }
 
 #[test]
 fn bad_words_of_demo(rt: HostRuntime) -> Result<(), Fail> {
-    for line in [
+    let lines = [
         "demo",
         "demo ",
         "demo 1 1",
@@ -61,31 +53,13 @@ fn bad_words_of_demo(rt: HostRuntime) -> Result<(), Fail> {
         "demo one",
         "demo -1",
         "demo --n=1",
-    ] {
-        let called = call(&rt, line)?;
-        assert_eq!(rt; called.status, 2, "{line}");
-        assert!(rt; called.out.taken().is_empty(), "{line}");
-        assert_eq!(rt;
-            called.err.taken(),
-            b"glass: the command line is not understood\n".as_slice(),
-            "{line}"
-        );
-    }
-    Ok(())
+    ];
+    are_no_commands(&rt, lines.as_slice(), &mut empty(&rt))
 }
 
 // The output takes seven bytes at once and fails at the fifth put.
 #[test]
 fn write_fault_leaves_a_prefix_of_a_demo(rt: HostRuntime) -> Result<(), Fail> {
-    let called = call_over(&rt, "demo 1", output(&rt, 7, 4)?, ample(&rt)?)?;
-    assert_eq!(rt; called.status, 9);
-    assert_eq!(rt;
-        called.out.taken(),
-        b"demo 1 n=1 size=16 slots=8 s".as_slice()
-    );
-    assert_eq!(rt;
-        called.err.taken(),
-        b"glass: writing the report failed\n".as_slice()
-    );
-    Ok(())
+    let prefix = "demo 1 n=1 size=16 slots=8 s";
+    leaves_a_prefix(&rt, "demo 1", &mut empty(&rt), 7, 4, prefix)
 }

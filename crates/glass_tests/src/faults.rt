@@ -2,6 +2,7 @@
 
 use crate::called::{Called, call_on_over, output};
 use crate::checkpoints::{bytes_of, ends_with, stopped_at_1, two_slots_failing};
+use crate::endings::{ended, holds, is_unwritten};
 use crate::resuming::{DIGEST_AT_2, SPINS_AT_2, report};
 use glass_edges::{Fetched, MemoryShelf, Shelf};
 use std::sync::Wait;
@@ -56,12 +57,6 @@ fn same_untold<R: AllocGlobal + Threads + Wait + Sync>(
     )
 }
 
-// Whether a call ended with this status and told this line.
-fn tells<R: AllocGlobal>(rt: &R, called: &Called, status: u8, line: &str) -> Result<bool, Fail> {
-    let whole = format!(in rt.alloc(); "glass: {line}\n")?;
-    Ok(called.status == status && called.err.taken() == whole.as_bytes())
-}
-
 // The report of the run.
 fn whole<R: AllocGlobal>(rt: &R) -> Result<String, Fail> {
     report(rt, 1, 2, ROWS_AT_1, SPINS_AT_2)
@@ -87,89 +82,79 @@ fn are_as_before<R: AllocGlobal + Threads + Wait + Sync>(
     Ok(true)
 }
 
-// Whether a fetch that fails is told so, with nothing printed and the store as before.
+// Fails where a fetch that fails is not told so, with nothing printed and the store as before.
 fn fetch_fails<R: AllocGlobal + Threads + Wait + Sync>(
     rt: &R,
     call: u64,
-    line: &str,
-) -> Result<bool, Fail> {
+    told: &str,
+) -> Result<(), Fail> {
     let mut shelf = at_epoch_1(rt, call)?;
     let called = go_on(rt, &mut shelf, u64::MAX, u64::MAX)?;
-    Ok(
-        tells(rt, &called, 8, line)?
-            && called.out.taken().is_empty()
-            && is_absent(rt, &mut shelf, "d")
-            && are_as_before(rt, &mut shelf)?
-            && same_untold(rt, &called, call, u64::MAX)?,
-    )
-}
-
-// Whether a put that failed is told, with a prefix of the report printed and no checkpoint placed.
-fn is_unwritten<R: AllocGlobal + Threads + Wait + Sync>(
-    rt: &R,
-    called: &Called,
-    shelf: &mut MemoryShelf,
-) -> Result<bool, Fail> {
-    Ok(
-        tells(rt, called, 9, "writing the report failed")?
-            && whole(rt)?.as_bytes().starts_with(called.out.taken())
-            && is_absent(rt, shelf, "d")
-            && are_as_before(rt, shelf)?,
-    )
+    ended(rt, told, &called, 8, "", told)?;
+    holds(told, is_absent(rt, &mut shelf, "d"))?;
+    holds(told, are_as_before(rt, &mut shelf)?)?;
+    holds(told, same_untold(rt, &called, call, u64::MAX)?)
 }
 
 // Whether the report is whole and the checkpoint is placed.
-fn is_done<R: AllocGlobal>(rt: &R, called: &Called, shelf: &mut MemoryShelf) -> Result<bool, Fail> {
-    Ok(
-        called.status == 0
-            && called.out.taken() == whole(rt)?.as_bytes()
-            && called.err.taken().is_empty()
-            && ends_with(bytes_of(rt, shelf, "d").as_slice(), DIGEST_AT_2.as_slice()),
-    )
+fn is_done<R: AllocGlobal>(rt: &R, called: &Called, shelf: &mut MemoryShelf, report: &str) -> bool {
+    called.status == 0
+        && called.out.taken() == report.as_bytes()
+        && called.err.taken().is_empty()
+        && ends_with(bytes_of(rt, shelf, "d").as_slice(), DIGEST_AT_2.as_slice())
 }
 
-// Whether each put that fails is told, up to the first number that is past the last put.
-fn puts_fail<R: AllocGlobal + Threads + Wait + Sync>(rt: &R) -> Result<bool, Fail> {
-    for put in 0..64u64 {
-        let mut shelf = at_epoch_1(rt, u64::MAX)?;
-        let called = go_on(rt, &mut shelf, put, u64::MAX)?;
-        if !same_untold(rt, &called, u64::MAX, put)? {
-            return Ok(false);
-        }
-        if is_done(rt, &called, &mut shelf)? {
-            return Ok(whole(rt)?.len().div_ceil(MOST) as u64 <= put);
-        }
-        if !is_unwritten(rt, &called, &mut shelf)? {
-            return Ok(false);
-        }
+// Whether the run is done where the output fails at a put, which is past the last one then. Fails where a put
+// that failed is not told, with a prefix of the report printed, no checkpoint placed and the store as before.
+fn is_done_failing_at<R: AllocGlobal + Threads + Wait + Sync>(
+    rt: &R,
+    put: u64,
+    report: &str,
+) -> Result<bool, Fail> {
+    let mut shelf = at_epoch_1(rt, u64::MAX)?;
+    let called = go_on(rt, &mut shelf, put, u64::MAX)?;
+    holds("the same untold", same_untold(rt, &called, u64::MAX, put)?)?;
+    if is_done(rt, &called, &mut shelf, report) {
+        return Ok(true);
     }
+    is_unwritten(rt, "a put that failed", &called, report)?;
+    holds("no checkpoint", is_absent(rt, &mut shelf, "d"))?;
+    holds("the store as before", are_as_before(rt, &mut shelf)?)?;
     Ok(false)
 }
 
-// Whether a place that fails, the fifth call of the store, is told after the whole report, with the
+// Fails where one put that fails is not told, up to the first number that is past the last put.
+fn puts_fail<R: AllocGlobal + Threads + Wait + Sync>(rt: &R) -> Result<(), Fail> {
+    let report = whole(rt)?;
+    for put in 0..64u64 {
+        if is_done_failing_at(rt, put, report.as_str())? {
+            return holds("each put", report.len().div_ceil(MOST) as u64 <= put);
+        }
+    }
+    holds("the last put", false)
+}
+
+// Fails where a place that fails, the fifth call of the store, is not told after the whole report, with the
 // other names as before.
-fn place_fails<R: AllocGlobal + Threads + Wait + Sync>(rt: &R) -> Result<bool, Fail> {
+fn place_fails<R: AllocGlobal + Threads + Wait + Sync>(rt: &R) -> Result<(), Fail> {
     let mut shelf = at_epoch_1(rt, 4)?;
     let called = go_on(rt, &mut shelf, u64::MAX, u64::MAX)?;
-    Ok(
-        tells(rt, &called, 10, "placing the checkpoint failed")?
-            && called.out.taken() == whole(rt)?.as_bytes()
-            && are_as_before(rt, &mut shelf)?
-            && same_untold(rt, &called, 4, u64::MAX)?,
-    )
+    let told = "placing the checkpoint failed";
+    ended(rt, told, &called, 10, whole(rt)?.as_str(), told)?;
+    holds(told, are_as_before(rt, &mut shelf)?)?;
+    holds(told, same_untold(rt, &called, 4, u64::MAX)?)
 }
 
 #[test]
 fn each_read_and_write_fails_once(rt: HostRuntime) -> Result<(), Fail> {
-    for (call, line) in [
+    for (call, told) in [
         (0, "reading the run file failed"),
         (1, "reading the rule table failed"),
         (2, "reading the swap table failed"),
         (3, "reading the checkpoint failed"),
     ] {
-        assert!(rt; fetch_fails(&rt, call, line)?, "{line}");
+        fetch_fails(&rt, call, told)?;
     }
-    assert!(rt; puts_fail(&rt)?);
-    assert!(rt; place_fails(&rt)?);
-    Ok(())
+    puts_fail(&rt)?;
+    place_fails(&rt)
 }

@@ -24,6 +24,8 @@ mod damage;
 #[cfg(test)]
 mod demo;
 #[cfg(test)]
+mod endings;
+#[cfg(test)]
 mod faults;
 #[cfg(test)]
 mod files;

@@ -1,6 +1,7 @@
 //! The command `potts`: reports by a program of its own, the numbers that it takes, and a fault of the output.
 
-use crate::called::{Called, ample, call, call_over, output};
+use crate::called::empty;
+use crate::endings::{are_no_commands, leaves_a_prefix, prints, prints_lines};
 use std::test::Fail;
 
 const ORDERED: &str = "potts 4 1 7 1 plus zero 0 0 0 0 0 0";
@@ -28,11 +29,6 @@ spin,0,2220230121012223220032322333223033122212033133020112321201333123
 end
 ";
 
-// Whether the call did its work and told nothing.
-fn is_done(called: &Called) -> bool {
-    called.status == 0 && called.err.taken().is_empty()
-}
-
 #[test]
 fn potts_reports_equal_plain_runs(rt: HostRuntime) -> Result<(), Fail> {
     for (line, report) in [
@@ -46,9 +42,7 @@ fn potts_reports_equal_plain_runs(rt: HostRuntime) -> Result<(), Fail> {
             GREATEST_REPORT,
         ),
     ] {
-        let called = call(&rt, line)?;
-        assert!(rt; is_done(&called), "{line}");
-        assert_eq!(rt; called.out.taken(), report.as_bytes(), "{line}");
+        prints(&rt, line, &mut empty(&rt), report)?;
     }
     Ok(())
 }
@@ -60,81 +54,47 @@ fn potts_prints_up_to_64_samples(rt: HostRuntime) -> Result<(), Fail> {
         ("potts 4 0 0 1 random random 0 0 0 0 0 0", 4),
         ("potts 4 0 0 64 random random 0 0 0 0 0 0", 130),
     ] {
-        let called = call(&rt, line)?;
-        assert!(rt; is_done(&called), "{line}");
-        let ends = called
-            .out
-            .taken()
-            .iter()
-            .filter(|byte| **byte == b'\n')
-            .count();
-        assert_eq!(rt; ends, lines, "{line}");
+        prints_lines(&rt, line, &mut empty(&rt), lines)?;
     }
     Ok(())
 }
 
 #[test]
 fn bad_words_of_potts(rt: HostRuntime) -> Result<(), Fail> {
-    for (case, line) in [
-        ("no word", "potts"),
-        ("eleven words", "potts 4 1 7 1 plus zero 0 0 0 0 0"),
-        ("thirteen words", "potts 4 1 7 1 plus zero 0 0 0 0 0 0 0"),
-        ("65 samples", "potts 4 1 7 65 plus zero 0 0 0 0 0 0"),
-        ("no sample", "potts 4 1 7 0 plus zero 0 0 0 0 0 0"),
-        ("an odd size", "potts 5 1 7 1 plus zero 0 0 0 0 0 0"),
-        ("a size too small", "potts 2 1 7 1 plus zero 0 0 0 0 0 0"),
-        ("a size too great", "potts 66 1 7 1 plus zero 0 0 0 0 0 0"),
-        (
-            "too many sweeps",
-            "potts 4 1000001 7 1 plus zero 0 0 0 0 0 0",
-        ),
-        (
-            "a seed too great",
-            "potts 4 1 9223372036854775808 1 plus zero 0 0 0 0 0 0",
-        ),
-        ("other couplings", "potts 4 1 7 1 minus zero 0 0 0 0 0 0"),
-        (
-            "couplings of a file",
-            "potts 4 1 7 1 file:c zero 0 0 0 0 0 0",
-        ),
-        ("a capital letter", "potts 4 1 7 1 Plus zero 0 0 0 0 0 0"),
-        ("a longer word", "potts 4 1 7 1 randomly zero 0 0 0 0 0 0"),
-        ("another start", "potts 4 1 7 1 plus up 0 0 0 0 0 0"),
-        ("an empty start", "potts 4 1 7 1 plus  0 0 0 0 0 0"),
-        (
-            "a first threshold too great",
-            "potts 4 1 7 1 plus zero 4294967297 0 0 0 0 0",
-        ),
-        (
-            "a last threshold too great",
-            "potts 4 1 7 1 plus zero 0 0 0 0 0 4294967297",
-        ),
-        ("a letter", "potts 4 1 7 1 plus zero 0 0 x 0 0 0"),
-    ] {
-        let called = call(&rt, line)?;
-        assert_eq!(rt; called.status, 2, "at {case}");
-        assert!(rt; called.out.taken().is_empty(), "at {case}");
-        assert_eq!(rt;
-            called.err.taken(),
-            b"glass: the command line is not understood\n".as_slice(),
-            "at {case}"
-        );
-    }
-    Ok(())
+    let lines = [
+        // no word, eleven words, thirteen
+        "potts",
+        "potts 4 1 7 1 plus zero 0 0 0 0 0",
+        "potts 4 1 7 1 plus zero 0 0 0 0 0 0 0",
+        // 65 samples, and none
+        "potts 4 1 7 65 plus zero 0 0 0 0 0 0",
+        "potts 4 1 7 0 plus zero 0 0 0 0 0 0",
+        // a size that is odd, too small, too great
+        "potts 5 1 7 1 plus zero 0 0 0 0 0 0",
+        "potts 2 1 7 1 plus zero 0 0 0 0 0 0",
+        "potts 66 1 7 1 plus zero 0 0 0 0 0 0",
+        // too many sweeps, a seed too great
+        "potts 4 1000001 7 1 plus zero 0 0 0 0 0 0",
+        "potts 4 1 9223372036854775808 1 plus zero 0 0 0 0 0 0",
+        // couplings that are others, of a file, with a capital letter, of a longer word
+        "potts 4 1 7 1 minus zero 0 0 0 0 0 0",
+        "potts 4 1 7 1 file:c zero 0 0 0 0 0 0",
+        "potts 4 1 7 1 Plus zero 0 0 0 0 0 0",
+        "potts 4 1 7 1 randomly zero 0 0 0 0 0 0",
+        // another start, an empty one
+        "potts 4 1 7 1 plus up 0 0 0 0 0 0",
+        "potts 4 1 7 1 plus  0 0 0 0 0 0",
+        // a first and a last threshold too great, a letter
+        "potts 4 1 7 1 plus zero 4294967297 0 0 0 0 0",
+        "potts 4 1 7 1 plus zero 0 0 0 0 0 4294967297",
+        "potts 4 1 7 1 plus zero 0 0 x 0 0 0",
+    ];
+    are_no_commands(&rt, lines.as_slice(), &mut empty(&rt))
 }
 
 // The output takes seven bytes at once and fails at the fifth put.
 #[test]
 fn write_fault_leaves_a_prefix_of_a_potts_report(rt: HostRuntime) -> Result<(), Fail> {
-    let called = call_over(&rt, ORDERED, output(&rt, 7, 4)?, ample(&rt)?)?;
-    assert_eq!(rt; called.status, 9);
-    assert_eq!(rt;
-        called.out.taken(),
-        b"potts 1 size=4 sweeps=1 seed".as_slice()
-    );
-    assert_eq!(rt;
-        called.err.taken(),
-        b"glass: writing the report failed\n".as_slice()
-    );
-    Ok(())
+    let prefix = "potts 1 size=4 sweeps=1 seed";
+    leaves_a_prefix(&rt, ORDERED, &mut empty(&rt), 7, 4, prefix)
 }

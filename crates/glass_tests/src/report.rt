@@ -1,42 +1,27 @@
 //! The command `run`: reports of small runs.
 
-use crate::called::{ample, call_with, call_words_of, output};
+use crate::endings::{are_no_commands, leaves_a_prefix, prints, prints_first, refuses};
 use crate::files::{DOWN, RUN, changed, store, store_failing};
+use glass_edges::MemoryShelf;
 use std::sync::Wait;
 use std::test::Fail;
 use std::thread::Threads;
+
+const LINE: &str = "run run.toml";
 
 const UP: &str = "0,0,0,0,0,0,4294967296\n";
 
 const ALTERNATING: &str = "4294967296,4294967296,4294967296,0,0,0,0\n";
 
-// Whether a run by these words, over these files, ends with status 0, this report, and nothing on the
-// error output.
-fn prints_by<R: AllocGlobal + Threads + Wait + Sync>(
-    rt: &R,
-    line: &str,
-    run: &str,
-    rules: &str,
-    swaps: &str,
-    report: &str,
-) -> Result<bool, Fail> {
-    let called = call_with(rt, line, store(rt, run, rules, swaps)?)?;
-    Ok(
-        called.status == 0
-            && called.out.taken() == report.as_bytes()
-            && called.err.taken().is_empty(),
-    )
-}
-
-// Whether one worker prints this report, each colour in one piece.
-fn prints<R: AllocGlobal + Threads + Wait + Sync>(
+// Fails where one worker prints another report than this, each colour in one piece.
+fn run_prints<R: AllocGlobal + Threads + Wait + Sync>(
     rt: &R,
     run: &str,
     rules: &str,
     swaps: &str,
     report: &str,
-) -> Result<bool, Fail> {
-    prints_by(rt, "run run.toml", run, rules, swaps, report)
+) -> Result<(), Fail> {
+    prints(rt, LINE, &mut store(rt, run, rules, swaps)?, report)
 }
 
 // The report of one slot and one epoch: its row, and the spins of both replicas.
@@ -46,9 +31,23 @@ fn one_row<R: AllocGlobal>(rt: &R, rule: &str, row: &str, spins: &str) -> Result
     )?)
 }
 
-// The run file of two epochs of two slots.
-fn two_epochs<R: AllocGlobal>(rt: &R) -> Result<String, Fail> {
-    changed(rt, RUN, "epochs = 1", "epochs = 2")
+// Fails where a run of one slot by a rule and its table prints another row or other spins.
+fn run_prints_row<R: AllocGlobal + Threads + Wait + Sync>(
+    rt: &R,
+    rule: &str,
+    rules: &str,
+    row: &str,
+    spins: &str,
+) -> Result<(), Fail> {
+    let run = changed(rt, RUN, "heat", rule)?;
+    let report = one_row(rt, rule, row, spins)?;
+    run_prints(rt, run.as_str(), rules, "", report.as_str())
+}
+
+// The run file with a change, that prints no spins.
+fn without_spins<R: AllocGlobal>(rt: &R, old: &str, new: &str) -> Result<String, Fail> {
+    let run = changed(rt, RUN, old, new)?;
+    changed(rt, run.as_str(), "spins = true", "spins = false")
 }
 
 // One record of so many entries that are always met.
@@ -63,84 +62,72 @@ fn always<R: AllocGlobal>(rt: &R, entries: u32) -> Result<String, Fail> {
 
 #[test]
 fn report_of_all_down(rt: HostRuntime) -> Result<(), Fail> {
-    let report = one_row(&rt, "heat", "-192,-192,64", "0000000000000000")?;
-    assert!(rt; prints(&rt, RUN, DOWN, "", report.as_str())?);
-    Ok(())
+    run_prints_row(&rt, "heat", DOWN, "-192,-192,64", "0000000000000000")
 }
 
 #[test]
 fn report_of_all_up(rt: HostRuntime) -> Result<(), Fail> {
-    let report = one_row(&rt, "heat", "-192,-192,64", "ffffffffffffffff")?;
-    assert!(rt; prints(&rt, RUN, UP, "", report.as_str())?);
-    Ok(())
+    run_prints_row(&rt, "heat", UP, "-192,-192,64", "ffffffffffffffff")
 }
 
 #[test]
 fn report_of_checkerboard_order(rt: HostRuntime) -> Result<(), Fail> {
-    let report = one_row(&rt, "heat", "192,192,64", "5a5aa5a55a5aa5a5")?;
-    assert!(rt; prints(&rt, RUN, ALTERNATING, "", report.as_str())?);
-    Ok(())
+    run_prints_row(&rt, "heat", ALTERNATING, "192,192,64", "5a5aa5a55a5aa5a5")
 }
 
 #[test]
 fn metropolis_at_zero_threshold_keeps(rt: HostRuntime) -> Result<(), Fail> {
-    let run = changed(&rt, RUN, "heat", "metropolis")?;
-    let report = one_row(&rt, "metropolis", "-192,-192,64", "ffffffffffffffff")?;
-    assert!(rt; prints(&rt, run.as_str(), "0,0,0\n", "", report.as_str())?);
-    Ok(())
+    run_prints_row(
+        &rt,
+        "metropolis",
+        "0,0,0\n",
+        "-192,-192,64",
+        "ffffffffffffffff",
+    )
 }
 
 #[test]
 fn metropolis_full_threshold_flips_both_colours(rt: HostRuntime) -> Result<(), Fail> {
-    let run = changed(&rt, RUN, "heat", "metropolis")?;
-    let report = one_row(&rt, "metropolis", "-192,-192,64", "0000000000000000")?;
-    assert!(rt; prints(&rt, run.as_str(), "0,0,4294967296\n", "", report.as_str())?);
-    Ok(())
+    let rules = "0,0,4294967296\n";
+    run_prints_row(&rt, "metropolis", rules, "-192,-192,64", "0000000000000000")
 }
 
-// Whether two slots, the first of them at its lowest energy and the second at its highest, change
-// places after epoch 0.
+// Fails where two slots, the first of them at its lowest energy and the second at its highest, change
+// places after epoch 0 and are not to, or the other way round.
 fn swaps_at_epoch_0<R: AllocGlobal + Threads + Wait + Sync>(
     rt: &R,
     entries: u32,
     swapped: bool,
-) -> Result<bool, Fail> {
+) -> Result<(), Fail> {
     let rules = format!(in rt.alloc(); "{UP}{ALTERNATING}")?;
-    let run = changed(
-        rt,
-        two_epochs(rt)?.as_str(),
-        "spins = true",
-        "spins = false",
-    )?;
+    let run = without_spins(rt, "epochs = 1", "epochs = 2")?;
     let (cold, hot) = if swapped { (1, 0) } else { (0, 1) };
     let report = format!(in rt.alloc();
         "glass 1 size=4 slots=2 samples=1 rule=heat from=0 to=2\nrow,0,0,0,-192,-192,64,0,0\nrow,0,0,1,192,192,64,1,1\nrow,1,0,0,-192,-192,64,{cold},{cold}\nrow,1,0,1,192,192,64,{hot},{hot}\nend,2\n"
     )?;
-    prints(
+    let swaps = always(rt, entries)?;
+    run_prints(
         rt,
         run.as_str(),
         rules.as_str(),
-        always(rt, entries)?.as_str(),
+        swaps.as_str(),
         report.as_str(),
     )
 }
 
 #[test]
 fn gap_past_swap_record_never_swaps(rt: HostRuntime) -> Result<(), Fail> {
-    assert!(rt; swaps_at_epoch_0(&rt, 1, false)?);
-    Ok(())
+    swaps_at_epoch_0(&rt, 1, false)
 }
 
 #[test]
 fn gap_at_last_entry_swaps_at_epoch_0(rt: HostRuntime) -> Result<(), Fail> {
-    assert!(rt; swaps_at_epoch_0(&rt, 96, true)?);
-    Ok(())
+    swaps_at_epoch_0(&rt, 96, true)
 }
 
 #[test]
 fn gap_one_past_last_entry_stays(rt: HostRuntime) -> Result<(), Fail> {
-    assert!(rt; swaps_at_epoch_0(&rt, 95, false)?);
-    Ok(())
+    swaps_at_epoch_0(&rt, 95, false)
 }
 
 const HOTTER_FIRST: &str = "glass 1 size=4 slots=2 samples=1 rule=heat from=0 to=2
@@ -155,54 +142,37 @@ spin,0,1,0,ffffffffffffffff
 spin,0,1,1,ffffffffffffffff
 ";
 
-#[test]
-fn hotter_first_slot_swaps_at_epoch_0(rt: HostRuntime) -> Result<(), Fail> {
+// The store of that run.
+fn hotter_first<R: AllocGlobal>(rt: &R) -> Result<MemoryShelf, Fail> {
     let rules = format!(in rt.alloc(); "{ALTERNATING}{UP}")?;
-    let run = two_epochs(&rt)?;
-    assert!(rt;
-        prints(
-            &rt,
-            run.as_str(),
-            rules.as_str(),
-            "4294967296\n",
-            HOTTER_FIRST
-        )?
-    );
-    Ok(())
+    let run = changed(rt, RUN, "epochs = 1", "epochs = 2")?;
+    store(rt, run.as_str(), rules.as_str(), "4294967296\n")
 }
 
-// The words of a run by so many workers and pieces.
-fn shared_run<R: AllocGlobal>(rt: &R, workers: u32, pieces: u32) -> Result<String, Fail> {
-    Ok(format!(in rt.alloc(); "run run.toml --workers {workers} --pieces {pieces}")?)
+#[test]
+fn hotter_first_slot_swaps_at_epoch_0(rt: HostRuntime) -> Result<(), Fail> {
+    prints(&rt, LINE, &mut hotter_first(&rt)?, HOTTER_FIRST)
+}
+
+// Fails where a run by so many workers and pieces prints otherwise.
+fn shared_run_prints<R: AllocGlobal + Threads + Wait + Sync>(
+    rt: &R,
+    workers: u32,
+    pieces: u32,
+    shelf: &mut MemoryShelf,
+    report: &str,
+) -> Result<(), Fail> {
+    let line = format!(in rt.alloc(); "run run.toml --workers {workers} --pieces {pieces}")?;
+    prints(rt, line.as_str(), shelf, report)
 }
 
 #[test]
 fn workers_and_pieces_leave_the_bytes_equal(rt: HostRuntime) -> Result<(), Fail> {
-    let rules = format!(in rt.alloc(); "{ALTERNATING}{UP}")?;
-    let run = two_epochs(&rt)?;
-    for (workers, pieces) in [
-        (1, 1),
-        (1, 3),
-        (1, 16),
-        (2, 1),
-        (2, 3),
-        (2, 16),
-        (7, 1),
-        (7, 3),
-        (7, 16),
-    ] {
-        let line = shared_run(&rt, workers, pieces)?;
-        assert!(rt;
-            prints_by(
-                &rt,
-                line.as_str(),
-                run.as_str(),
-                rules.as_str(),
-                "4294967296\n",
-                HOTTER_FIRST
-            )?,
-            "{line}"
-        );
+    let mut shelf = hotter_first(&rt)?;
+    for workers in [1, 2, 7] {
+        for pieces in [1, 3, 16] {
+            shared_run_prints(&rt, workers, pieces, &mut shelf, HOTTER_FIRST)?;
+        }
     }
     Ok(())
 }
@@ -210,68 +180,53 @@ fn workers_and_pieces_leave_the_bytes_equal(rt: HostRuntime) -> Result<(), Fail>
 // A lattice whose planes are forked.
 #[test]
 fn pieces_of_a_great_lattice_leave_the_bytes_equal(rt: HostRuntime) -> Result<(), Fail> {
-    let run = changed(
-        &rt,
-        changed(&rt, RUN, "size = 4", "size = 48")?.as_str(),
-        "spins = true",
-        "spins = false",
-    )?;
+    let run = without_spins(&rt, "size = 4", "size = 48")?;
+    let mut shelf = store(&rt, run.as_str(), DOWN, "")?;
+    let report =
+        "glass 1 size=48 slots=1 samples=1 rule=heat from=0 to=1\nrow,0,0,0,-331776,-331776,110592,0,0\nend,1\n";
     for pieces in [1, 3, 16] {
-        let line = shared_run(&rt, 2, pieces)?;
-        assert!(rt;
-            prints_by(
-                &rt,
-                line.as_str(),
-                run.as_str(),
-                DOWN,
-                "",
-                "glass 1 size=48 slots=1 samples=1 rule=heat from=0 to=1\nrow,0,0,0,-331776,-331776,110592,0,0\nend,1\n"
-            )?,
-            "{line}"
-        );
+        shared_run_prints(&rt, 2, pieces, &mut shelf, report)?;
     }
     Ok(())
 }
+
+const EQUAL_ENERGIES: &str = "glass 1 size=4 slots=3 samples=1 rule=heat from=0 to=3
+row,0,0,0,-192,-192,64,0,0
+row,0,0,1,-192,-192,64,1,1
+row,0,0,2,-192,-192,64,2,2
+row,1,0,0,-192,-192,64,1,1
+row,1,0,1,-192,-192,64,0,0
+row,1,0,2,-192,-192,64,2,2
+row,2,0,0,-192,-192,64,1,1
+row,2,0,1,-192,-192,64,2,2
+row,2,0,2,-192,-192,64,0,0
+end,3
+";
 
 #[test]
 fn equal_energies_swap_by_epoch_parity(rt: HostRuntime) -> Result<(), Fail> {
     let rules = format!(in rt.alloc(); "{UP}{UP}{UP}")?;
-    let run = changed(
-        &rt,
-        changed(&rt, RUN, "epochs = 1", "epochs = 3")?.as_str(),
-        "spins = true",
-        "spins = false",
-    )?;
-    let mut report = String::from_str(
-        rt.alloc(),
-        "glass 1 size=4 slots=3 samples=1 rule=heat from=0 to=3\n",
-    )?;
-    for (epoch, labels) in [(0, [0, 1, 2]), (1, [1, 0, 2]), (2, [1, 2, 0])] {
-        for slot in 0..3usize {
-            let label = labels[slot];
-            report.push_str(format!(in rt.alloc();
-                "row,{epoch},0,{slot},-192,-192,64,{label},{label}\n"
-            )?.as_str())?;
-        }
-    }
-    report.push_str("end,3\n")?;
-    assert!(rt; prints(&rt, run.as_str(), rules.as_str(), "0\n0\n", report.as_str())?);
-    Ok(())
+    let run = without_spins(&rt, "epochs = 1", "epochs = 3")?;
+    run_prints(&rt, run.as_str(), rules.as_str(), "0\n0\n", EQUAL_ENERGIES)
+}
+
+// The files of the run whose spins all turn down.
+fn all_down<R: AllocGlobal>(rt: &R) -> Result<MemoryShelf, Fail> {
+    store(rt, RUN, DOWN, "")
 }
 
 #[test]
 fn options_in_either_form_and_bad_command_lines(rt: HostRuntime) -> Result<(), Fail> {
+    let mut shelf = all_down(&rt)?;
     let report = one_row(&rt, "heat", "-192,-192,64", "0000000000000000")?;
     for line in [
         "run run.toml --workers=2 --until 1",
         "run --until=1 run.toml --workers 2 --pieces 16",
         "run run.toml --workers 064 --pieces=1",
     ] {
-        let called = call_with(&rt, line, store(&rt, RUN, DOWN, "")?)?;
-        assert_eq!(rt; called.status, 0, "{line}");
-        assert_eq!(rt; called.out.taken(), report.as_bytes(), "{line}");
+        prints(&rt, line, &mut shelf, report.as_str())?;
     }
-    for line in [
+    let bad = [
         "run",
         "run ",
         "run b c",
@@ -289,90 +244,53 @@ fn options_in_either_form_and_bad_command_lines(rt: HostRuntime) -> Result<(), F
         "run b --save=",
         "run b --save c --save c",
         "run b --seed 1",
-    ] {
-        let called = call_with(&rt, line, store(&rt, RUN, DOWN, "")?)?;
-        assert_eq!(rt; called.status, 2, "{line}");
-        assert!(rt; called.out.taken().is_empty(), "{line}");
-    }
-    Ok(())
+    ];
+    are_no_commands(&rt, bad.as_slice(), &mut shelf)
 }
+
+// The words of a run that would print a row too many.
+const TOO_MANY: &str = "run run.toml --until 4194305";
 
 #[test]
 fn until_and_amounts(rt: HostRuntime) -> Result<(), Fail> {
-    let called = call_with(&rt, "run run.toml --until 0", store(&rt, RUN, DOWN, "")?)?;
-    assert_eq!(rt; called.status, 0);
-    assert!(rt;
-        called.out.taken().starts_with(
-            b"glass 1 size=4 slots=1 samples=1 rule=heat from=0 to=0\nend,0\nspin,0,0,0,ffffffffffffffff\n"
-        )
-    );
-    let called = call_with(
-        &rt,
-        "run run.toml --until 4194305",
-        store(&rt, RUN, DOWN, "")?,
-    )?;
-    assert_eq!(rt; called.status, 3);
-    assert_eq!(rt;
-        called.err.taken(),
-        b"glass: too many rows: 4194305\n".as_slice()
-    );
-    Ok(())
+    let mut shelf = all_down(&rt)?;
+    let first =
+        "glass 1 size=4 slots=1 samples=1 rule=heat from=0 to=0\nend,0\nspin,0,0,0,ffffffffffffffff\n";
+    prints_first(&rt, "run run.toml --until 0", &mut shelf, first)?;
+    refuses(&rt, TOO_MANY, &mut shelf, 3, "too many rows: 4194305")
 }
 
 // Of a run whose rule table and whose amount are both refused the table is told, and of one whose
 // swap table is.
 #[test]
 fn refused_table_is_told_before_a_too_large_amount(rt: HostRuntime) -> Result<(), Fail> {
-    for (rules, swaps, line) in [
-        (
-            "0,0,4294967297,0,0,0,0\n",
-            "",
-            "glass: the rule table, record 0, field 2 is too great: 4294967297\n",
-        ),
-        (
-            "0,0,0,0,0,0,0\n0,0,0,0,0,0,0\n",
-            "",
-            "glass: the swap table has 0 records, not 1\n",
-        ),
-    ] {
-        let store = store(&rt, RUN, rules, swaps)?;
-        let called = call_with(&rt, "run run.toml --until 4194305", store)?;
-        assert_eq!(rt; called.status, 4, "{line}");
-        assert!(rt; called.out.taken().is_empty(), "{line}");
-        assert_eq!(rt; called.err.taken(), line.as_bytes());
-    }
-    Ok(())
+    let mut shelf = store(&rt, RUN, "0,0,4294967297,0,0,0,0\n", "")?;
+    let told = "the rule table, record 0, field 2 is too great: 4294967297";
+    refuses(&rt, TOO_MANY, &mut shelf, 4, told)?;
+    let mut shelf = store(&rt, RUN, "0,0,0,0,0,0,0\n0,0,0,0,0,0,0\n", "")?;
+    refuses(
+        &rt,
+        TOO_MANY,
+        &mut shelf,
+        4,
+        "the swap table has 0 records, not 1",
+    )
 }
 
 #[test]
 fn write_fault_leaves_a_prefix(rt: HostRuntime) -> Result<(), Fail> {
-    let shelf = store(&rt, RUN, DOWN, "")?;
-    let called = call_words_of(&rt, "run run.toml", shelf, output(&rt, 16, 1)?, ample(&rt)?)?;
-    assert_eq!(rt; called.status, 9);
-    assert_eq!(rt; called.out.taken(), b"glass 1 size=4 s".as_slice());
-    assert_eq!(rt;
-        called.err.taken(),
-        b"glass: writing the report failed\n".as_slice()
-    );
-    Ok(())
+    leaves_a_prefix(&rt, LINE, &mut all_down(&rt)?, 16, 1, "glass 1 size=4 s")
 }
 
 #[test]
 fn fetch_fault(rt: HostRuntime) -> Result<(), Fail> {
-    let called = call_with(&rt, "run run.toml", store_failing(&rt, RUN, DOWN, "", 0)?)?;
-    assert_eq!(rt; called.status, 8);
-    assert!(rt; called.out.taken().is_empty());
-    Ok(())
+    let mut shelf = store_failing(&rt, RUN, DOWN, "", 0)?;
+    refuses(&rt, LINE, &mut shelf, 8, "reading the run file failed")
 }
 
 #[test]
 fn missing_swap_table(rt: HostRuntime) -> Result<(), Fail> {
     let run = changed(&rt, RUN, "swaps.csv", "other.csv")?;
-    let called = call_with(&rt, "run run.toml", store(&rt, run.as_str(), DOWN, "")?)?;
-    assert_eq!(rt; called.status, 7);
-    assert_eq!(rt;
-        called.err.taken(),
-        b"glass: the swap table is not held\n".as_slice()
-    );
-    Ok(())
+    let mut shelf = store(&rt, run.as_str(), DOWN, "")?;
+    refuses(&rt, LINE, &mut shelf, 7, "the swap table is not held")
 }

@@ -1,9 +1,10 @@
 //! Runs that are saved and gone on with.
 
-use crate::called::{Called, call_on};
+use crate::called::call_on;
 use crate::checkpoints::{
-    beginning, bytes_of, ends_with, sealed, stopped_at_1, two_slots_failing, with_byte,
+    beginning, bytes_of, ends_with, sealed, stopped_at_1, two_slots, two_slots_failing, with_byte,
 };
+use crate::endings::{ended, holds, prints, refuses, refuses_with};
 use crate::files::changed;
 use glass_edges::MemoryShelf;
 use std::sync::Wait;
@@ -47,86 +48,102 @@ pub fn report<R: AllocGlobal>(
     )?)
 }
 
-/// Whether the call ended with status 0 and printed this.
-pub fn printed(called: &Called, report: &str) -> bool {
-    called.status == 0 && called.out.taken() == report.as_bytes() && called.err.taken().is_empty()
+/// Fails where the last bytes of a checkpoint are others.
+pub fn is_saved<R: AllocGlobal>(
+    rt: &R,
+    shelf: &mut MemoryShelf,
+    name: &str,
+    last: &[u8],
+) -> Result<(), Fail> {
+    let saved = bytes_of(rt, shelf, name);
+    holds("the checkpoint's digest", ends_with(saved.as_slice(), last))
 }
 
-/// Whether the call told this line with this status, and wrote nothing.
-pub fn is_refused<R: AllocGlobal>(
-    rt: &R,
-    called: &Called,
-    status: u8,
-    line: &str,
-) -> Result<bool, Fail> {
-    let whole = format!(in rt.alloc(); "glass: {line}\n")?;
-    Ok(
-        called.status == status
-            && called.out.taken().is_empty()
-            && called.err.taken() == whole.as_bytes(),
-    )
+// The report of the run to epoch 1.
+fn report_to_1<R: AllocGlobal>(rt: &R) -> Result<String, Fail> {
+    let rows = "row,0,0,0,192,192,64,0,0\nrow,0,0,1,-192,-192,64,1,1\n";
+    report(rt, 0, 1, rows, SPINS_AT_1)
 }
 
 #[test]
 fn run_to_epoch_1_is_saved(rt: HostRuntime) -> Result<(), Fail> {
-    let mut shelf = two_slots_failing(&rt, u64::MAX)?;
-    let called = call_on(&rt, "run --save=c run.toml --until 1", &mut shelf)?;
-    let rows = "row,0,0,0,192,192,64,0,0\nrow,0,0,1,-192,-192,64,1,1\n";
-    assert!(rt; printed(&called, report(&rt, 0, 1, rows, SPINS_AT_1)?.as_str()));
-    let saved = bytes_of(&rt, &mut shelf, "c");
-    assert_eq!(rt; saved.len(), 10688);
-    assert!(rt; ends_with(saved.as_slice(), DIGEST_AT_1.as_slice()));
-    Ok(())
+    let mut shelf = two_slots(&rt)?;
+    let text = report_to_1(&rt)?;
+    prints(
+        &rt,
+        "run --save=c run.toml --until 1",
+        &mut shelf,
+        text.as_str(),
+    )?;
+    holds("the length", bytes_of(&rt, &mut shelf, "c").len() == 10688)?;
+    is_saved(&rt, &mut shelf, "c", DIGEST_AT_1.as_slice())
 }
 
 #[test]
 fn saved_run_goes_on_to_epoch_2(rt: HostRuntime) -> Result<(), Fail> {
     let mut shelf = stopped_at_1(&rt)?;
-    let called = call_on(&rt, "run --from c run.toml --save d", &mut shelf)?;
     let rows = "row,1,0,0,192,192,64,1,1\nrow,1,0,1,-192,-192,64,0,0\n";
-    assert!(rt; printed(&called, report(&rt, 1, 2, rows, SPINS_AT_2)?.as_str()));
-    assert!(rt;
-        ends_with(
-            bytes_of(&rt, &mut shelf, "d").as_slice(),
-            DIGEST_AT_2.as_slice()
-        )
-    );
-    Ok(())
+    let text = report(&rt, 1, 2, rows, SPINS_AT_2)?;
+    prints(
+        &rt,
+        "run --from c run.toml --save d",
+        &mut shelf,
+        text.as_str(),
+    )?;
+    is_saved(&rt, &mut shelf, "d", DIGEST_AT_2.as_slice())
 }
 
 #[test]
 fn saved_run_ends_where_it_is(rt: HostRuntime) -> Result<(), Fail> {
     let mut shelf = stopped_at_1(&rt)?;
-    let called = call_on(&rt, "run run.toml --from c --until 1", &mut shelf)?;
-    assert!(rt; printed(&called, report(&rt, 1, 1, "", SPINS_AT_1)?.as_str()));
-    Ok(())
+    let text = report(&rt, 1, 1, "", SPINS_AT_1)?;
+    prints(
+        &rt,
+        "run run.toml --from c --until 1",
+        &mut shelf,
+        text.as_str(),
+    )
 }
 
 #[test]
 fn checkpoint_past_the_last_epoch_is_refused(rt: HostRuntime) -> Result<(), Fail> {
     let mut shelf = stopped_at_1(&rt)?;
-    let called = call_on(&rt, "run run.toml --from c --until 0", &mut shelf)?;
-    assert!(rt; is_refused(&rt, &called, 6, "the checkpoint is at epoch 1, past 0")?);
-    Ok(())
+    let told = "the checkpoint is at epoch 1, past 0";
+    refuses(&rt, "run run.toml --from c --until 0", &mut shelf, 6, told)
 }
 
-// Whether a run from these bytes is refused with this line.
-fn refuses<R: AllocGlobal + Threads + Wait + Sync>(
+const FROM: &str = "run run.toml --from c";
+
+// Fails where a run from these bytes is not refused with this line.
+fn bytes_are_refused<R: AllocGlobal + Threads + Wait + Sync>(
     rt: &R,
     shelf: &mut MemoryShelf,
     bytes: &[u8],
-    line: &str,
-) -> Result<bool, Fail> {
+    told: &str,
+) -> Result<(), Fail> {
     shelf.add("c", bytes)?;
-    let called = call_on(rt, "run run.toml --from c", shelf)?;
-    is_refused(rt, &called, 6, line)
+    refuses(rt, FROM, shelf, 6, told)
+}
+
+// Fails where a run from the bytes with one of them set, sealed again, is not refused with this line.
+fn change_is_refused<R: AllocGlobal + Threads + Wait + Sync>(
+    rt: &R,
+    shelf: &mut MemoryShelf,
+    whole: &[u8],
+    at: usize,
+    byte: u8,
+    told: &str,
+) -> Result<(), Fail> {
+    let other = with_byte(rt, whole, at, byte)?;
+    let other = sealed(rt, other.as_slice())?;
+    bytes_are_refused(rt, shelf, other.as_slice(), told)
 }
 
 #[test]
 fn changed_checkpoints_are_refused_by_name(rt: HostRuntime) -> Result<(), Fail> {
     let mut shelf = stopped_at_1(&rt)?;
     let whole = bytes_of(&rt, &mut shelf, "c");
-    for (at, byte, line) in [
+    for (at, byte, told) in [
         (0, 0, "the checkpoint is of another kind"),
         (51, 6, "the checkpoint has size 6 and 2 slots"),
         (
@@ -140,12 +157,7 @@ fn changed_checkpoints_are_refused_by_name(rt: HostRuntime) -> Result<(), Fail> 
             "the checkpoint has a wrong replica at slot 1, copy 0, sample 5",
         ),
     ] {
-        let other = with_byte(&rt, whole.as_slice(), at, byte)?;
-        let other = sealed(&rt, other.as_slice())?;
-        assert!(rt;
-            refuses(&rt, &mut shelf, other.as_slice(), line)?,
-            "at {line}"
-        );
+        change_is_refused(&rt, &mut shelf, whole.as_slice(), at, byte, told)?;
     }
     Ok(())
 }
@@ -154,12 +166,11 @@ fn changed_checkpoints_are_refused_by_name(rt: HostRuntime) -> Result<(), Fail> 
 fn cut_checkpoints_are_refused_by_name(rt: HostRuntime) -> Result<(), Fail> {
     let mut shelf = stopped_at_1(&rt)?;
     let whole = bytes_of(&rt, &mut shelf, "c");
-    for (len, line) in [
+    for (len, told) in [
         (87, "the checkpoint is too short: 87 bytes"),
         (10687, "the checkpoint has 10687 bytes, not 10688"),
     ] {
-        let cut = beginning(whole.as_slice(), len);
-        assert!(rt; refuses(&rt, &mut shelf, cut, line)?, "at {line}");
+        bytes_are_refused(&rt, &mut shelf, beginning(whole.as_slice(), len), told)?;
     }
     Ok(())
 }
@@ -169,42 +180,30 @@ fn checkpoints_of_another_plan_are_refused(rt: HostRuntime) -> Result<(), Fail> 
     let mut shelf = stopped_at_1(&rt)?;
     let run = changed(&rt, crate::files::RUN, "seed = 7", "seed = 8")?;
     shelf.add("run.toml", run.as_bytes())?;
-    let called = call_on(&rt, "run run.toml --from c", &mut shelf)?;
-    assert_eq!(rt; called.status, 6);
-    assert!(rt;
-        called
-            .err
-            .taken()
-            .starts_with(b"glass: the checkpoint is of another plan: d9aa15c3")
-    );
-    Ok(())
+    let first = "glass: the checkpoint is of another plan: d9aa15c3";
+    refuses_with(&rt, FROM, &mut shelf, 6, first)
 }
 
 // The fourth call of the store is the place.
 #[test]
 fn place_fault_is_told_after_the_report(rt: HostRuntime) -> Result<(), Fail> {
-    let mut shelf = two_slots_failing(&rt, 3)?;
-    let called = call_on(&rt, "run run.toml --until 1 --save c", &mut shelf)?;
-    let rows = "row,0,0,0,192,192,64,0,0\nrow,0,0,1,-192,-192,64,1,1\n";
-    assert_eq!(rt; called.status, 10);
-    assert_eq!(rt;
-        called.out.taken(),
-        report(&rt, 0, 1, rows, SPINS_AT_1)?.as_bytes()
-    );
-    assert_eq!(rt;
-        called.err.taken(),
-        b"glass: placing the checkpoint failed\n".as_slice()
-    );
-    Ok(())
+    let line = "run run.toml --until 1 --save c";
+    let called = call_on(&rt, line, &mut two_slots_failing(&rt, 3)?)?;
+    let text = report_to_1(&rt)?;
+    ended(
+        &rt,
+        line,
+        &called,
+        10,
+        text.as_str(),
+        "placing the checkpoint failed",
+    )
 }
 
 // The fourth call of the store is the fetch of the checkpoint, behind the tables.
 #[test]
 fn checkpoint_that_is_not_read_is_told(rt: HostRuntime) -> Result<(), Fail> {
     let mut shelf = two_slots_failing(&rt, 3)?;
-    let called = call_on(&rt, "run run.toml --from c", &mut shelf)?;
-    assert!(rt; is_refused(&rt, &called, 8, "reading the checkpoint failed")?);
-    let called = call_on(&rt, "run run.toml --from c", &mut shelf)?;
-    assert!(rt; is_refused(&rt, &called, 7, "the checkpoint is not held")?);
-    Ok(())
+    refuses(&rt, FROM, &mut shelf, 8, "reading the checkpoint failed")?;
+    refuses(&rt, FROM, &mut shelf, 7, "the checkpoint is not held")
 }

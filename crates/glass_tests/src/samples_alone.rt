@@ -3,7 +3,8 @@
 ghost use Rattle.std.specs.Prelude.{◌≡◌, ◌+◌, ◌<◌, ◌≤◌, length, IfOk, OnOk};
 ghost use Rattle.scalar_rule.specs.Shape.{Fits};
 
-use crate::called::call_with;
+use crate::called::call_on;
+use crate::endings::holds;
 use crate::files::store;
 use coupling_set::Couplings;
 use lattice_geometry::Lattice;
@@ -129,80 +130,84 @@ pub fn rows_printed(alloc: Global, report: &str, sample: &str) -> Result<String,
     Ok(text)
 }
 
-// Whether four samples of a run have the rows of each of them run by itself.
+// Fails where four samples of a run do not have the rows of each of them run by itself.
 fn agree<R: AllocGlobal + Threads + Wait + Sync>(
     rt: &R,
     size: u32,
     kind: RuleKind,
     seed: u64,
-) -> Result<bool, Fail>
+) -> Result<(), Fail>
     requires { seed ≤ 1000000 }
 {
     let alloc = rt.alloc();
     let run = run_file(alloc, size, kind, seed)?;
-    let called = call_with(
-        rt,
-        "run run.toml",
-        store(rt, run.as_str(), rules_of(kind), SWAPS)?,
-    )?;
+    let mut shelf = store(rt, run.as_str(), rules_of(kind), SWAPS)?;
+    let called = call_on(rt, "run run.toml", &mut shelf)?;
+    holds("status 0", called.status == 0)?;
     let report = std::str::from_utf8(called.out.taken())?;
     let plan = plan_of(alloc, size, kind, seed)?;
-    let mut agreed = called.status == 0;
     for (bit, name) in [(0, "0"), (31, "31"), (32, "32"), (63, "63")] {
-        let printed = rows_printed(alloc, report, name)?;
-        let alone = rows_alone(alloc, &plan, bit)?;
-        // Two recorded epochs of three slots.
-        agreed = agreed
-            && printed.as_str() == alone.as_str()
-            && printed.as_str().split('\n').count() == 7;
+        has_rows_alone(alloc, report, &plan, bit, name)?;
     }
-    Ok(agreed)
+    Ok(())
 }
 
-// Whether they have in runs of a size and a rule with several seeds.
+// Fails where a sample of a report does not have the rows of the sample run by itself, which are those of two
+// recorded epochs of three slots.
+fn has_rows_alone(
+    alloc: Global,
+    report: &str,
+    plan: &Plan,
+    bit: u32,
+    name: &str,
+) -> Result<(), Fail>
+    requires { bit < 64 }
+{
+    let printed = rows_printed(alloc, report, name)?;
+    let alone = rows_alone(alloc, plan, bit)?;
+    holds(name, printed.as_str() == alone.as_str())?;
+    holds("six rows", printed.as_str().split('\n').count() == 7)
+}
+
+// Fails where they do not in runs of a size and a rule with several seeds.
 fn seeds_agree<R: AllocGlobal + Threads + Wait + Sync>(
     rt: &R,
     size: u32,
     kind: RuleKind,
-) -> Result<bool, Fail> {
-    let mut agreed = true;
+) -> Result<(), Fail> {
     for seed in 0..SEEDS {
-        agreed = agreed && agree(rt, size, kind, FIRST_SEED + seed)?;
+        agree(rt, size, kind, FIRST_SEED + seed)?;
     }
-    Ok(agreed)
+    Ok(())
 }
 
-// Whether they have by both rules.
-fn all_agree<R: AllocGlobal + Threads + Wait + Sync>(rt: &R, size: u32) -> Result<bool, Fail> {
-    Ok(seeds_agree(rt, size, RuleKind::Heat)? && seeds_agree(rt, size, RuleKind::Metropolis)?)
+// Fails where they do not by both rules.
+fn all_agree<R: AllocGlobal + Threads + Wait + Sync>(rt: &R, size: u32) -> Result<(), Fail> {
+    seeds_agree(rt, size, RuleKind::Heat)?;
+    seeds_agree(rt, size, RuleKind::Metropolis)
 }
 
 #[test]
 fn rows_of_samples_run_alone_at_size_4(rt: HostRuntime) -> Result<(), Fail> {
-    assert!(rt; all_agree(&rt, 4)?);
-    Ok(())
+    all_agree(&rt, 4)
 }
 
 #[test]
 fn rows_of_samples_run_alone_at_size_6(rt: HostRuntime) -> Result<(), Fail> {
-    assert!(rt; all_agree(&rt, 6)?);
-    Ok(())
+    all_agree(&rt, 6)
 }
 
 #[test]
 fn rows_of_samples_run_alone_at_size_8(rt: HostRuntime) -> Result<(), Fail> {
-    assert!(rt; all_agree(&rt, 8)?);
-    Ok(())
+    all_agree(&rt, 8)
 }
 
 #[test]
 fn rows_of_samples_run_alone_at_size_16_by_heat_bath(rt: HostRuntime) -> Result<(), Fail> {
-    assert!(rt; seeds_agree(&rt, 16, RuleKind::Heat)?);
-    Ok(())
+    seeds_agree(&rt, 16, RuleKind::Heat)
 }
 
 #[test]
 fn rows_of_samples_run_alone_at_size_16_by_metropolis(rt: HostRuntime) -> Result<(), Fail> {
-    assert!(rt; seeds_agree(&rt, 16, RuleKind::Metropolis)?);
-    Ok(())
+    seeds_agree(&rt, 16, RuleKind::Metropolis)
 }

@@ -1,10 +1,14 @@
 //! A spin glass at sixteen temperatures, whose report an independent program made too.
 
-use crate::called::{call_on, call_with};
-use crate::checkpoints::{bytes_of, ends_with};
+use crate::called::call_on;
+use crate::endings::holds;
 use crate::files::store;
+use crate::resuming::is_saved;
+use glass_edges::MemoryShelf;
 use sha2::{Digest, Sha256};
+use std::sync::Wait;
 use std::test::Fail;
+use std::thread::Threads;
 
 /// The run file.
 pub const RUN: &str = "# 8^3 glass, sixteen temperatures
@@ -64,14 +68,20 @@ const DIGEST: [u8; 32] = [
     0x62, 0x1b, 0x1f, 0x56, 0x20, 0xfa, 0xe2, 0x66, 0x38, 0x61, 0xf6, 0x4a, 0x49, 0xdb, 0x03, 0x99,
 ];
 
+// The store of the run.
+fn files<R: AllocGlobal>(rt: &R) -> Result<MemoryShelf, Fail> {
+    let (rules, swaps) = (rules(rt)?, swaps(rt)?);
+    store(rt, RUN, rules.as_str(), swaps.as_str())
+}
+
 #[test]
 fn sixteen_temperatures_64_samples(rt: HostRuntime) -> Result<(), Fail> {
-    let shelf = store(&rt, RUN, rules(&rt)?.as_str(), swaps(&rt)?.as_str())?;
-    let called = call_with(&rt, "run run.toml --workers 4 --pieces 2", shelf)?;
-    assert_eq!(rt; called.status, 0);
-    assert_eq!(rt; called.out.taken().len(), 60821);
-    assert_eq!(rt; Sha256::digest(called.out.taken()), DIGEST);
-    Ok(())
+    let line = "run run.toml --workers 4 --pieces 2";
+    let called = call_on(&rt, line, &mut files(&rt)?)?;
+    let report = called.out.taken();
+    holds("status 0", called.status == 0)?;
+    holds("the length", report.len() == 60821)?;
+    holds("the digest", Sha256::digest(report) == DIGEST)
 }
 
 // The last bytes of the checkpoints at epochs 10 and 20, by an independent program.
@@ -85,28 +95,27 @@ const DIGEST_AT_20: [u8; 32] = [
     0xe1, 0x31, 0x54, 0x0f, 0x7f, 0x74, 0x61, 0x2b, 0x09, 0xb2, 0xb0, 0x5b, 0x14, 0xdf, 0x04, 0x7d,
 ];
 
+// Fails where a run by these words does not end with status 0 and save a checkpoint with these last bytes.
+fn saves<R: AllocGlobal + Threads + Wait + Sync>(
+    rt: &R,
+    line: &str,
+    shelf: &mut MemoryShelf,
+    name: &str,
+    last: &[u8],
+) -> Result<(), Fail> {
+    holds(line, call_on(rt, line, shelf)?.status == 0)?;
+    is_saved(rt, shelf, name, last)
+}
+
 #[test]
 fn sixteen_temperatures_stopped_and_resumed(rt: HostRuntime) -> Result<(), Fail> {
-    let mut shelf = store(&rt, RUN, rules(&rt)?.as_str(), swaps(&rt)?.as_str())?;
+    let mut shelf = files(&rt)?;
     shelf.room("c", 265456)?;
     shelf.room("d", 265456)?;
-    let first = call_on(&rt, "run run.toml --until 10 --save c", &mut shelf)?;
-    assert_eq!(rt; first.status, 0);
-    assert!(rt;
-        ends_with(
-            bytes_of(&rt, &mut shelf, "c").as_slice(),
-            DIGEST_AT_10.as_slice()
-        )
-    );
-    let second = call_on(&rt, "run run.toml --from c --save d", &mut shelf)?;
-    assert_eq!(rt; second.status, 0);
-    assert!(rt;
-        ends_with(
-            bytes_of(&rt, &mut shelf, "d").as_slice(),
-            DIGEST_AT_20.as_slice()
-        )
-    );
-    Ok(())
+    let line = "run run.toml --until 10 --save c";
+    saves(&rt, line, &mut shelf, "c", DIGEST_AT_10.as_slice())?;
+    let line = "run run.toml --from c --save d";
+    saves(&rt, line, &mut shelf, "d", DIGEST_AT_20.as_slice())
 }
 
 /// The first line of the report, and its last.
@@ -124,14 +133,32 @@ fn push_rows(rows: &mut Vec<u8>, report: &[u8]) -> Result<(), Fail> {
     Ok(())
 }
 
+// Puts the rows that a run prints behind those that are there; fails where it does not end with status 0.
+fn push_rows_of<R: AllocGlobal + Threads + Wait + Sync>(
+    rt: &R,
+    rows: &mut Vec<u8>,
+    line: &str,
+    shelf: &mut MemoryShelf,
+) -> Result<(), Fail> {
+    let called = call_on(rt, line, shelf)?;
+    holds(line, called.status == 0)?;
+    push_rows(rows, called.out.taken())
+}
+
+// The store with room for four checkpoints of slots at different epochs.
+fn files_with_room<R: AllocGlobal>(rt: &R) -> Result<MemoryShelf, Fail> {
+    let mut shelf = files(rt)?;
+    for name in ["a", "b", "c", "d"] {
+        shelf.room(name, 300000)?;
+    }
+    Ok(shelf)
+}
+
 // Three runs that stop after 100 hand-outs, each going on from the one before, and the last 20 hand-outs
 // of 320.
 #[test]
 fn four_stopped_runs_add_up(rt: HostRuntime) -> Result<(), Fail> {
-    let mut shelf = store(&rt, RUN, rules(&rt)?.as_str(), swaps(&rt)?.as_str())?;
-    for name in ["a", "b", "c", "d"] {
-        shelf.room(name, 300000)?;
-    }
+    let mut shelf = files_with_room(&rt)?;
     let mut text = Vec::from_slice(rt.alloc(), FIRST_LINE.as_bytes())?;
     for line in [
         "run run.toml --stop-after 100 --save a",
@@ -139,17 +166,9 @@ fn four_stopped_runs_add_up(rt: HostRuntime) -> Result<(), Fail> {
         "run run.toml --from b --stop-after 100 --save c",
         "run run.toml --workers 2 --from c --save d",
     ] {
-        let called = call_on(&rt, line, &mut shelf)?;
-        assert_eq!(rt; called.status, 0);
-        push_rows(&mut text, called.out.taken())?;
+        push_rows_of(&rt, &mut text, line, &mut shelf)?;
     }
     text.extend_from_slice(LAST_LINE.as_bytes())?;
-    assert_eq!(rt; Sha256::digest(text.as_slice()), DIGEST);
-    assert!(rt;
-        ends_with(
-            bytes_of(&rt, &mut shelf, "d").as_slice(),
-            DIGEST_AT_20.as_slice()
-        )
-    );
-    Ok(())
+    holds("the digest", Sha256::digest(text.as_slice()) == DIGEST)?;
+    is_saved(&rt, &mut shelf, "d", DIGEST_AT_20.as_slice())
 }
