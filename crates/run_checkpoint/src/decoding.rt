@@ -29,8 +29,8 @@ use std::alloc::Global;
 ///
 /// # Errors
 ///
-/// The first of the refusals 1 to 8 that is due, in the order of their numbers; else only for want of
-/// memory.
+/// The first refusal that is due, in the order that docs/specification/checkpoint.md states; else only
+/// for want of memory.
 pub fn decode(
     alloc: Global,
     plan: &Plan,

@@ -10,8 +10,12 @@ fn scaled(x: u64, y: u64, divisor: u64) -> u64 {
     x.saturating_mul(y).checked_div(divisor).unwrap_or(0)
 }
 
-// The Metropolis thresholds of sixteen slots: powers of (t + 2) / (t + 10), which is near exp(-4β)
-// of slot t.
+/// The rule table, a line a slot: three Metropolis thresholds, 2^32 times the powers of
+/// (t + 2) / (t + 10), which is near exp(-4β) of slot t.
+///
+/// # Errors
+///
+/// Refuses only for want of memory.
 pub fn rule_text(alloc: Global) -> Result<String, AllocError> {
     let mut text = String::new(alloc);
     for t in 0..16u64 {
@@ -23,7 +27,12 @@ pub fn rule_text(alloc: Global) -> Result<String, AllocError> {
     Ok(text)
 }
 
-// The exchange thresholds of fifteen pairs, 64 each: powers of the ratio of neighbouring slots.
+/// The swap table, a line a pair of neighbouring slots: 64 exchange thresholds, 2^32 times the powers
+/// of the ratio of exp(-4β) in the colder slot to that in the hotter.
+///
+/// # Errors
+///
+/// Refuses only for want of memory.
 pub fn swap_text(alloc: Global) -> Result<String, AllocError> {
     let mut text = String::new(alloc);
     for k in 0..15u64 {
