@@ -18,6 +18,7 @@ pub mod SamplePulls
 pub mod SampleSweeps
 pub mod ColourSweeps
 pub mod Following
+pub mod BothColours
 pub mod LevelStands
 pub mod LabelSteps
 pub mod LabelEpochs

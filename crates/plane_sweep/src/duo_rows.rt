@@ -6,10 +6,10 @@ ghost use Rattle.plane_sweep.specs.DuoSweep.{CanSweepWords};
 ghost use Rattle.plane_sweep.specs.PlaneSweep.{SweepsWords};
 ghost use Rattle.spin_model.specs.Lattice.{half_plane, IsLawfulSize};
 
+use crate::dynamics::HalfPlane;
 use crate::replica::Plane;
 use crate::rows::{first_row, is_in_order, kind_of, row_behind, sweep_any, sweep_row, sweep_words};
 use crate::surroundings::lend;
-use coupling_set::Couplings;
 use threshold_table::{RuleKind, SlotRule};
 
 /// The planes of the other colour in both replicas.
@@ -33,34 +33,23 @@ pub(crate) fn sweep_words_of_duo(
     first: &mut [u64],
     second: &mut [u64],
     others: &Others,
-    couplings: &Couplings,
-    rule: &SlotRule,
+    sites: &HalfPlane,
     drawn: &Drawn,
-    colour: u32,
-    z: u32,
 )
-    requires first { CanSweepWords couplings.now others.now.first.now drawn.now.first.now first.old }
-    requires second { CanSweepWords couplings.now others.now.second.now drawn.now.second.now second.old }
-    requires colour { colour < 2 }
-    requires plane { z < couplings.now.size }
-    ensures first { SweepsWords couplings.now others.now.first.now rule.now drawn.now.first.now colour z (half_plane couplings.now.size) first.old first.new }
-    ensures second { SweepsWords couplings.now others.now.second.now rule.now drawn.now.second.now colour z (half_plane couplings.now.size) second.old second.new }
+    requires first { CanSweepWords sites.now.couplings.now others.now.first.now drawn.now.first.now first.old }
+    requires second { CanSweepWords sites.now.couplings.now others.now.second.now drawn.now.second.now second.old }
+    requires colour { sites.now.colour < 2 }
+    requires plane { sites.now.z < sites.now.couplings.now.size }
+    ensures first { SweepsWords sites.now.couplings.now others.now.first.now sites.now.rule.now drawn.now.first.now sites.now.colour sites.now.z (half_plane sites.now.couplings.now.size) first.old first.new }
+    ensures second { SweepsWords sites.now.couplings.now others.now.second.now sites.now.rule.now drawn.now.second.now sites.now.colour sites.now.z (half_plane sites.now.couplings.now.size) second.old second.new }
 {
-    match couplings.size() {
-        48 => sweep_sized::<48>(first, second, others, couplings, rule, drawn, colour, z),
-        56 => sweep_sized::<56>(first, second, others, couplings, rule, drawn, colour, z),
-        64 => sweep_sized::<64>(first, second, others, couplings, rule, drawn, colour, z),
+    match sites.couplings.size() {
+        48 => sweep_sized::<48>(first, second, others, sites, drawn),
+        56 => sweep_sized::<56>(first, second, others, sites, drawn),
+        64 => sweep_sized::<64>(first, second, others, sites, drawn),
         _ => {
-            sweep_words(first, others.first, couplings, rule, drawn.first, colour, z);
-            sweep_words(
-                second,
-                others.second,
-                couplings,
-                rule,
-                drawn.second,
-                colour,
-                z,
-            );
+            sweep_words(first, others.first, sites, drawn.first);
+            sweep_words(second, others.second, sites, drawn.second);
         }
     }
 }
@@ -71,42 +60,31 @@ fn sweep_sized<const SIZE: usize>(
     first: &mut [u64],
     second: &mut [u64],
     others: &Others,
-    couplings: &Couplings,
-    rule: &SlotRule,
+    sites: &HalfPlane,
     drawn: &Drawn,
-    colour: u32,
-    z: u32,
 )
-    requires size { couplings.now.size ≡ SIZE }
-    requires lawful { IsLawfulSize couplings.now.size }
-    requires first { CanSweepWords couplings.now others.now.first.now drawn.now.first.now first.old }
-    requires second { CanSweepWords couplings.now others.now.second.now drawn.now.second.now second.old }
-    requires colour { colour < 2 }
-    requires plane { z < couplings.now.size }
-    ensures first { SweepsWords couplings.now others.now.first.now rule.now drawn.now.first.now colour z (half_plane couplings.now.size) first.old first.new }
-    ensures second { SweepsWords couplings.now others.now.second.now rule.now drawn.now.second.now colour z (half_plane couplings.now.size) second.old second.new }
+    requires size { sites.now.couplings.now.size ≡ SIZE }
+    requires lawful { IsLawfulSize sites.now.couplings.now.size }
+    requires first { CanSweepWords sites.now.couplings.now others.now.first.now drawn.now.first.now first.old }
+    requires second { CanSweepWords sites.now.couplings.now others.now.second.now drawn.now.second.now second.old }
+    requires colour { sites.now.colour < 2 }
+    requires plane { sites.now.z < sites.now.couplings.now.size }
+    ensures first { SweepsWords sites.now.couplings.now others.now.first.now sites.now.rule.now drawn.now.first.now sites.now.colour sites.now.z (half_plane sites.now.couplings.now.size) first.old first.new }
+    ensures second { SweepsWords sites.now.couplings.now others.now.second.now sites.now.rule.now drawn.now.second.now sites.now.colour sites.now.z (half_plane sites.now.couplings.now.size) second.old second.new }
 {
-    let even = (colour + z) % 2 == 0;
-    match rule.kind {
+    let even = (sites.colour + sites.z) % 2 == 0;
+    match sites.rule.kind {
         RuleKind::Heat if even => {
-            sweep_rows_of_duo::<SIZE, true, true>(
-                first, second, others, couplings, rule, drawn, colour, z,
-            )
+            sweep_rows_of_duo::<SIZE, true, true>(first, second, others, sites, drawn)
         }
         RuleKind::Heat => {
-            sweep_rows_of_duo::<SIZE, true, false>(
-                first, second, others, couplings, rule, drawn, colour, z,
-            )
+            sweep_rows_of_duo::<SIZE, true, false>(first, second, others, sites, drawn)
         }
         RuleKind::Metropolis if even => {
-            sweep_rows_of_duo::<SIZE, false, true>(
-                first, second, others, couplings, rule, drawn, colour, z,
-            )
+            sweep_rows_of_duo::<SIZE, false, true>(first, second, others, sites, drawn)
         }
         RuleKind::Metropolis => {
-            sweep_rows_of_duo::<SIZE, false, false>(
-                first, second, others, couplings, rule, drawn, colour, z,
-            )
+            sweep_rows_of_duo::<SIZE, false, false>(first, second, others, sites, drawn)
         }
     }
 }
@@ -118,39 +96,28 @@ fn sweep_rows_of_duo<const SIZE: usize, const HEAT: bool, const EVEN: bool>(
     first: &mut [u64],
     second: &mut [u64],
     others: &Others,
-    couplings: &Couplings,
-    rule: &SlotRule,
+    sites: &HalfPlane,
     drawn: &Drawn,
-    colour: u32,
-    z: u32,
 )
-    requires size { couplings.now.size ≡ SIZE }
-    requires lawful { IsLawfulSize couplings.now.size }
-    requires even { EVEN ≡ ((colour + z) % 2 == 0) }
-    requires kind { rule.now.kind ≡ (if HEAT then RuleKind.Heat else RuleKind.Metropolis) }
-    requires first { CanSweepWords couplings.now others.now.first.now drawn.now.first.now first.old }
-    requires second { CanSweepWords couplings.now others.now.second.now drawn.now.second.now second.old }
-    requires colour { colour < 2 }
-    requires plane { z < couplings.now.size }
-    ensures first { SweepsWords couplings.now others.now.first.now rule.now drawn.now.first.now colour z (half_plane couplings.now.size) first.old first.new }
-    ensures second { SweepsWords couplings.now others.now.second.now rule.now drawn.now.second.now colour z (half_plane couplings.now.size) second.old second.new }
+    requires size { sites.now.couplings.now.size ≡ SIZE }
+    requires lawful { IsLawfulSize sites.now.couplings.now.size }
+    requires even { EVEN ≡ ((sites.now.colour + sites.now.z) % 2 == 0) }
+    requires kind { sites.now.rule.now.kind ≡ (if HEAT then RuleKind.Heat else RuleKind.Metropolis) }
+    requires first { CanSweepWords sites.now.couplings.now others.now.first.now drawn.now.first.now first.old }
+    requires second { CanSweepWords sites.now.couplings.now others.now.second.now drawn.now.second.now second.old }
+    requires colour { sites.now.colour < 2 }
+    requires plane { sites.now.z < sites.now.couplings.now.size }
+    ensures first { SweepsWords sites.now.couplings.now others.now.first.now sites.now.rule.now drawn.now.first.now sites.now.colour sites.now.z (half_plane sites.now.couplings.now.size) first.old first.new }
+    ensures second { SweepsWords sites.now.couplings.now others.now.second.now sites.now.rule.now drawn.now.second.now sites.now.colour sites.now.z (half_plane sites.now.couplings.now.size) second.old second.new }
 {
-    let (kind, row) = (kind_of(HEAT), rule.row);
+    let (kind, row) = (kind_of(HEAT), sites.rule.row);
     if !is_in_order(kind, &row) {
-        sweep_any(first, others.first, couplings, rule, drawn.first, colour, z);
-        sweep_any(
-            second,
-            others.second,
-            couplings,
-            rule,
-            drawn.second,
-            colour,
-            z,
-        );
+        sweep_any(first, others.first, sites, drawn.first);
+        sweep_any(second, others.second, sites, drawn.second);
         return;
     }
-    let around = lend(others.first, couplings, colour, z, SIZE);
-    let beyond = lend(others.second, couplings, colour, z, SIZE);
+    let around = lend(others.first, sites.couplings, sites.colour, sites.z, SIZE);
+    let beyond = lend(others.second, sites.couplings, sites.colour, sites.z, SIZE);
     // Its own, as in the sweep of one replica.
     let rule = SlotRule { kind, row };
     let (draws, more) = (drawn.first, drawn.second);

@@ -1,7 +1,7 @@
 //! The sweep of all 64 samples of both replicas of a slot.
 
 ghost use Rattle.std.specs.Prelude.{◌≡◌, ℕ, ◌+◌, ◌*◌, ◌<◌, ◌≤◌, length, All};
-ghost use Rattle.plane_sweep.specs.DuoSweep.{FitHalves};
+ghost use Rattle.plane_sweep.specs.DuoSweep.{FitHalves, FitsColours, SweepsAhead, SweepsBehind};
 ghost use Rattle.plane_sweep.specs.Packed.{part_copy, FitsDuo, FitsPlane};
 ghost use Rattle.plane_sweep.specs.PlaneSweep.{SweepsAt, SweepsColours, SweepsPlane};
 ghost use Rattle.plane_sweep.specs.Storing.{Changed};
@@ -11,9 +11,9 @@ ghost use Rattle.scalar_rule.specs.Sweep as model;
 ghost use Rattle.spin_model.specs.Lattice.{half_plane, IsLawfulSize};
 
 use crate::duo_rows::{Drawn, Others, sweep_words_of_duo};
+use crate::dynamics::{Dynamics, HalfPlane};
 use crate::replica::{Duo, Plane};
 use crate::sweeping::{LEAST_FORKED, sweep_often};
-use coupling_set::Couplings;
 use scalar_rule::Plan;
 use std::thread::Threads;
 use threshold_table::SlotRule;
@@ -82,219 +82,171 @@ fn sweep_once(duo: &mut Duo, plan: &Plan, slot: u32)
         kind: plan.rules().kind(),
         row: *plan.rules().row(slot),
     };
+    let dynamics = Dynamics {
+        couplings: plan.couplings(),
+        rule: &rule,
+    };
     let size = plan.lattice().size() as usize;
     let first = duo.first.planes.as_mut_slice();
     let second = duo.second.planes.as_mut_slice();
-    sweep_colours(first, second, plan.couplings(), &rule, size);
+    sweep_colours(first, second, &dynamics, size);
 }
 
 // The same, of two lists of planes.
-fn sweep_colours(
-    first: &mut [Plane],
-    second: &mut [Plane],
-    couplings: &Couplings,
-    rule: &SlotRule,
-    size: usize,
-)
-    requires size { size ≡ couplings.now.size }
-    requires lawful { IsLawfulSize couplings.now.size }
-    requires first_count { length first.old ≡ 2 * couplings.now.size }
-    requires second_count { length second.old ≡ 2 * couplings.now.size }
-    requires firsts { All (FitsPlane couplings.now.size) first.old }
-    requires seconds { All (FitsPlane couplings.now.size) second.old }
-    ensures first { SweepsColours couplings.now rule.now first.old first.new }
-    ensures second { SweepsColours couplings.now rule.now second.old second.new }
+fn sweep_colours(first: &mut [Plane], second: &mut [Plane], dynamics: &Dynamics, size: usize)
+    requires size { size ≡ dynamics.now.couplings.now.size }
+    requires lawful { IsLawfulSize dynamics.now.couplings.now.size }
+    requires first { FitsColours dynamics.now.couplings.now.size first.old }
+    requires second { FitsColours dynamics.now.couplings.now.size second.old }
+    ensures first { SweepsColours dynamics.now.couplings.now dynamics.now.rule.now first.old first.new }
+    ensures second { SweepsColours dynamics.now.couplings.now dynamics.now.rule.now second.old second.new }
 {
-    let (first_ahead, first_behind) = first.split_at_mut(size);
-    let (second_ahead, second_behind) = second.split_at_mut(size);
-    let draws = &mut [0u32; 4096];
-    sweep_following(
-        first_ahead,
-        first_behind,
-        second_ahead,
-        second_behind,
-        couplings,
-        rule,
-        draws,
-        size,
-    );
+    sweep_following(first, second, dynamics, &mut [0u32; 4096], size);
 }
 
 // The planes of both colours, of colour 0 ahead and of colour 1 behind, in the order in which one
 // replica's are swept.
 fn sweep_following(
-    first_ahead: &mut [Plane],
-    first_behind: &mut [Plane],
-    second_ahead: &mut [Plane],
-    second_behind: &mut [Plane],
-    couplings: &Couplings,
-    rule: &SlotRule,
+    first: &mut [Plane],
+    second: &mut [Plane],
+    dynamics: &Dynamics,
     draws: &mut [u32],
     size: usize,
 )
-    requires size { size ≡ couplings.now.size }
-    requires lawful { IsLawfulSize couplings.now.size }
-    requires room { 2 * half_plane couplings.now.size ≤ length draws.old }
-    requires first { FitHalves couplings.now.size first_ahead.old first_behind.old }
-    requires second { FitHalves couplings.now.size second_ahead.old second_behind.old }
-    ensures first_ahead { Changed (SweepsPlane couplings.now first_behind.old rule.now 0) couplings.now.size first_ahead.old first_ahead.new }
-    ensures first_behind { Changed (SweepsPlane couplings.now first_ahead.new rule.now 1) couplings.now.size first_behind.old first_behind.new }
-    ensures second_ahead { Changed (SweepsPlane couplings.now second_behind.old rule.now 0) couplings.now.size second_ahead.old second_ahead.new }
-    ensures second_behind { Changed (SweepsPlane couplings.now second_ahead.new rule.now 1) couplings.now.size second_behind.old second_behind.new }
+    requires size { size ≡ dynamics.now.couplings.now.size }
+    requires lawful { IsLawfulSize dynamics.now.couplings.now.size }
+    requires room { 2 * half_plane dynamics.now.couplings.now.size ≤ length draws.old }
+    requires first { FitsColours dynamics.now.couplings.now.size first.old }
+    requires second { FitsColours dynamics.now.couplings.now.size second.old }
+    ensures first { SweepsColours dynamics.now.couplings.now dynamics.now.rule.now first.old first.new }
+    ensures second { SweepsColours dynamics.now.couplings.now dynamics.now.rule.now second.old second.new }
 {
-    sweep_at(
-        first_ahead,
-        second_ahead,
-        &Others {
-            first: first_behind,
-            second: second_behind,
-        },
-        couplings,
-        rule,
-        draws,
-        0,
-        0,
-    );
-    sweep_at(
-        first_ahead,
-        second_ahead,
-        &Others {
-            first: first_behind,
-            second: second_behind,
-        },
-        couplings,
-        rule,
-        draws,
-        0,
-        1,
-    );
+    sweep_ahead(first, second, dynamics, draws, 0);
+    sweep_ahead(first, second, dynamics, draws, 1);
     'planes: for z in 2..size {
-        sweep_at(
-            first_ahead,
-            second_ahead,
-            &Others {
-                first: first_behind,
-                second: second_behind,
-            },
-            couplings,
-            rule,
-            draws,
-            0,
-            z,
-        );
-        sweep_at(
-            first_behind,
-            second_behind,
-            &Others {
-                first: first_ahead,
-                second: second_ahead,
-            },
-            couplings,
-            rule,
-            draws,
-            1,
-            z - 1,
-        );
+        sweep_ahead(first, second, dynamics, draws, z);
+        sweep_behind(first, second, dynamics, draws, z - 1);
     }
-    sweep_at(
-        first_behind,
-        second_behind,
-        &Others {
-            first: first_ahead,
-            second: second_ahead,
-        },
-        couplings,
-        rule,
-        draws,
-        1,
-        size - 1,
-    );
-    sweep_at(
-        first_behind,
-        second_behind,
-        &Others {
-            first: first_ahead,
-            second: second_ahead,
-        },
-        couplings,
-        rule,
-        draws,
-        1,
-        0,
-    );
+    sweep_behind(first, second, dynamics, draws, size - 1);
+    sweep_behind(first, second, dynamics, draws, 0);
 }
 
-// Plane z of a colour in both replicas, by the planes of the other colour.
+// Plane z of colour 0 in both replicas.
+fn sweep_ahead(
+    first: &mut [Plane],
+    second: &mut [Plane],
+    dynamics: &Dynamics,
+    draws: &mut [u32],
+    z: usize,
+)
+    requires first { FitsColours dynamics.now.couplings.now.size first.old }
+    requires second { FitsColours dynamics.now.couplings.now.size second.old }
+    requires room { 2 * half_plane dynamics.now.couplings.now.size ≤ length draws.old }
+    requires plane { z < dynamics.now.couplings.now.size }
+    ensures first { SweepsAhead dynamics.now.couplings.now dynamics.now.rule.now z first.old first.new }
+    ensures second { SweepsAhead dynamics.now.couplings.now dynamics.now.rule.now z second.old second.new }
+{
+    let size = dynamics.couplings.size() as usize;
+    let (first_ahead, first_behind) = first.split_at_mut(size);
+    let (second_ahead, second_behind) = second.split_at_mut(size);
+    let behind = Others {
+        first: first_behind,
+        second: second_behind,
+    };
+    let sites = HalfPlane {
+        couplings: dynamics.couplings,
+        rule: dynamics.rule,
+        colour: 0,
+        z: z as u32,
+    };
+    sweep_at(first_ahead, second_ahead, &behind, &sites, draws);
+}
+
+// Plane z of colour 1.
+fn sweep_behind(
+    first: &mut [Plane],
+    second: &mut [Plane],
+    dynamics: &Dynamics,
+    draws: &mut [u32],
+    z: usize,
+)
+    requires first { FitsColours dynamics.now.couplings.now.size first.old }
+    requires second { FitsColours dynamics.now.couplings.now.size second.old }
+    requires room { 2 * half_plane dynamics.now.couplings.now.size ≤ length draws.old }
+    requires plane { z < dynamics.now.couplings.now.size }
+    ensures first { SweepsBehind dynamics.now.couplings.now dynamics.now.rule.now z first.old first.new }
+    ensures second { SweepsBehind dynamics.now.couplings.now dynamics.now.rule.now z second.old second.new }
+{
+    let size = dynamics.couplings.size() as usize;
+    let (first_ahead, first_behind) = first.split_at_mut(size);
+    let (second_ahead, second_behind) = second.split_at_mut(size);
+    let ahead = Others {
+        first: first_ahead,
+        second: second_ahead,
+    };
+    let sites = HalfPlane {
+        couplings: dynamics.couplings,
+        rule: dynamics.rule,
+        colour: 1,
+        z: z as u32,
+    };
+    sweep_at(first_behind, second_behind, &ahead, &sites, draws);
+}
+
+// A plane of a colour in both replicas, by the planes of the other colour.
 fn sweep_at(
     first: &mut [Plane],
     second: &mut [Plane],
     others: &Others,
-    couplings: &Couplings,
-    rule: &SlotRule,
+    sites: &HalfPlane,
     draws: &mut [u32],
-    colour: u32,
-    z: usize,
 )
-    requires first { FitHalves couplings.now.size first.old others.now.first.now }
-    requires second { FitHalves couplings.now.size second.old others.now.second.now }
-    requires room { 2 * half_plane couplings.now.size ≤ length draws.old }
-    requires colour { colour < 2 }
-    requires plane { z < couplings.now.size }
-    ensures first { SweepsAt couplings.now others.now.first.now rule.now colour z first.old first.new }
-    ensures second { SweepsAt couplings.now others.now.second.now rule.now colour z second.old second.new }
+    requires first { FitHalves sites.now.couplings.now.size first.old others.now.first.now }
+    requires second { FitHalves sites.now.couplings.now.size second.old others.now.second.now }
+    requires room { 2 * half_plane sites.now.couplings.now.size ≤ length draws.old }
+    requires colour { sites.now.colour < 2 }
+    requires plane { sites.now.z < sites.now.couplings.now.size }
+    ensures first { SweepsAt sites.now.couplings.now others.now.first.now sites.now.rule.now sites.now.colour sites.now.z first.old first.new }
+    ensures second { SweepsAt sites.now.couplings.now others.now.second.now sites.now.rule.now sites.now.colour sites.now.z second.old second.new }
 {
-    sweep_plane(
-        &mut first[z],
-        &mut second[z],
-        others,
-        couplings,
-        rule,
-        draws,
-        colour,
-        z as u32,
-    );
+    let z = sites.z as usize;
+    sweep_plane(&mut first[z], &mut second[z], others, sites, draws);
 }
 
-// The sites of a colour in plane z of both replicas, each plane by the draws of its own generator.
+// The sites of a colour in a plane of both replicas, each plane by the draws of its own generator.
 fn sweep_plane(
     first: &mut Plane,
     second: &mut Plane,
     others: &Others,
-    couplings: &Couplings,
-    rule: &SlotRule,
+    sites: &HalfPlane,
     draws: &mut [u32],
-    colour: u32,
-    z: u32,
 )
-    requires first { FitsPlane couplings.now.size first.old }
-    requires second { FitsPlane couplings.now.size second.old }
-    requires first_count { length others.now.first.now ≡ couplings.now.size }
-    requires second_count { length others.now.second.now ≡ couplings.now.size }
-    requires first_others { All (FitsPlane couplings.now.size) others.now.first.now }
-    requires second_others { All (FitsPlane couplings.now.size) others.now.second.now }
-    requires room { 2 * half_plane couplings.now.size ≤ length draws.old }
-    requires colour { colour < 2 }
-    requires plane { z < couplings.now.size }
-    ensures first { SweepsPlane couplings.now others.now.first.now rule.now colour z first.old first.new }
-    ensures second { SweepsPlane couplings.now others.now.second.now rule.now colour z second.old second.new }
+    requires first { FitsPlane sites.now.couplings.now.size first.old }
+    requires second { FitsPlane sites.now.couplings.now.size second.old }
+    requires first_count { length others.now.first.now ≡ sites.now.couplings.now.size }
+    requires second_count { length others.now.second.now ≡ sites.now.couplings.now.size }
+    requires first_others { All (FitsPlane sites.now.couplings.now.size) others.now.first.now }
+    requires second_others { All (FitsPlane sites.now.couplings.now.size) others.now.second.now }
+    requires room { 2 * half_plane sites.now.couplings.now.size ≤ length draws.old }
+    requires colour { sites.now.colour < 2 }
+    requires plane { sites.now.z < sites.now.couplings.now.size }
+    ensures first { SweepsPlane sites.now.couplings.now others.now.first.now sites.now.rule.now sites.now.colour sites.now.z first.old first.new }
+    ensures second { SweepsPlane sites.now.couplings.now others.now.second.now sites.now.rule.now sites.now.colour sites.now.z second.old second.new }
 {
-    let size = couplings.size();
-    let sites = (size * (size / 2)) as usize;
-    let (front, rest) = draws.split_at_mut(sites);
-    let back = &mut rest[..sites];
+    let size = sites.couplings.size();
+    let count = (size * (size / 2)) as usize;
+    let (front, rest) = draws.split_at_mut(count);
+    let back = &mut rest[..count];
     first.wheel.fill(front);
     second.wheel.fill(back);
     sweep_words_of_duo(
         first.words.as_mut_slice(),
         second.words.as_mut_slice(),
         others,
-        couplings,
-        rule,
+        sites,
         &Drawn {
             first: front,
             second: back,
         },
-        colour,
-        z,
     );
 }

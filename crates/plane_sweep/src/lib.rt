@@ -5,6 +5,7 @@ mod cells;
 mod copying;
 mod duo_rows;
 mod duos;
+mod dynamics;
 mod generators;
 mod lanes;
 mod laws;

@@ -9,10 +9,10 @@ ghost use Rattle.spin_model.specs.Lattice.{half_plane, next, previous, IsLawfulS
 ghost use Rattle.spin_model.specs.Words.{is_set};
 ghost use Rattle.threshold_table.specs.Tables.{rule_of};
 
+use crate::dynamics::HalfPlane;
 use crate::lanes::sweep_four;
 use crate::replica::Plane;
 use crate::surroundings::{Surroundings, lend, next, previous};
-use coupling_set::Couplings;
 use local_rule::{heat_bath, is_falling, is_rising, metropolis};
 use threshold_table::{RuleKind, RuleRow, SlotRule};
 
@@ -31,33 +31,25 @@ pub struct Row {
 
 /// The new words of the sites of a colour in plane `z`, from the planes of the other colour, each
 /// site by the draw of its place.
-pub(crate) fn sweep_words(
-    own: &mut [u64],
-    other: &[Plane],
-    couplings: &Couplings,
-    rule: &SlotRule,
-    draws: &[u32],
-    colour: u32,
-    z: u32,
-)
-    requires own { length own.old ≡ half_plane couplings.now.size }
-    requires draws { length draws.now ≡ half_plane couplings.now.size }
-    requires count { length other.now ≡ couplings.now.size }
-    requires planes { All (FitsPlane couplings.now.size) other.now }
-    requires colour { colour < 2 }
-    requires plane { z < couplings.now.size }
-    ensures { SweepsWords couplings.now other.now rule.now draws.now colour z (half_plane couplings.now.size) own.old own.new }
+pub(crate) fn sweep_words(own: &mut [u64], other: &[Plane], sites: &HalfPlane, draws: &[u32])
+    requires own { length own.old ≡ half_plane sites.now.couplings.now.size }
+    requires draws { length draws.now ≡ half_plane sites.now.couplings.now.size }
+    requires count { length other.now ≡ sites.now.couplings.now.size }
+    requires planes { All (FitsPlane sites.now.couplings.now.size) other.now }
+    requires colour { sites.now.colour < 2 }
+    requires plane { sites.now.z < sites.now.couplings.now.size }
+    ensures { SweepsWords sites.now.couplings.now other.now sites.now.rule.now draws.now sites.now.colour sites.now.z (half_plane sites.now.couplings.now.size) own.old own.new }
 {
-    match couplings.size() {
-        8 => sweep_sized::<8>(own, other, couplings, rule, draws, colour, z),
-        16 => sweep_sized::<16>(own, other, couplings, rule, draws, colour, z),
-        24 => sweep_sized::<24>(own, other, couplings, rule, draws, colour, z),
-        32 => sweep_sized::<32>(own, other, couplings, rule, draws, colour, z),
-        40 => sweep_sized::<40>(own, other, couplings, rule, draws, colour, z),
-        48 => sweep_sized::<48>(own, other, couplings, rule, draws, colour, z),
-        56 => sweep_sized::<56>(own, other, couplings, rule, draws, colour, z),
-        64 => sweep_sized::<64>(own, other, couplings, rule, draws, colour, z),
-        _ => sweep_any(own, other, couplings, rule, draws, colour, z),
+    match sites.couplings.size() {
+        8 => sweep_sized::<8>(own, other, sites, draws),
+        16 => sweep_sized::<16>(own, other, sites, draws),
+        24 => sweep_sized::<24>(own, other, sites, draws),
+        32 => sweep_sized::<32>(own, other, sites, draws),
+        40 => sweep_sized::<40>(own, other, sites, draws),
+        48 => sweep_sized::<48>(own, other, sites, draws),
+        56 => sweep_sized::<56>(own, other, sites, draws),
+        64 => sweep_sized::<64>(own, other, sites, draws),
+        _ => sweep_any(own, other, sites, draws),
     }
 }
 
@@ -67,36 +59,27 @@ pub(crate) fn sweep_words(
 fn sweep_sized<const SIZE: usize>(
     own: &mut [u64],
     other: &[Plane],
-    couplings: &Couplings,
-    rule: &SlotRule,
+    sites: &HalfPlane,
     draws: &[u32],
-    colour: u32,
-    z: u32,
 )
-    requires size { couplings.now.size ≡ SIZE }
-    requires lawful { IsLawfulSize couplings.now.size }
-    requires own { length own.old ≡ half_plane couplings.now.size }
-    requires draws { length draws.now ≡ half_plane couplings.now.size }
-    requires count { length other.now ≡ couplings.now.size }
-    requires planes { All (FitsPlane couplings.now.size) other.now }
-    requires colour { colour < 2 }
-    requires plane { z < couplings.now.size }
-    ensures { SweepsWords couplings.now other.now rule.now draws.now colour z (half_plane couplings.now.size) own.old own.new }
+    requires size { sites.now.couplings.now.size ≡ SIZE }
+    requires lawful { IsLawfulSize sites.now.couplings.now.size }
+    requires own { length own.old ≡ half_plane sites.now.couplings.now.size }
+    requires draws { length draws.now ≡ half_plane sites.now.couplings.now.size }
+    requires count { length other.now ≡ sites.now.couplings.now.size }
+    requires planes { All (FitsPlane sites.now.couplings.now.size) other.now }
+    requires colour { sites.now.colour < 2 }
+    requires plane { sites.now.z < sites.now.couplings.now.size }
+    ensures { SweepsWords sites.now.couplings.now other.now sites.now.rule.now draws.now sites.now.colour sites.now.z (half_plane sites.now.couplings.now.size) own.old own.new }
 {
-    let even = (colour + z) % 2 == 0;
-    match rule.kind {
-        RuleKind::Heat if even => {
-            sweep_rows::<SIZE, true, true>(own, other, couplings, rule, draws, colour, z)
-        }
-        RuleKind::Heat => {
-            sweep_rows::<SIZE, true, false>(own, other, couplings, rule, draws, colour, z)
-        }
+    let even = (sites.colour + sites.z) % 2 == 0;
+    match sites.rule.kind {
+        RuleKind::Heat if even => { sweep_rows::<SIZE, true, true>(own, other, sites, draws) }
+        RuleKind::Heat => { sweep_rows::<SIZE, true, false>(own, other, sites, draws) }
         RuleKind::Metropolis if even => {
-            sweep_rows::<SIZE, false, true>(own, other, couplings, rule, draws, colour, z)
+            sweep_rows::<SIZE, false, true>(own, other, sites, draws)
         }
-        RuleKind::Metropolis => {
-            sweep_rows::<SIZE, false, false>(own, other, couplings, rule, draws, colour, z)
-        }
+        RuleKind::Metropolis => { sweep_rows::<SIZE, false, false>(own, other, sites, draws) }
     }
 }
 
@@ -106,30 +89,27 @@ fn sweep_sized<const SIZE: usize>(
 fn sweep_rows<const SIZE: usize, const HEAT: bool, const EVEN: bool>(
     own: &mut [u64],
     other: &[Plane],
-    couplings: &Couplings,
-    rule: &SlotRule,
+    sites: &HalfPlane,
     draws: &[u32],
-    colour: u32,
-    z: u32,
 )
-    requires size { couplings.now.size ≡ SIZE }
-    requires lawful { IsLawfulSize couplings.now.size }
-    requires even { EVEN ≡ ((colour + z) % 2 == 0) }
-    requires kind { rule.now.kind ≡ (if HEAT then RuleKind.Heat else RuleKind.Metropolis) }
-    requires own { length own.old ≡ half_plane couplings.now.size }
-    requires draws { length draws.now ≡ half_plane couplings.now.size }
-    requires count { length other.now ≡ couplings.now.size }
-    requires planes { All (FitsPlane couplings.now.size) other.now }
-    requires colour { colour < 2 }
-    requires plane { z < couplings.now.size }
-    ensures { SweepsWords couplings.now other.now rule.now draws.now colour z (half_plane couplings.now.size) own.old own.new }
+    requires size { sites.now.couplings.now.size ≡ SIZE }
+    requires lawful { IsLawfulSize sites.now.couplings.now.size }
+    requires even { EVEN ≡ ((sites.now.colour + sites.now.z) % 2 == 0) }
+    requires kind { sites.now.rule.now.kind ≡ (if HEAT then RuleKind.Heat else RuleKind.Metropolis) }
+    requires own { length own.old ≡ half_plane sites.now.couplings.now.size }
+    requires draws { length draws.now ≡ half_plane sites.now.couplings.now.size }
+    requires count { length other.now ≡ sites.now.couplings.now.size }
+    requires planes { All (FitsPlane sites.now.couplings.now.size) other.now }
+    requires colour { sites.now.colour < 2 }
+    requires plane { sites.now.z < sites.now.couplings.now.size }
+    ensures { SweepsWords sites.now.couplings.now other.now sites.now.rule.now draws.now sites.now.colour sites.now.z (half_plane sites.now.couplings.now.size) own.old own.new }
 {
-    let (kind, row) = (kind_of(HEAT), rule.row);
+    let (kind, row) = (kind_of(HEAT), sites.rule.row);
     if !is_in_order(kind, &row) {
-        sweep_any(own, other, couplings, rule, draws, colour, z);
+        sweep_any(own, other, sites, draws);
         return;
     }
-    let around = lend(other, couplings, colour, z, SIZE);
+    let around = lend(other, sites.couplings, sites.colour, sites.z, SIZE);
     // Its own, not the one lent beside the words that are written: so the thresholds stay in registers.
     let rule = SlotRule { kind, row };
     let words = SIZE * (SIZE / 2);
@@ -164,29 +144,21 @@ pub(crate) fn is_in_order(kind: RuleKind, row: &RuleRow) -> bool {
 }
 
 /// The same as `sweep_words`, by one code for all sizes and tables.
-pub(crate) fn sweep_any(
-    own: &mut [u64],
-    other: &[Plane],
-    couplings: &Couplings,
-    rule: &SlotRule,
-    draws: &[u32],
-    colour: u32,
-    z: u32,
-)
-    requires lawful { IsLawfulSize couplings.now.size }
-    requires own { length own.old ≡ half_plane couplings.now.size }
-    requires draws { length draws.now ≡ half_plane couplings.now.size }
-    requires count { length other.now ≡ couplings.now.size }
-    requires planes { All (FitsPlane couplings.now.size) other.now }
-    requires colour { colour < 2 }
-    requires plane { z < couplings.now.size }
-    ensures { SweepsWords couplings.now other.now rule.now draws.now colour z (half_plane couplings.now.size) own.old own.new }
+pub(crate) fn sweep_any(own: &mut [u64], other: &[Plane], sites: &HalfPlane, draws: &[u32])
+    requires lawful { IsLawfulSize sites.now.couplings.now.size }
+    requires own { length own.old ≡ half_plane sites.now.couplings.now.size }
+    requires draws { length draws.now ≡ half_plane sites.now.couplings.now.size }
+    requires count { length other.now ≡ sites.now.couplings.now.size }
+    requires planes { All (FitsPlane sites.now.couplings.now.size) other.now }
+    requires colour { sites.now.colour < 2 }
+    requires plane { sites.now.z < sites.now.couplings.now.size }
+    ensures { SweepsWords sites.now.couplings.now other.now sites.now.rule.now draws.now sites.now.colour sites.now.z (half_plane sites.now.couplings.now.size) own.old own.new }
 {
-    let size = couplings.size() as usize;
-    let around = lend(other, couplings, colour, z, size);
-    let rule = *rule;
+    let size = sites.couplings.size() as usize;
+    let around = lend(other, sites.couplings, sites.colour, sites.z, size);
+    let rule = *sites.rule;
     let words = size * (size / 2);
-    let mut row = first_row(size, (colour + z) % 2 == 0);
+    let mut row = first_row(size, (sites.colour + sites.z) % 2 == 0);
     'rows: for y in 0..size {
         sweep_row(own, &around, &rule, draws, &row);
         row = row_behind(&row, words);

@@ -9,9 +9,9 @@ ghost use Rattle.scalar_rule.specs.Replica.{configuration_of, with_configuration
 ghost use Rattle.scalar_rule.specs.Sweep as model;
 ghost use Rattle.spin_model.specs.Lattice.{half_plane, IsLawfulSize};
 
+use crate::dynamics::{Dynamics, HalfPlane};
 use crate::replica::{Plane, Replica};
 use crate::rows::sweep_words;
-use coupling_set::Couplings;
 use scalar_rule::Plan;
 use std::thread;
 use std::thread::Threads;
@@ -80,9 +80,13 @@ fn sweep_replica<R: Threads + Sync>(
         kind: plan.rules().kind(),
         row: *plan.rules().row(slot),
     };
+    let dynamics = Dynamics {
+        couplings: plan.couplings(),
+        rule: &rule,
+    };
     let size = plan.lattice().size() as usize;
     let planes = replica.planes.as_mut_slice();
-    sweep_colours(rt, planes, plan.couplings(), &rule, size, pieces);
+    sweep_colours(rt, planes, &dynamics, size, pieces);
 }
 
 // The same, of a list of planes. The room for the draws is cleared in each sweep, so a small lattice
@@ -90,44 +94,37 @@ fn sweep_replica<R: Threads + Sync>(
 fn sweep_colours<R: Threads + Sync>(
     rt: &R,
     planes: &mut [Plane],
-    couplings: &Couplings,
-    rule: &SlotRule,
+    dynamics: &Dynamics,
     size: usize,
     pieces: usize,
 )
-    requires size { size ≡ couplings.now.size }
+    requires size { size ≡ dynamics.now.couplings.now.size }
     requires pieces { 1 ≤ pieces }
-    requires lawful { IsLawfulSize couplings.now.size }
-    requires count { length planes.old ≡ 2 * couplings.now.size }
-    requires planes { All (FitsPlane couplings.now.size) planes.old }
-    ensures { SweepsColours couplings.now rule.now planes.old planes.new }
+    requires lawful { IsLawfulSize dynamics.now.couplings.now.size }
+    requires count { length planes.old ≡ 2 * dynamics.now.couplings.now.size }
+    requires planes { All (FitsPlane dynamics.now.couplings.now.size) planes.old }
+    ensures { SweepsColours dynamics.now.couplings.now dynamics.now.rule.now planes.old planes.new }
 {
     if pieces > 1 && size >= LEAST_FORKED {
-        fork_both(rt, planes, couplings, rule, size, pieces);
+        fork_both(rt, planes, dynamics, size, pieces);
     } else if size <= 16 {
-        sweep_both(planes, couplings, rule, &mut [0u32; 128], size);
+        sweep_both(planes, dynamics, &mut [0u32; 128], size);
     } else {
-        sweep_both(planes, couplings, rule, &mut [0u32; 2048], size);
+        sweep_both(planes, dynamics, &mut [0u32; 2048], size);
     }
 }
 
 // Colour 0, then colour 1.
-fn sweep_both(
-    planes: &mut [Plane],
-    couplings: &Couplings,
-    rule: &SlotRule,
-    draws: &mut [u32],
-    size: usize,
-)
-    requires size { size ≡ couplings.now.size }
-    requires lawful { IsLawfulSize couplings.now.size }
-    requires room { half_plane couplings.now.size ≤ length draws.old }
-    requires count { length planes.old ≡ 2 * couplings.now.size }
-    requires planes { All (FitsPlane couplings.now.size) planes.old }
-    ensures { SweepsColours couplings.now rule.now planes.old planes.new }
+fn sweep_both(planes: &mut [Plane], dynamics: &Dynamics, draws: &mut [u32], size: usize)
+    requires size { size ≡ dynamics.now.couplings.now.size }
+    requires lawful { IsLawfulSize dynamics.now.couplings.now.size }
+    requires room { half_plane dynamics.now.couplings.now.size ≤ length draws.old }
+    requires count { length planes.old ≡ 2 * dynamics.now.couplings.now.size }
+    requires planes { All (FitsPlane dynamics.now.couplings.now.size) planes.old }
+    ensures { SweepsColours dynamics.now.couplings.now dynamics.now.rule.now planes.old planes.new }
 {
     let (first, second) = planes.split_at_mut(size);
-    sweep_following(first, second, couplings, rule, draws, size);
+    sweep_following(first, second, dynamics, draws, size);
 }
 
 // The planes of both colours. Each plane of colour 1 is swept as soon as those beside it of colour 0
@@ -136,70 +133,73 @@ fn sweep_both(
 fn sweep_following(
     first: &mut [Plane],
     second: &mut [Plane],
-    couplings: &Couplings,
-    rule: &SlotRule,
+    dynamics: &Dynamics,
     draws: &mut [u32],
     size: usize,
 )
-    requires size { size ≡ couplings.now.size }
-    requires lawful { IsLawfulSize couplings.now.size }
-    requires room { half_plane couplings.now.size ≤ length draws.old }
-    requires counts { (length first.old ≡ couplings.now.size) × (length second.old ≡ couplings.now.size) }
-    requires firsts { All (FitsPlane couplings.now.size) first.old }
-    requires seconds { All (FitsPlane couplings.now.size) second.old }
-    ensures first { Changed (SweepsPlane couplings.now second.old rule.now 0) couplings.now.size first.old first.new }
-    ensures second { Changed (SweepsPlane couplings.now first.new rule.now 1) couplings.now.size second.old second.new }
+    requires size { size ≡ dynamics.now.couplings.now.size }
+    requires lawful { IsLawfulSize dynamics.now.couplings.now.size }
+    requires room { half_plane dynamics.now.couplings.now.size ≤ length draws.old }
+    requires counts { (length first.old ≡ dynamics.now.couplings.now.size) × (length second.old ≡ dynamics.now.couplings.now.size) }
+    requires firsts { All (FitsPlane dynamics.now.couplings.now.size) first.old }
+    requires seconds { All (FitsPlane dynamics.now.couplings.now.size) second.old }
+    ensures first { Changed (SweepsPlane dynamics.now.couplings.now second.old dynamics.now.rule.now 0) dynamics.now.couplings.now.size first.old first.new }
+    ensures second { Changed (SweepsPlane dynamics.now.couplings.now first.new dynamics.now.rule.now 1) dynamics.now.couplings.now.size second.old second.new }
 {
-    sweep_at(first, second, couplings, rule, draws, 0, 0);
-    sweep_at(first, second, couplings, rule, draws, 0, 1);
+    sweep_at(first, second, dynamics, draws, 0, 0);
+    sweep_at(first, second, dynamics, draws, 0, 1);
     'planes: for z in 2..size {
-        sweep_at(first, second, couplings, rule, draws, 0, z);
-        sweep_at(second, first, couplings, rule, draws, 1, z - 1);
+        sweep_at(first, second, dynamics, draws, 0, z);
+        sweep_at(second, first, dynamics, draws, 1, z - 1);
     }
-    sweep_at(second, first, couplings, rule, draws, 1, size - 1);
-    sweep_at(second, first, couplings, rule, draws, 1, 0);
+    sweep_at(second, first, dynamics, draws, 1, size - 1);
+    sweep_at(second, first, dynamics, draws, 1, 0);
 }
 
 // Plane z among the planes of a colour, by the planes of the other colour.
 fn sweep_at(
     own: &mut [Plane],
     other: &[Plane],
-    couplings: &Couplings,
-    rule: &SlotRule,
+    dynamics: &Dynamics,
     draws: &mut [u32],
     colour: u32,
     z: usize,
 )
-    requires counts { (length own.old ≡ couplings.now.size) × (length other.now ≡ couplings.now.size) }
-    requires planes { All (FitsPlane couplings.now.size) own.old }
-    requires others { All (FitsPlane couplings.now.size) other.now }
-    requires room { half_plane couplings.now.size ≤ length draws.old }
+    requires counts { (length own.old ≡ dynamics.now.couplings.now.size) × (length other.now ≡ dynamics.now.couplings.now.size) }
+    requires planes { All (FitsPlane dynamics.now.couplings.now.size) own.old }
+    requires others { All (FitsPlane dynamics.now.couplings.now.size) other.now }
+    requires room { half_plane dynamics.now.couplings.now.size ≤ length draws.old }
     requires colour { colour < 2 }
-    requires plane { z < couplings.now.size }
-    ensures { SweepsAt couplings.now other.now rule.now colour z own.old own.new }
+    requires plane { z < dynamics.now.couplings.now.size }
+    ensures { SweepsAt dynamics.now.couplings.now other.now dynamics.now.rule.now colour z own.old own.new }
 {
-    sweep_plane(&mut own[z], other, couplings, rule, draws, colour, z as u32);
+    let sites = HalfPlane {
+        couplings: dynamics.couplings,
+        rule: dynamics.rule,
+        colour,
+        z: z as u32,
+    };
+    sweep_plane(&mut own[z], other, &sites, draws);
 }
 
 // The same, each colour in at most so many runs of planes.
 fn fork_both<R: Threads + Sync>(
     rt: &R,
     planes: &mut [Plane],
-    couplings: &Couplings,
-    rule: &SlotRule,
+    dynamics: &Dynamics,
     size: usize,
     pieces: usize,
 )
-    requires size { size ≡ couplings.now.size }
-    requires lawful { IsLawfulSize couplings.now.size }
+    requires size { size ≡ dynamics.now.couplings.now.size }
+    requires lawful { IsLawfulSize dynamics.now.couplings.now.size }
     requires pieces { 1 ≤ pieces }
-    requires count { length planes.old ≡ 2 * couplings.now.size }
-    requires planes { All (FitsPlane couplings.now.size) planes.old }
-    ensures { SweepsColours couplings.now rule.now planes.old planes.new }
+    requires count { length planes.old ≡ 2 * dynamics.now.couplings.now.size }
+    requires planes { All (FitsPlane dynamics.now.couplings.now.size) planes.old }
+    ensures { SweepsColours dynamics.now.couplings.now dynamics.now.rule.now planes.old planes.new }
 {
     let (first, second) = planes.split_at_mut(size);
-    fork_colour(rt, first, second, couplings, rule, pieces, 0);
-    fork_colour(rt, second, first, couplings, rule, pieces, 1);
+    fork_colour(rt, first, second, dynamics, pieces, 0);
+    fork_colour(rt, second, first, dynamics, pieces, 1);
 }
 
 // The planes of a colour, in at most so many runs. Where no thread can be started, the caller sweeps
@@ -208,74 +208,56 @@ fn fork_colour<R: Threads + Sync>(
     rt: &R,
     own: &mut [Plane],
     other: &[Plane],
-    couplings: &Couplings,
-    rule: &SlotRule,
+    dynamics: &Dynamics,
     pieces: usize,
     colour: u32,
 )
-    requires own { length own.old ≡ couplings.now.size }
-    requires lawful { IsLawfulSize couplings.now.size }
-    requires planes { All (FitsPlane couplings.now.size) own.old }
-    requires other { length other.now ≡ couplings.now.size }
-    requires others { All (FitsPlane couplings.now.size) other.now }
+    requires own { length own.old ≡ dynamics.now.couplings.now.size }
+    requires lawful { IsLawfulSize dynamics.now.couplings.now.size }
+    requires planes { All (FitsPlane dynamics.now.couplings.now.size) own.old }
+    requires other { length other.now ≡ dynamics.now.couplings.now.size }
+    requires others { All (FitsPlane dynamics.now.couplings.now.size) other.now }
     requires pieces { 1 ≤ pieces }
     requires colour { colour < 2 }
-    ensures { Changed (SweepsPlane couplings.now other.now rule.now colour) couplings.now.size own.old own.new }
+    ensures { Changed (SweepsPlane dynamics.now.couplings.now other.now dynamics.now.rule.now colour) dynamics.now.couplings.now.size own.old own.new }
 {
     thread::for_each_mut(
         rt,
         own,
         pieces,
         &|z, plane| -> ()
-            requires { CanSweep couplings.now other.now colour z plane.now }
-            ensures { SweepsPlane couplings.entry.now other.entry.now rule.entry.now colour z plane.entry.now plane.exit.now }
-        { sweep_alone(plane, other, couplings, rule, colour, z as u32) },
+            requires { CanSweep dynamics.now.couplings.now other.now colour z plane.now }
+            ensures { SweepsPlane dynamics.entry.now.couplings.now other.entry.now dynamics.entry.now.rule.now colour z plane.entry.now plane.exit.now }
+        { sweep_alone(plane, other, dynamics, colour, z as u32) },
     );
 }
 
 // A plane with a room for draws of its own, since another thread sweeps another plane.
-fn sweep_alone(
-    plane: &mut Plane,
-    other: &[Plane],
-    couplings: &Couplings,
-    rule: &SlotRule,
-    colour: u32,
-    z: u32,
-)
-    requires ready { CanSweep couplings.now other.now colour z plane.old }
-    ensures { SweepsPlane couplings.now other.now rule.now colour z plane.old plane.new }
+fn sweep_alone(plane: &mut Plane, other: &[Plane], dynamics: &Dynamics, colour: u32, z: u32)
+    requires ready { CanSweep dynamics.now.couplings.now other.now colour z plane.old }
+    ensures { SweepsPlane dynamics.now.couplings.now other.now dynamics.now.rule.now colour z plane.old plane.new }
 {
-    sweep_plane(plane, other, couplings, rule, &mut [0u32; 2048], colour, z);
+    let sites = HalfPlane {
+        couplings: dynamics.couplings,
+        rule: dynamics.rule,
+        colour,
+        z,
+    };
+    sweep_plane(plane, other, &sites, &mut [0u32; 2048]);
 }
 
 // The sites of a colour in plane z. Each has a draw, used or not, so that all samples can share it.
-fn sweep_plane(
-    plane: &mut Plane,
-    other: &[Plane],
-    couplings: &Couplings,
-    rule: &SlotRule,
-    draws: &mut [u32],
-    colour: u32,
-    z: u32,
-)
-    requires own { FitsPlane couplings.now.size plane.old }
-    requires other { length other.now ≡ couplings.now.size }
-    requires others { All (FitsPlane couplings.now.size) other.now }
-    requires room { half_plane couplings.now.size ≤ length draws.old }
-    requires colour { colour < 2 }
-    requires plane { z < couplings.now.size }
-    ensures { SweepsPlane couplings.now other.now rule.now colour z plane.old plane.new }
+fn sweep_plane(plane: &mut Plane, other: &[Plane], sites: &HalfPlane, draws: &mut [u32])
+    requires own { FitsPlane sites.now.couplings.now.size plane.old }
+    requires other { length other.now ≡ sites.now.couplings.now.size }
+    requires others { All (FitsPlane sites.now.couplings.now.size) other.now }
+    requires room { half_plane sites.now.couplings.now.size ≤ length draws.old }
+    requires colour { sites.now.colour < 2 }
+    requires plane { sites.now.z < sites.now.couplings.now.size }
+    ensures { SweepsPlane sites.now.couplings.now other.now sites.now.rule.now sites.now.colour sites.now.z plane.old plane.new }
 {
-    let size = couplings.size();
+    let size = sites.couplings.size();
     let draws = &mut draws[..(size * (size / 2)) as usize];
     plane.wheel.fill(draws);
-    sweep_words(
-        plane.words.as_mut_slice(),
-        other,
-        couplings,
-        rule,
-        draws,
-        colour,
-        z,
-    );
+    sweep_words(plane.words.as_mut_slice(), other, sites, draws);
 }

@@ -13,33 +13,27 @@ pub sweep_colours-requires-clause-size : goal.sweep_colours-requires-clause-size
 sweep_colours-requires-clause-size c =
     c.size-size.ensures.value ∙ c.lattice.ensures.value ∙ sym c.lattice.ensures.lawful.lattice ∙ sym (ap (λ (j : CouplingsView). j.size) c.couplings.ensures.value)
 
-pub sweep_colours-requires-clause-first_count : goal.sweep_colours-requires-clause-first_count
-sweep_colours-requires-clause-first_count c =
-    let side = c.lattice.ensures.lawful.lattice in
-    let same = ap (λ (j : CouplingsView). j.size) c.couplings.ensures.value in
-    ap length c.as_mut_slice-first.ensures.value ∙ c.requires.duo.first.count ∙ ap (λ n. 2 * n) (sym side ∙ sym same)
-
-pub sweep_colours-requires-clause-firsts : goal.sweep_colours-requires-clause-firsts
-sweep_colours-requires-clause-firsts c =
+pub sweep_colours-requires-clause-first : goal.sweep_colours-requires-clause-first
+sweep_colours-requires-clause-first c =
     let side = c.lattice.ensures.lawful.lattice in
     let same = ap (λ (j : CouplingsView). j.size) c.couplings.ensures.value in
     let P : List Plane → Type 0 = λ xs. All (FitsPlane c.couplings.result.now.size) xs in
     let Q : ℕ → Type 0 = λ n. All (FitsPlane n) c.args.duo.now.first.planes in
-    subst P (sym c.as_mut_slice-first.ensures.value) (subst Q (sym side ∙ sym same) c.requires.duo.first.planes)
+    record {
+      count = ap length c.as_mut_slice-first.ensures.value ∙ c.requires.duo.first.count ∙ ap (λ n. 2 * n) (sym side ∙ sym same);
+      fit = subst P (sym c.as_mut_slice-first.ensures.value) (subst Q (sym side ∙ sym same) c.requires.duo.first.planes);
+    }
 
-pub sweep_colours-requires-clause-second_count : goal.sweep_colours-requires-clause-second_count
-sweep_colours-requires-clause-second_count c =
-    let side = c.lattice.ensures.lawful.lattice in
-    let same = ap (λ (j : CouplingsView). j.size) c.couplings.ensures.value in
-    ap length c.as_mut_slice-second.ensures.value ∙ c.requires.duo.second.count ∙ ap (λ n. 2 * n) (sym side ∙ sym same)
-
-pub sweep_colours-requires-clause-seconds : goal.sweep_colours-requires-clause-seconds
-sweep_colours-requires-clause-seconds c =
+pub sweep_colours-requires-clause-second : goal.sweep_colours-requires-clause-second
+sweep_colours-requires-clause-second c =
     let side = c.lattice.ensures.lawful.lattice in
     let same = ap (λ (j : CouplingsView). j.size) c.couplings.ensures.value in
     let P : List Plane → Type 0 = λ xs. All (FitsPlane c.couplings.result.now.size) xs in
     let Q : ℕ → Type 0 = λ n. All (FitsPlane n) c.args.duo.now.second.planes in
-    subst P (sym c.as_mut_slice-second.ensures.value) (subst Q (sym side ∙ sym same) c.requires.duo.second.planes)
+    record {
+      count = ap length c.as_mut_slice-second.ensures.value ∙ c.requires.duo.second.count ∙ ap (λ n. 2 * n) (sym side ∙ sym same);
+      fit = subst P (sym c.as_mut_slice-second.ensures.value) (subst Q (sym side ∙ sym same) c.requires.duo.second.planes);
+    }
 
 pub returns-clause-first : goal.returns-clause-first
 returns-clause-first c = λ b below.

@@ -4,6 +4,6 @@ use Rattle.plane_sweep.proofs.rows.sweep_any.Given as goal
 
 abbrev pub invariant-rows : goal.invariant-rows
 invariant-rows l = record {
-  words : SweepsWords l.couplings l.other l.rule l.draws l.colour l.z (l.y * (l.couplings.size / 2)) l.fn.own l.own;
-  row : IsRow l.couplings.size l.colour l.z l.y l.row;
+  words : SweepsWords l.sites.couplings.now l.other l.rule l.draws l.sites.colour l.sites.z (l.y * (l.sites.couplings.now.size / 2)) l.fn.own l.own;
+  row : IsRow l.sites.couplings.now.size l.sites.colour l.sites.z l.y l.row;
 }

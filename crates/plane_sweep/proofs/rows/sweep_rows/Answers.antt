@@ -10,81 +10,81 @@ use Rattle.plane_sweep.proofs.rows.sweep_rows.Goals as goal
 
 pub sweep_row-requires-clause-rows : goal.sweep_row-requires-clause-rows
 sweep_row-requires-clause-rows g c =
-    rows-lent c.args.couplings.now c.args.other.now c.args.colour c.args.z (2 * c.pairs.i) c.lend-around.result c.pairs.row
+    rows-lent c.args.sites.now.couplings.now c.args.other.now c.args.sites.now.colour c.args.sites.now.z (2 * c.pairs.i) c.lend-around.result c.pairs.row
     c.requires.lawful (omega arith) c.lend-around.ensures c.pairs.invariant.row
 
 pub row_behind-behind-requires-clause-here : goal.row_behind-behind-requires-clause-here
 row_behind-behind-requires-clause-here g c =
     let same = sym c.requires.size in
-    rw same (here-within c.args.couplings.now.size c.args.colour c.args.z (2 * c.pairs.i) c.pairs.row (omega arith) c.pairs.invariant.row)
+    rw same (here-within c.args.sites.now.couplings.now.size c.args.sites.now.colour c.args.sites.now.z (2 * c.pairs.i) c.pairs.row (omega arith) c.pairs.invariant.row)
 
 pub row_behind-behind-requires-clause-up : goal.row_behind-behind-requires-clause-up
 row_behind-behind-requires-clause-up g c =
     let same = sym c.requires.size in
-    rw same (up-within c.args.couplings.now.size c.args.colour c.args.z (2 * c.pairs.i) c.pairs.row c.requires.lawful c.pairs.invariant.row)
+    rw same (up-within c.args.sites.now.couplings.now.size c.args.sites.now.colour c.args.sites.now.z (2 * c.pairs.i) c.pairs.row c.requires.lawful c.pairs.invariant.row)
 
 pub sweep_row-requires-in-pairs-clause-rows : goal.sweep_row-requires-in-pairs-clause-rows
 sweep_row-requires-in-pairs-clause-rows g c =
-    let l = c.args.couplings.now.size in
+    let l = c.args.sites.now.couplings.now.size in
     let whole = ap (λ n. n * (n / 2)) (sym c.requires.size) in
-    let second = c.row_behind-behind.ensures l c.args.colour c.args.z (2 * c.pairs.i) c.requires.lawful (omega arith) whole c.pairs.invariant.row in
-    rows-lent c.args.couplings.now c.args.other.now c.args.colour c.args.z (2 * c.pairs.i + 1) c.lend-around.result c.row_behind-behind.result
+    let second = c.row_behind-behind.ensures l c.args.sites.now.colour c.args.sites.now.z (2 * c.pairs.i) c.requires.lawful (omega arith) whole c.pairs.invariant.row in
+    rows-lent c.args.sites.now.couplings.now c.args.other.now c.args.sites.now.colour c.args.sites.now.z (2 * c.pairs.i + 1) c.lend-around.result c.row_behind-behind.result
     c.requires.lawful (omega arith) c.lend-around.ensures second
 
 pub row_behind-row-requires-clause-here : goal.row_behind-row-requires-clause-here
 row_behind-row-requires-clause-here g c =
-    let l = c.args.couplings.now.size in
+    let l = c.args.sites.now.couplings.now.size in
     let same = sym c.requires.size in
     let whole = ap (λ n. n * (n / 2)) same in
-    let second = c.row_behind-behind.ensures l c.args.colour c.args.z (2 * c.pairs.i) c.requires.lawful (omega arith) whole c.pairs.invariant.row in
-    rw same (here-within l c.args.colour c.args.z (2 * c.pairs.i + 1) c.row_behind-behind.result (omega arith) second)
+    let second = c.row_behind-behind.ensures l c.args.sites.now.colour c.args.sites.now.z (2 * c.pairs.i) c.requires.lawful (omega arith) whole c.pairs.invariant.row in
+    rw same (here-within l c.args.sites.now.colour c.args.sites.now.z (2 * c.pairs.i + 1) c.row_behind-behind.result (omega arith) second)
 
 pub row_behind-row-requires-clause-up : goal.row_behind-row-requires-clause-up
 row_behind-row-requires-clause-up g c =
-    let l = c.args.couplings.now.size in
+    let l = c.args.sites.now.couplings.now.size in
     let same = sym c.requires.size in
     let whole = ap (λ n. n * (n / 2)) same in
-    let second = c.row_behind-behind.ensures l c.args.colour c.args.z (2 * c.pairs.i) c.requires.lawful (omega arith) whole c.pairs.invariant.row in
-    rw same (up-within l c.args.colour c.args.z (2 * c.pairs.i + 1) c.row_behind-behind.result c.requires.lawful second)
+    let second = c.row_behind-behind.ensures l c.args.sites.now.colour c.args.sites.now.z (2 * c.pairs.i) c.requires.lawful (omega arith) whole c.pairs.invariant.row in
+    rw same (up-within l c.args.sites.now.colour c.args.sites.now.z (2 * c.pairs.i + 1) c.row_behind-behind.result c.requires.lawful second)
 
 pub pairs-init : goal.pairs-init
 pairs-init g c =
-    let R : ℕ → Type 0 = λ n. IsRow n c.args.colour c.args.z 0 c.first_row-row.result in
+    let R : ℕ → Type 0 = λ n. IsRow n c.args.sites.now.colour c.args.sites.now.z 0 c.first_row-row.result in
     record {
-      words = rows-none c.args.couplings.now c.args.other.now (record { kind = c.kind_of-kind.result; row = c.args.rule.now.row }) c.args.draws.now c.args.colour c.args.z c.args.own.now;
-      row = subst R (sym c.requires.size) (c.first_row-row.ensures c.args.colour c.args.z c.requires.even);
+      words = rows-none c.args.sites.now.couplings.now c.args.other.now (record { kind = c.kind_of-kind.result; row = c.args.sites.now.rule.now.row }) c.args.draws.now c.args.sites.now.colour c.args.sites.now.z c.args.own.now;
+      row = subst R (sym c.requires.size) (c.first_row-row.ensures c.args.sites.now.colour c.args.sites.now.z c.requires.even);
     }
 
 pub pairs-preserved : goal.pairs-preserved
 pairs-preserved g c =
     let lawful = c.requires.lawful in
-    let couplings = c.args.couplings.now in
+    let couplings = c.args.sites.now.couplings.now in
     let l = couplings.size in
     let y = 2 * c.pairs.i in
-    let rule : SlotRule = record { kind = c.kind_of-kind.result; row = c.args.rule.now.row } in
+    let rule : SlotRule = record { kind = c.kind_of-kind.result; row = c.args.sites.now.rule.now.row } in
     let whole = ap (λ n. n * (n / 2)) (sym c.requires.size) in
-    let second = c.row_behind-behind.ensures l c.args.colour c.args.z y lawful (omega arith) whole c.pairs.invariant.row in
+    let second = c.row_behind-behind.ensures l c.args.sites.now.colour c.args.sites.now.z y lawful (omega arith) whole c.pairs.invariant.row in
     let one =
-    row-swept couplings c.args.other.now rule c.args.draws.now c.args.colour c.args.z y c.lend-around.result c.pairs.row c.args.own.now c.pairs.own c.sweep_row.new.own
+    row-swept couplings c.args.other.now rule c.args.draws.now c.args.sites.now.colour c.args.sites.now.z y c.lend-around.result c.pairs.row c.args.own.now c.pairs.own c.sweep_row.new.own
     lawful (omega arith) c.requires.own c.lend-around.ensures c.pairs.invariant.row c.pairs.invariant.words c.sweep_row.ensures
     in
     let both =
-    row-swept couplings c.args.other.now rule c.args.draws.now c.args.colour c.args.z (y + 1) c.lend-around.result c.row_behind-behind.result c.args.own.now c.sweep_row.new.own c.sweep_row-in-pairs.new.own
+    row-swept couplings c.args.other.now rule c.args.draws.now c.args.sites.now.colour c.args.sites.now.z (y + 1) c.lend-around.result c.row_behind-behind.result c.args.own.now c.sweep_row.new.own c.sweep_row-in-pairs.new.own
     lawful (omega arith) c.requires.own c.lend-around.ensures second one c.sweep_row-in-pairs.ensures
     in
-    let third = c.row_behind-row.ensures l c.args.colour c.args.z (y + 1) lawful (omega arith) whole second in
+    let third = c.row_behind-row.ensures l c.args.sites.now.colour c.args.sites.now.z (y + 1) lawful (omega arith) whole second in
     let place : y + 1 + 1 ≡ 2 * (c.pairs.i + 1) = omega arith in
-    let W : ℕ → Type 0 = λ n. SweepsWords couplings c.args.other.now rule c.args.draws.now c.args.colour c.args.z (n * (l / 2)) c.args.own.now c.sweep_row-in-pairs.new.own in
-    let R : ℕ → Type 0 = λ n. IsRow l c.args.colour c.args.z n c.row_behind-row.result in
+    let W : ℕ → Type 0 = λ n. SweepsWords couplings c.args.other.now rule c.args.draws.now c.args.sites.now.colour c.args.sites.now.z (n * (l / 2)) c.args.own.now c.sweep_row-in-pairs.new.own in
+    let R : ℕ → Type 0 = λ n. IsRow l c.args.sites.now.colour c.args.sites.now.z n c.row_behind-row.result in
     record { words = subst W place both; row = subst R place third }
 
 pub returns : goal.returns
 returns g c =
-    let l = c.args.couplings.now.size in
+    let l = c.args.sites.now.couplings.now.size in
     let lawful = c.requires.lawful in
     let same = sym c.requires.size in
     let end : 2 * c.pairs.i ≡ l = omega arith in
-    let by : RuleKind → SlotRule = λ k. record { kind = k; row = c.args.rule.now.row } in
-    let W : ℕ → Type 0 = λ n. SweepsWords c.args.couplings.now c.args.other.now (by c.kind_of-kind.result) c.args.draws.now c.args.colour c.args.z (n * (l / 2)) c.args.own.now c.pairs.own in
-    let K : RuleKind → Type 0 = λ k. SweepsWords c.args.couplings.now c.args.other.now (by k) c.args.draws.now c.args.colour c.args.z (half_plane l) c.args.own.now c.pairs.own in
+    let by : RuleKind → SlotRule = λ k. record { kind = k; row = c.args.sites.now.rule.now.row } in
+    let W : ℕ → Type 0 = λ n. SweepsWords c.args.sites.now.couplings.now c.args.other.now (by c.kind_of-kind.result) c.args.draws.now c.args.sites.now.colour c.args.sites.now.z (n * (l / 2)) c.args.own.now c.pairs.own in
+    let K : RuleKind → Type 0 = λ k. SweepsWords c.args.sites.now.couplings.now c.args.other.now (by k) c.args.draws.now c.args.sites.now.colour c.args.sites.now.z (half_plane l) c.args.own.now c.pairs.own in
     subst K (c.kind_of-kind.ensures ∙ sym c.requires.kind) (subst W end c.pairs.invariant.words)

@@ -9,5 +9,5 @@ sweep_plane-requires-clause-own c = c.requires.planes c.args.z c.index-own-z.res
 pub returns : goal.returns
 returns c =
     let sized = c.requires.counts.1 in
-    sweeps-at c.args.couplings.now c.args.other.now c.args.rule.now c.args.colour c.args.z c.args.own.now _ c.sweep_plane.new.plane c.requires.planes (omega arith)
+    sweeps-at c.args.dynamics.now.couplings.now c.args.other.now c.args.dynamics.now.rule.now c.args.colour c.args.z c.args.own.now _ c.sweep_plane.new.plane c.requires.planes (omega arith)
     (get_or_default c.args.own.now c.args.z c.index-own-z.result _ (omega arith)) c.sweep_plane.ensures
