@@ -43,70 +43,69 @@ fn count_planes(replica: &Replica, plan: &Plan) -> Tally
     let couplings = plan.couplings();
     let mut tally = Tally::none();
     'planes: for z in 0..size {
-        count_plane(&mut tally.rows, words_of(replica, z), other, couplings, z);
+        let plane = ColourPlane {
+            own: words_of(replica, z),
+            other,
+            couplings,
+            z,
+        };
+        count_plane(&mut tally.rows, &plane);
     }
     tally
 }
 
-// The bonds of the sites of colour 0 in plane z, by the planes of colour 1.
-fn count_plane(
-    counts: &mut [[u64; 4]; 20],
-    own: &[u64],
-    other: &[Plane],
-    couplings: &Couplings,
+// Plane z of colour 0, and what its sites' bonds depend on.
+#[derive(Clone, Copy)]
+struct ColourPlane<'a> {
+    // The words of the plane.
+    own: &'a [u64],
+    // The planes of colour 1.
+    other: &'a [Plane],
+    couplings: &'a Couplings,
     z: u32,
-)
-    requires lawful { IsLawfulSize couplings.now.size }
-    requires own { length own.now ≡ half_plane couplings.now.size }
-    requires count { length other.now ≡ couplings.now.size }
-    requires planes { All (FitsPlane couplings.now.size) other.now }
-    requires plane { z < couplings.now.size }
+}
+
+// The bonds of the sites of colour 0 in plane z, by the planes of colour 1.
+fn count_plane(counts: &mut [[u64; 4]; 20], plane: &ColourPlane)
+    requires lawful { IsLawfulSize plane.now.couplings.now.size }
+    requires own { length plane.now.own.now ≡ half_plane plane.now.couplings.now.size }
+    requires count { length plane.now.other.now ≡ plane.now.couplings.now.size }
+    requires planes { All (FitsPlane plane.now.couplings.now.size) plane.now.other.now }
+    requires plane { plane.now.z < plane.now.couplings.now.size }
     requires room { (b : ℕ) → b < 64
-        → tallied counts.old b + 6 * half_plane couplings.now.size < 2 ^ 20 }
+        → tallied counts.old b + 6 * half_plane plane.now.couplings.now.size < 2 ^ 20 }
     ensures { (b : ℕ) → b < 64 → tallied counts.new b ≡ tallied counts.old b
-        + plane_count couplings.now other.now z own.now b (half_plane couplings.now.size) }
+        + plane_count plane.now.couplings.now plane.now.other.now plane.now.z plane.now.own.now b
+        (half_plane plane.now.couplings.now.size) }
 {
-    match couplings.size() {
-        8 => count_sized::<8>(counts, own, other, couplings, z),
-        16 => count_sized::<16>(counts, own, other, couplings, z),
-        32 => count_sized::<32>(counts, own, other, couplings, z),
-        64 => count_sized::<64>(counts, own, other, couplings, z),
-        size => count_pairs::<0, false>(
-            counts,
-            own,
-            other,
-            couplings,
-            z,
-            size as usize,
-            z % 2 == 0,
-        ),
+    match plane.couplings.size() {
+        8 => count_sized::<8>(counts, plane),
+        16 => count_sized::<16>(counts, plane),
+        32 => count_sized::<32>(counts, plane),
+        64 => count_sized::<64>(counts, plane),
+        size => count_pairs::<0, false>(counts, plane, size as usize, plane.z % 2 == 0),
     }
 }
 
 // The same, with code of its own for a size, and for planes whose first row begins at x = 0 or at x = 1:
 // both are then known in its loops.
-fn count_sized<const SIZE: usize>(
-    counts: &mut [[u64; 4]; 20],
-    own: &[u64],
-    other: &[Plane],
-    couplings: &Couplings,
-    z: u32,
-)
-    requires size { couplings.now.size ≡ SIZE }
-    requires lawful { IsLawfulSize couplings.now.size }
-    requires own { length own.now ≡ half_plane couplings.now.size }
-    requires count { length other.now ≡ couplings.now.size }
-    requires planes { All (FitsPlane couplings.now.size) other.now }
-    requires plane { z < couplings.now.size }
+fn count_sized<const SIZE: usize>(counts: &mut [[u64; 4]; 20], plane: &ColourPlane)
+    requires size { plane.now.couplings.now.size ≡ SIZE }
+    requires lawful { IsLawfulSize plane.now.couplings.now.size }
+    requires own { length plane.now.own.now ≡ half_plane plane.now.couplings.now.size }
+    requires count { length plane.now.other.now ≡ plane.now.couplings.now.size }
+    requires planes { All (FitsPlane plane.now.couplings.now.size) plane.now.other.now }
+    requires plane { plane.now.z < plane.now.couplings.now.size }
     requires room { (b : ℕ) → b < 64
-        → tallied counts.old b + 6 * half_plane couplings.now.size < 2 ^ 20 }
+        → tallied counts.old b + 6 * half_plane plane.now.couplings.now.size < 2 ^ 20 }
     ensures { (b : ℕ) → b < 64 → tallied counts.new b ≡ tallied counts.old b
-        + plane_count couplings.now other.now z own.now b (half_plane couplings.now.size) }
+        + plane_count plane.now.couplings.now plane.now.other.now plane.now.z plane.now.own.now b
+        (half_plane plane.now.couplings.now.size) }
 {
-    if z % 2 == 0 {
-        count_alike::<SIZE, true>(counts, own, other, couplings, z);
+    if plane.z % 2 == 0 {
+        count_alike::<SIZE, true>(counts, plane);
     } else {
-        count_alike::<SIZE, false>(counts, own, other, couplings, z);
+        count_alike::<SIZE, false>(counts, plane);
     }
 }
 
@@ -114,24 +113,22 @@ fn count_sized<const SIZE: usize>(
 #[inline(never)]
 fn count_alike<const SIZE: usize, const EVEN: bool>(
     counts: &mut [[u64; 4]; 20],
-    own: &[u64],
-    other: &[Plane],
-    couplings: &Couplings,
-    z: u32,
+    plane: &ColourPlane,
 )
-    requires size { couplings.now.size ≡ SIZE }
-    requires lawful { IsLawfulSize couplings.now.size }
-    requires even { EVEN ≡ (z % 2 == 0) }
-    requires own { length own.now ≡ half_plane couplings.now.size }
-    requires count { length other.now ≡ couplings.now.size }
-    requires planes { All (FitsPlane couplings.now.size) other.now }
-    requires plane { z < couplings.now.size }
+    requires size { plane.now.couplings.now.size ≡ SIZE }
+    requires lawful { IsLawfulSize plane.now.couplings.now.size }
+    requires even { EVEN ≡ (plane.now.z % 2 == 0) }
+    requires own { length plane.now.own.now ≡ half_plane plane.now.couplings.now.size }
+    requires count { length plane.now.other.now ≡ plane.now.couplings.now.size }
+    requires planes { All (FitsPlane plane.now.couplings.now.size) plane.now.other.now }
+    requires plane { plane.now.z < plane.now.couplings.now.size }
     requires room { (b : ℕ) → b < 64
-        → tallied counts.old b + 6 * half_plane couplings.now.size < 2 ^ 20 }
+        → tallied counts.old b + 6 * half_plane plane.now.couplings.now.size < 2 ^ 20 }
     ensures { (b : ℕ) → b < 64 → tallied counts.new b ≡ tallied counts.old b
-        + plane_count couplings.now other.now z own.now b (half_plane couplings.now.size) }
+        + plane_count plane.now.couplings.now plane.now.other.now plane.now.z plane.now.own.now b
+        (half_plane plane.now.couplings.now.size) }
 {
-    count_pairs::<SIZE, EVEN>(counts, own, other, couplings, z, SIZE, EVEN);
+    count_pairs::<SIZE, EVEN>(counts, plane, SIZE, EVEN);
 }
 
 // The same, two rows at a time: an even plane's first row begins at x = 0. The code's own size and parity
@@ -139,26 +136,25 @@ fn count_alike<const SIZE: usize, const EVEN: bool>(
 #[inline(always)]
 fn count_pairs<const SIZE: usize, const EVEN: bool>(
     counts: &mut [[u64; 4]; 20],
-    own: &[u64],
-    other: &[Plane],
-    couplings: &Couplings,
-    z: u32,
+    plane: &ColourPlane,
     size: usize,
     even: bool,
 )
-    requires size { size ≡ couplings.now.size }
-    requires lawful { IsLawfulSize couplings.now.size }
-    requires even { even ≡ (z % 2 == 0) }
-    requires own { length own.now ≡ half_plane couplings.now.size }
-    requires count { length other.now ≡ couplings.now.size }
-    requires planes { All (FitsPlane couplings.now.size) other.now }
-    requires plane { z < couplings.now.size }
+    requires size { size ≡ plane.now.couplings.now.size }
+    requires lawful { IsLawfulSize plane.now.couplings.now.size }
+    requires even { even ≡ (plane.now.z % 2 == 0) }
+    requires own { length plane.now.own.now ≡ half_plane plane.now.couplings.now.size }
+    requires count { length plane.now.other.now ≡ plane.now.couplings.now.size }
+    requires planes { All (FitsPlane plane.now.couplings.now.size) plane.now.other.now }
+    requires plane { plane.now.z < plane.now.couplings.now.size }
     requires room { (b : ℕ) → b < 64
-        → tallied counts.old b + 6 * half_plane couplings.now.size < 2 ^ 20 }
+        → tallied counts.old b + 6 * half_plane plane.now.couplings.now.size < 2 ^ 20 }
     ensures { (b : ℕ) → b < 64 → tallied counts.new b ≡ tallied counts.old b
-        + plane_count couplings.now other.now z own.now b (half_plane couplings.now.size) }
+        + plane_count plane.now.couplings.now plane.now.other.now plane.now.z plane.now.own.now b
+        (half_plane plane.now.couplings.now.size) }
 {
-    let around = lend(other, couplings, 0, z, size);
+    let own = plane.own;
+    let around = lend(plane.other, plane.couplings, 0, plane.z, size);
     let words = size * (size / 2);
     let mut row = first_row(size, even);
     'pairs: for i in 0..size / 2 {
