@@ -65,6 +65,14 @@ fn along(direction: u32, distance: u32) -> Shift
     }
 }
 
+// The pairs of sites of a slot that are so far apart.
+#[derive(Clone, Copy)]
+struct Pairs<'a> {
+    duo: &'a Duo,
+    lattice: &'a Lattice,
+    shift: Shift,
+}
+
 // Adds the sites with q q' = +1, where q' is at the site so far on.
 fn add_line(tally: &mut Tally, duo: &Duo, lattice: &Lattice, shift: Shift)
     requires fits { FitsDuo lattice.now duo.now }
@@ -75,69 +83,62 @@ fn add_line(tally: &mut Tally, duo: &Duo, lattice: &Lattice, shift: Shift)
         + model.agreeing_line lattice.now (spins_of lattice.now b duo.now.first.planes)
         (spins_of lattice.now b duo.now.second.planes) shift.direction shift.distance }
 {
+    let pairs = Pairs {
+        duo,
+        lattice,
+        shift,
+    };
     let mut overlaps = [0u64; PLANE];
     let mut ahead = [0u64; PLANE];
-    add_planes(tally, duo, lattice, shift, &mut overlaps, &mut ahead);
+    add_planes(tally, &pairs, &mut overlaps, &mut ahead);
 }
 
 // The same plane by plane, with buffers for the overlaps in a plane.
-fn add_planes(
-    tally: &mut Tally,
-    duo: &Duo,
-    lattice: &Lattice,
-    shift: Shift,
-    overlaps: &mut [u64],
-    ahead: &mut [u64],
-)
-    requires fits { FitsDuo lattice.now duo.now }
-    requires direction { shift.direction < 3 }
-    requires distance { shift.distance ≤ lattice.now / 2 }
+fn add_planes(tally: &mut Tally, pairs: &Pairs, overlaps: &mut [u64], ahead: &mut [u64])
+    requires fits { FitsDuo pairs.now.lattice.now pairs.now.duo.now }
+    requires direction { pairs.now.shift.direction < 3 }
+    requires distance { pairs.now.shift.distance ≤ pairs.now.lattice.now / 2 }
     requires overlaps { length overlaps.old ≡ PLANE }
     requires ahead { length ahead.old ≡ PLANE }
-    requires room { (b : ℕ) → b < 64 → tallied tally.old.rows b + volume lattice.now + 64 < 2 ^ 20 }
+    requires room { (b : ℕ) → b < 64
+        → tallied tally.old.rows b + volume pairs.now.lattice.now + 64 < 2 ^ 20 }
     ensures counted { (b : ℕ) → b < 64 → tallied tally.new.rows b ≡ tallied tally.old.rows b
-        + line_from lattice.now (spins_of lattice.now b duo.now.first.planes)
-        (spins_of lattice.now b duo.now.second.planes) shift.direction shift.distance
-        (2 * lattice.now * half_plane lattice.now) }
-    ensures lawful { IsLawfulSize lattice.now }
+        + line_from pairs.now.lattice.now (spins_of pairs.now.lattice.now b pairs.now.duo.now.first.planes)
+        (spins_of pairs.now.lattice.now b pairs.now.duo.now.second.planes) pairs.now.shift.direction pairs.now.shift.distance
+        (2 * pairs.now.lattice.now * half_plane pairs.now.lattice.now) }
+    ensures lawful { IsLawfulSize pairs.now.lattice.now }
 {
-    let size = lattice.size();
+    let size = pairs.lattice.size();
     let half_plane = (size * (size / 2)) as usize;
     let overlaps = &mut overlaps[..half_plane];
     let ahead = &mut ahead[..half_plane];
     'planes: for q in 0..2 * size {
-        add_plane(tally, duo, lattice, shift, q, overlaps, ahead);
+        add_plane(tally, pairs, q, overlaps, ahead);
     }
 }
 
 // The sites of plane q.
-fn add_plane(
-    tally: &mut Tally,
-    duo: &Duo,
-    lattice: &Lattice,
-    shift: Shift,
-    q: u32,
-    overlaps: &mut [u64],
-    ahead: &mut [u64],
-)
-    requires fits { FitsDuo lattice.now duo.now }
-    requires direction { shift.direction < 3 }
-    requires distance { shift.distance ≤ lattice.now / 2 }
-    requires plane { q < 2 * lattice.now }
-    requires overlaps { length overlaps.old ≡ half_plane lattice.now }
-    requires ahead { length ahead.old ≡ half_plane lattice.now }
+fn add_plane(tally: &mut Tally, pairs: &Pairs, q: u32, overlaps: &mut [u64], ahead: &mut [u64])
+    requires fits { FitsDuo pairs.now.lattice.now pairs.now.duo.now }
+    requires direction { pairs.now.shift.direction < 3 }
+    requires distance { pairs.now.shift.distance ≤ pairs.now.lattice.now / 2 }
+    requires plane { q < 2 * pairs.now.lattice.now }
+    requires overlaps { length overlaps.old ≡ half_plane pairs.now.lattice.now }
+    requires ahead { length ahead.old ≡ half_plane pairs.now.lattice.now }
     requires room { (b : ℕ) → b < 64
-        → tallied tally.old.rows b + half_plane lattice.now + 64 < 2 ^ 20 }
+        → tallied tally.old.rows b + half_plane pairs.now.lattice.now + 64 < 2 ^ 20 }
     ensures { (b : ℕ) → b < 64 → tallied tally.new.rows b
-        + line_from lattice.now (spins_of lattice.now b duo.now.first.planes)
-        (spins_of lattice.now b duo.now.second.planes) shift.direction shift.distance
-        (q * half_plane lattice.now)
+        + line_from pairs.now.lattice.now (spins_of pairs.now.lattice.now b pairs.now.duo.now.first.planes)
+        (spins_of pairs.now.lattice.now b pairs.now.duo.now.second.planes) pairs.now.shift.direction pairs.now.shift.distance
+        (q * half_plane pairs.now.lattice.now)
         ≡ tallied tally.old.rows b
-        + line_from lattice.now (spins_of lattice.now b duo.now.first.planes)
-        (spins_of lattice.now b duo.now.second.planes) shift.direction shift.distance
-        ((q + 1) * half_plane lattice.now) }
+        + line_from pairs.now.lattice.now (spins_of pairs.now.lattice.now b pairs.now.duo.now.first.planes)
+        (spins_of pairs.now.lattice.now b pairs.now.duo.now.second.planes) pairs.now.shift.direction pairs.now.shift.distance
+        ((q + 1) * half_plane pairs.now.lattice.now) }
 {
-    let size = lattice.size();
+    let size = pairs.lattice.size();
+    let duo = pairs.duo;
+    let shift = pairs.shift;
     let plane = plane_on(size, q, shift);
     find_overlaps(
         overlaps,

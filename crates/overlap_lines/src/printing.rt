@@ -121,9 +121,17 @@ fn add_sample<O: Sink>(
 {
     let lattice = plan.lattice();
     'slots: for t in 0..plan.slots() {
-        add_slot(out, line, &counts[t as usize], &lattice, sample, t)?;
+        let slot = SampleSlot { sample, number: t };
+        add_slot(out, line, &counts[t as usize], &lattice, slot)?;
     }
     Ok(())
+}
+
+// A slot of one sample.
+#[derive(Clone, Copy)]
+struct SampleSlot {
+    sample: u32,
+    number: u32,
 }
 
 // Adds those of one slot.
@@ -132,21 +140,20 @@ fn add_slot<O: Sink>(
     line: &mut Line,
     counts: &[[u64; 20]],
     lattice: &Lattice,
-    sample: u32,
-    slot: u32,
+    slot: SampleSlot,
 ) -> Result<(), Fault>
     requires sized { length counts.now ≡ COUNTS }
-    requires sample { sample < 64 }
+    requires sample { slot.sample < 64 }
     ensures front { OnOk result (PutsFront (O.taken out.old) (O.taken out.new)
-        (line.old ++ counted.counted_slot lattice.now sample slot counts.now) line.new) }
+        (line.old ++ counted.counted_slot lattice.now slot.sample slot.number counts.now) line.new) }
     ensures prefix { OnErr result (AppendsPrefix (O.taken out.old) (O.taken out.new)
-        (line.old ++ counted.counted_slot lattice.now sample slot counts.now)) }
+        (line.old ++ counted.counted_slot lattice.now slot.sample slot.number counts.now)) }
     ensures cause { HasCause (O.faults out.old) (O.faults out.new) result }
 {
-    let sum = sum_of(&counts[0], sample, 3 * lattice.sites());
-    add_link(out, line, sample, slot, sum)?;
+    let sum = sum_of(&counts[0], slot.sample, 3 * lattice.sites());
+    add_link(out, line, slot, sum)?;
     'directions: for d in 0..3 {
-        add_direction(out, line, counts, lattice, sample, slot, d)?;
+        add_direction(out, line, counts, lattice, slot, d)?;
     }
     Ok(())
 }
@@ -157,23 +164,22 @@ fn add_direction<O: Sink>(
     line: &mut Line,
     counts: &[[u64; 20]],
     lattice: &Lattice,
-    sample: u32,
-    slot: u32,
+    slot: SampleSlot,
     d: u32,
 ) -> Result<(), Fault>
     requires sized { length counts.now ≡ COUNTS }
-    requires sample { sample < 64 }
+    requires sample { slot.sample < 64 }
     requires direction { d < 3 }
     ensures front { OnOk result (PutsFront (O.taken out.old) (O.taken out.new)
-        (line.old ++ counted.counted_direction lattice.now sample slot counts.now d) line.new) }
+        (line.old ++ counted.counted_direction lattice.now slot.sample slot.number counts.now d) line.new) }
     ensures prefix { OnErr result (AppendsPrefix (O.taken out.old) (O.taken out.new)
-        (line.old ++ counted.counted_direction lattice.now sample slot counts.now d)) }
+        (line.old ++ counted.counted_direction lattice.now slot.sample slot.number counts.now d)) }
     ensures cause { HasCause (O.faults out.old) (O.faults out.new) result }
 {
     let sites = lattice.sites();
     'distances: for k in 0..lattice.size() / 2 {
-        let sum = sum_of(&counts[(32 * d + (k + 1)) as usize], sample, sites);
-        add_line(out, line, sample, slot, d, k + 1, sum)?;
+        let sum = sum_of(&counts[(32 * d + (k + 1)) as usize], slot.sample, sites);
+        add_line(out, line, slot, d, k + 1, sum)?;
     }
     Ok(())
 }
@@ -188,34 +194,28 @@ fn sum_of(count: &[u64; 20], sample: u32, terms: u32) -> i64
 }
 
 // Adds the line of a link overlap.
-fn add_link<O: Sink>(
-    out: &mut O,
-    line: &mut Line,
-    sample: u32,
-    slot: u32,
-    sum: i64,
-) -> Result<(), Fault>
+fn add_link<O: Sink>(out: &mut O, line: &mut Line, slot: SampleSlot, sum: i64) -> Result<(), Fault>
     ensures front { OnOk result (PutsFront (O.taken out.old) (O.taken out.new)
-        (line.old ++ text.link_line sample slot sum) line.new) }
+        (line.old ++ text.link_line slot.sample slot.number sum) line.new) }
     ensures prefix { OnErr result (AppendsPrefix (O.taken out.old) (O.taken out.new)
-        (line.old ++ text.link_line sample slot sum)) }
+        (line.old ++ text.link_line slot.sample slot.number sum)) }
     ensures cause { HasCause (O.faults out.old) (O.faults out.new) result }
 {
     let mut new = Line::new();
-    fill_link(&mut new, sample, slot, sum);
+    fill_link(&mut new, slot, sum);
     line.extend(out, new.as_slice())
 }
 
 // Fills an empty line.
 #[tactic(auto, unfolding(crate::specs::LineText::link_line))]
-fn fill_link(line: &mut Line, sample: u32, slot: u32, sum: i64)
+fn fill_link(line: &mut Line, slot: SampleSlot, sum: i64)
     requires { line.old ≡ [] }
-    ensures { line.new ≡ text.link_line sample slot sum }
+    ensures { line.new ≡ text.link_line slot.sample slot.number sum }
 {
     line.add(b"link,");
-    line.number(sample as u64);
+    line.number(slot.sample as u64);
     line.add(b",");
-    line.number(slot as u64);
+    line.number(slot.number as u64);
     line.add(b",");
     line.signed(sum);
     line.add(b"\n");
@@ -225,33 +225,32 @@ fn fill_link(line: &mut Line, sample: u32, slot: u32, sum: i64)
 fn add_line<O: Sink>(
     out: &mut O,
     line: &mut Line,
-    sample: u32,
-    slot: u32,
+    slot: SampleSlot,
     d: u32,
     r: u32,
     sum: i64,
 ) -> Result<(), Fault>
     ensures front { OnOk result (PutsFront (O.taken out.old) (O.taken out.new)
-        (line.old ++ text.line_line sample slot d r sum) line.new) }
+        (line.old ++ text.line_line slot.sample slot.number d r sum) line.new) }
     ensures prefix { OnErr result (AppendsPrefix (O.taken out.old) (O.taken out.new)
-        (line.old ++ text.line_line sample slot d r sum)) }
+        (line.old ++ text.line_line slot.sample slot.number d r sum)) }
     ensures cause { HasCause (O.faults out.old) (O.faults out.new) result }
 {
     let mut new = Line::new();
-    fill_line(&mut new, sample, slot, d, r, sum);
+    fill_line(&mut new, slot, d, r, sum);
     line.extend(out, new.as_slice())
 }
 
 // Fills an empty line.
 #[tactic(auto, unfolding(crate::specs::LineText::line_line))]
-fn fill_line(line: &mut Line, sample: u32, slot: u32, d: u32, r: u32, sum: i64)
+fn fill_line(line: &mut Line, slot: SampleSlot, d: u32, r: u32, sum: i64)
     requires { line.old ≡ [] }
-    ensures { line.new ≡ text.line_line sample slot d r sum }
+    ensures { line.new ≡ text.line_line slot.sample slot.number d r sum }
 {
     line.add(b"line,");
-    line.number(sample as u64);
+    line.number(slot.sample as u64);
     line.add(b",");
-    line.number(slot as u64);
+    line.number(slot.number as u64);
     line.add(b",");
     line.number(d as u64);
     line.add(b",");

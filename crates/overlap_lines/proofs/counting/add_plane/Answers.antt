@@ -14,11 +14,11 @@ use Rattle.overlap_lines.proofs.counting.add_plane.Goals as goal
 
 pub returns : goal.returns
 returns c = λ b h.
-    let l = c.args.lattice.now in
+    let l = c.args.pairs.now.lattice.now in
     let q = c.args.q in
-    let d = c.args.shift.direction in
-    let r = c.args.shift.distance in
-    let duo = c.args.duo.now in
+    let d = c.args.pairs.now.shift.direction in
+    let r = c.args.pairs.now.shift.distance in
+    let duo = c.args.pairs.now.duo.now in
     let lawful = c.size-size.ensures.lawful in
     let size : c.size-size.result ≡ l = c.size-size.ensures.value in
     let own = c.words_of-3.result.now in

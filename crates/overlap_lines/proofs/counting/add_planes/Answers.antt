@@ -11,10 +11,10 @@ use Rattle.overlap_lines.proofs.counting.add_planes.Goals as goal
 
 pub planes-init : goal.planes-init
 planes-init c =
-    let l = c.args.lattice.now in
-    let d = c.args.shift.direction in
-    let r = c.args.shift.distance in
-    let duo = c.args.duo.now in
+    let l = c.args.pairs.now.lattice.now in
+    let d = c.args.pairs.now.shift.direction in
+    let r = c.args.pairs.now.shift.distance in
+    let duo = c.args.pairs.now.duo.now in
     let lawful = c.size-size.ensures.lawful in
     let size : c.size-size.result ≡ l = c.size-size.ensures.value in
     let room = plane-room l lawful in
@@ -31,13 +31,13 @@ planes-init c =
 
 pub add_plane-requires-clause-room : goal.add_plane-requires-clause-room
 add_plane-requires-clause-room c = λ b h.
-    let l = c.args.lattice.now in
+    let l = c.args.pairs.now.lattice.now in
     let q = c.planes.q in
-    let duo = c.args.duo.now in
+    let duo = c.args.pairs.now.duo.now in
     let lawful = c.size-size.ensures.lawful in
     let size : c.size-size.result ≡ l = c.size-size.ensures.value in
     let most = planes-within l q lawful (omega (arith, c.planes-test.true, size)) in
-    let part = line-le l (spins_of l b duo.first.planes) (spins_of l b duo.second.planes) c.args.shift.direction c.args.shift.distance (q * half_plane l) in
+    let part = line-le l (spins_of l b duo.first.planes) (spins_of l b duo.second.planes) c.args.pairs.now.shift.direction c.args.pairs.now.shift.distance (q * half_plane l) in
     omega (arith, c.planes.invariant.counted b h, most, part, c.requires.room b h)
 
 pub planes-preserved : goal.planes-preserved

@@ -8,8 +8,8 @@ use Rattle.overlap_lines.proofs.counting.add_planes.Given as goal
 
 abbrev pub invariant-planes : goal.invariant-planes
 invariant-planes l = record {
-  overlaps : length l.overlaps ≡ half_plane l.lattice;
-  ahead : length l.ahead ≡ half_plane l.lattice;
+  overlaps : length l.overlaps ≡ half_plane l.pairs.lattice.now;
+  ahead : length l.ahead ≡ half_plane l.pairs.lattice.now;
   counted : (b : ℕ) → b < 64 → tallied l.tally.rows b ≡ tallied l.fn.tally.rows b
-      + line_from l.lattice (spins_of l.lattice b l.duo.first.planes) (spins_of l.lattice b l.duo.second.planes) l.shift.direction l.shift.distance (l.q * half_plane l.lattice);
+      + line_from l.pairs.lattice.now (spins_of l.pairs.lattice.now b l.pairs.duo.now.first.planes) (spins_of l.pairs.lattice.now b l.pairs.duo.now.second.planes) l.pairs.shift.direction l.pairs.shift.distance (l.q * half_plane l.pairs.lattice.now);
 }

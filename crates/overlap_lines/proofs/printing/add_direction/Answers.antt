@@ -17,10 +17,10 @@ distances-init g c = record { text = add-none _ _ _ (joined-zero _ _); passed = 
 pub distances-preserved : goal.distances-preserved
 distances-preserved g c =
     let fits : SFits w64 c.sum_of-sum.result = search rules in
-    let counted : c.sum_of-sum.result ≡ sum_at c.args.counts.now (32 * c.args.d + (c.distances.k + 1)) c.args.sample (volume c.args.lattice.now)
+    let counted : c.sum_of-sum.result ≡ sum_at c.args.counts.now (32 * c.args.d + (c.distances.k + 1)) c.args.slot.sample (volume c.args.lattice.now)
     = rw c.sites-sites.ensures.value at c.sum_of-sum.ensures in
     let value = to_z-of_z w64 c.sum_of-sum.result fits ∙ counted in
-    let front = subst (λ (n : ℤ). PutsFront (g.O.Sink.taken c.distances.out) (g.O.Sink.taken c.add_line.new.out) (c.distances.line ++ line_line c.args.sample c.args.slot c.args.d (c.distances.k + 1) n) c.add_line.new.line) value c.in_ok-add_line.ensures.front in
+    let front = subst (λ (n : ℤ). PutsFront (g.O.Sink.taken c.distances.out) (g.O.Sink.taken c.add_line.new.out) (c.distances.line ++ line_line c.args.slot.sample c.args.slot.number c.args.d (c.distances.k + 1) n) c.add_line.new.line) value c.in_ok-add_line.ensures.front in
     record {
       text = add-more _ _ _ _ _ _ _ _ _ c.distances.invariant.text front (joined-more _ _ c.distances.k);
       passed = c.in_ok-add_line.ensures.cause.passed ∙ c.distances.invariant.passed;
@@ -29,9 +29,9 @@ distances-preserved g c =
 pub returns-in_err-add_line-clause-prefix : goal.returns-in_err-add_line-clause-prefix
 returns-in_err-add_line-clause-prefix g c =
     let fits : SFits w64 c.sum_of-sum.result = search rules in
-    let counted : c.sum_of-sum.result ≡ sum_at c.args.counts.now (32 * c.args.d + (c.distances.k + 1)) c.args.sample (volume c.args.lattice.now)
+    let counted : c.sum_of-sum.result ≡ sum_at c.args.counts.now (32 * c.args.d + (c.distances.k + 1)) c.args.slot.sample (volume c.args.lattice.now)
     = rw c.sites-sites.ensures.value at c.sum_of-sum.ensures in
     let value = to_z-of_z w64 c.sum_of-sum.result fits ∙ counted in
-    let failed = subst (λ (n : ℤ). AppendsPrefix (g.O.Sink.taken c.distances.out) (g.O.Sink.taken c.add_line.new.out) (c.distances.line ++ line_line c.args.sample c.args.slot c.args.d (c.distances.k + 1) n)) value c.in_err-add_line.ensures.prefix in
+    let failed = subst (λ (n : ℤ). AppendsPrefix (g.O.Sink.taken c.distances.out) (g.O.Sink.taken c.add_line.new.out) (c.distances.line ++ line_line c.args.slot.sample c.args.slot.number c.args.d (c.distances.k + 1) n)) value c.in_err-add_line.ensures.prefix in
     let below : c.distances.k < c.args.lattice.now / 2 = rw c.size-k-end.ensures.value at c.distances-test.true in
     OnErr_of _ (add-failed _ _ _ _ _ _ _ _ _ c.distances.invariant.text failed (joined-at _ _ c.distances.k _ below))

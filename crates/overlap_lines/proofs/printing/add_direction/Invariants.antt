@@ -10,6 +10,6 @@ use Rattle.overlap_lines.proofs.printing.add_direction.Given as goal
 abbrev pub invariant-distances : goal.invariant-distances
 invariant-distances g l = record {
   text : PutsFront (g.O.Sink.taken l.fn.out) (g.O.Sink.taken l.out)
-      (l.fn.line ++ flat_map (λ k. line_line l.sample l.slot l.d (k + 1) (sum_at l.counts (32 * l.d + (k + 1)) l.sample (volume l.lattice))) (table (λ k. k) l.k)) l.line;
+      (l.fn.line ++ flat_map (λ k. line_line l.slot.sample l.slot.number l.d (k + 1) (sum_at l.counts (32 * l.d + (k + 1)) l.slot.sample (volume l.lattice))) (table (λ k. k) l.k)) l.line;
   passed : g.O.Sink.faults l.out ≡ g.O.Sink.faults l.fn.out;
 }

@@ -15,21 +15,21 @@ use Rattle.overlap_lines.proofs.printing.add_slot.Goals as goal
 pub returns-in_err-add_link-clause-prefix : goal.returns-in_err-add_link-clause-prefix
 returns-in_err-add_link-clause-prefix g c =
     let fits : SFits w64 c.sum_of-sum.result = search rules in
-    let counted : c.sum_of-sum.result ≡ sum_at c.args.counts.now 0 c.args.sample (bond_count c.args.lattice.now) = rw c.sites.ensures.value at c.sum_of-sum.ensures in
+    let counted : c.sum_of-sum.result ≡ sum_at c.args.counts.now 0 c.args.slot.sample (bond_count c.args.lattice.now) = rw c.sites.ensures.value at c.sum_of-sum.ensures in
     let value = to_z-of_z w64 c.sum_of-sum.result fits ∙ counted in
-    let failed = subst (λ (n : ℤ). AppendsPrefix (g.O.Sink.taken c.args.out.now) (g.O.Sink.taken c.add_link.new.out) (c.args.line.now ++ link_line c.args.sample c.args.slot n)) value c.in_err-add_link.ensures.prefix in
-    let link = link_line c.args.sample c.args.slot (sum_at c.args.counts.now 0 c.args.sample (bond_count c.args.lattice.now)) in
-    let lines = flat_map (counted_direction c.args.lattice.now c.args.sample c.args.slot c.args.counts.now) (table (λ (d : ℕ). d) 3) in
+    let failed = subst (λ (n : ℤ). AppendsPrefix (g.O.Sink.taken c.args.out.now) (g.O.Sink.taken c.add_link.new.out) (c.args.line.now ++ link_line c.args.slot.sample c.args.slot.number n)) value c.in_err-add_link.ensures.prefix in
+    let link = link_line c.args.slot.sample c.args.slot.number (sum_at c.args.counts.now 0 c.args.slot.sample (bond_count c.args.lattice.now)) in
+    let lines = flat_map (counted_direction c.args.lattice.now c.args.slot.sample c.args.slot.number c.args.counts.now) (table (λ (d : ℕ). d) 3) in
     OnErr_of _ (add-first-failed _ _ c.args.line.now link lines (link ++ lines) failed refl)
 
 pub directions-init : goal.directions-init
 directions-init g c =
     let fits : SFits w64 c.sum_of-sum.result = search rules in
-    let counted : c.sum_of-sum.result ≡ sum_at c.args.counts.now 0 c.args.sample (bond_count c.args.lattice.now) = rw c.sites.ensures.value at c.sum_of-sum.ensures in
+    let counted : c.sum_of-sum.result ≡ sum_at c.args.counts.now 0 c.args.slot.sample (bond_count c.args.lattice.now) = rw c.sites.ensures.value at c.sum_of-sum.ensures in
     let value = to_z-of_z w64 c.sum_of-sum.result fits ∙ counted in
-    let first = subst (λ (n : ℤ). PutsFront (g.O.Sink.taken c.args.out.now) (g.O.Sink.taken c.add_link.new.out) (c.args.line.now ++ link_line c.args.sample c.args.slot n) c.add_link.new.line) value c.in_ok-add_link.ensures.front in
-    let link = c.args.line.now ++ link_line c.args.sample c.args.slot (sum_at c.args.counts.now 0 c.args.sample (bond_count c.args.lattice.now)) in
-    let none = joined-zero (counted_direction c.args.lattice.now c.args.sample c.args.slot c.args.counts.now) (λ (d : ℕ). d) in
+    let first = subst (λ (n : ℤ). PutsFront (g.O.Sink.taken c.args.out.now) (g.O.Sink.taken c.add_link.new.out) (c.args.line.now ++ link_line c.args.slot.sample c.args.slot.number n) c.add_link.new.line) value c.in_ok-add_link.ensures.front in
+    let link = c.args.line.now ++ link_line c.args.slot.sample c.args.slot.number (sum_at c.args.counts.now 0 c.args.slot.sample (bond_count c.args.lattice.now)) in
+    let none = joined-zero (counted_direction c.args.lattice.now c.args.slot.sample c.args.slot.number c.args.counts.now) (λ (d : ℕ). d) in
     record {
       text = subst (λ (xs : List ℕ). PutsFront (g.O.Sink.taken c.args.out.now) (g.O.Sink.taken c.add_link.new.out) xs c.add_link.new.line) (sym (ap (λ xs. link ++ xs) none ∙ append-nil link)) first;
       passed = c.in_ok-add_link.ensures.cause.passed;
@@ -43,7 +43,7 @@ directions-preserved g c = record {
 
 pub returns-in_err-add_direction-clause-prefix : goal.returns-in_err-add_direction-clause-prefix
 returns-in_err-add_direction-clause-prefix g c =
-    let link = link_line c.args.sample c.args.slot (sum_at c.args.counts.now 0 c.args.sample (bond_count c.args.lattice.now)) in
-    let lines = flat_map (counted_direction c.args.lattice.now c.args.sample c.args.slot c.args.counts.now) (table (λ (d : ℕ). d) 3) in
+    let link = link_line c.args.slot.sample c.args.slot.number (sum_at c.args.counts.now 0 c.args.slot.sample (bond_count c.args.lattice.now)) in
+    let lines = flat_map (counted_direction c.args.lattice.now c.args.slot.sample c.args.slot.number c.args.counts.now) (table (λ (d : ℕ). d) 3) in
     let failed = add-failed _ _ _ _ _ _ _ _ _ c.directions.invariant.text c.in_err-add_direction.ensures.prefix (joined-at _ _ c.directions.d _ c.directions-test.true) in
     OnErr_of _ (subst (AppendsPrefix (g.O.Sink.taken c.args.out.now) (g.O.Sink.taken c.add_direction.new.out)) (append_assoc c.args.line.now link lines) failed)

@@ -10,6 +10,6 @@ use Rattle.overlap_lines.proofs.printing.add_slot.Given as goal
 abbrev pub invariant-directions : goal.invariant-directions
 invariant-directions g l = record {
   text : PutsFront (g.O.Sink.taken l.fn.out) (g.O.Sink.taken l.out)
-      ((l.fn.line ++ link_line l.sample l.slot (sum_at l.counts 0 l.sample (bond_count l.lattice))) ++ flat_map (counted_direction l.lattice l.sample l.slot l.counts) (table (λ d. d) l.d)) l.line;
+      ((l.fn.line ++ link_line l.slot.sample l.slot.number (sum_at l.counts 0 l.slot.sample (bond_count l.lattice))) ++ flat_map (counted_direction l.lattice l.slot.sample l.slot.number l.counts) (table (λ d. d) l.d)) l.line;
   passed : g.O.Sink.faults l.out ≡ g.O.Sink.faults l.fn.out;
 }
