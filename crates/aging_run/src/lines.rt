@@ -11,12 +11,18 @@ use multispin_word::Planes;
 use report_text::kind_word;
 use scalar_rule::Plan;
 
-/// What is measured of a replica at one time.
+/// Where a replica stands.
 #[derive(Clone, Copy)]
-pub(crate) struct Measured<'a> {
+pub(crate) struct ReplicaPlace {
     pub(crate) slot: u32,
     /// Which of the two replicas of its slot, 0 or 1.
     pub(crate) copy: u32,
+}
+
+/// What is measured of a replica at one time.
+#[derive(Clone, Copy)]
+pub(crate) struct Measured<'a> {
+    pub(crate) place: ReplicaPlace,
     /// Sweeps since the spins were kept.
     pub(crate) time: u64,
     /// In each sample, how many sites have the spins that were kept.
@@ -72,9 +78,9 @@ pub(crate) fn add_overlap<O: Sink>(
 ) -> Result<(), Fault>
     requires { sample < 64 }
     ensures front { OnOk result (PutsFront (O.taken out.old) (O.taken out.new)
-        (text.old ++ lines.overlap_line measured.now.slot measured.now.copy measured.now.time sample (overlap_in measured.now.agreeing.now.words measured.now.sites sample)) text.new) }
+        (text.old ++ lines.overlap_line measured.now.place.slot measured.now.place.copy measured.now.time sample (overlap_in measured.now.agreeing.now.words measured.now.sites sample)) text.new) }
     ensures prefix { OnErr result (AppendsPrefix (O.taken out.old) (O.taken out.new)
-        (text.old ++ lines.overlap_line measured.now.slot measured.now.copy measured.now.time sample (overlap_in measured.now.agreeing.now.words measured.now.sites sample))) }
+        (text.old ++ lines.overlap_line measured.now.place.slot measured.now.place.copy measured.now.time sample (overlap_in measured.now.agreeing.now.words measured.now.sites sample))) }
     ensures cause { HasCause (O.faults out.old) (O.faults out.new) result }
 {
     let mut line = Line::new();
@@ -87,12 +93,12 @@ pub(crate) fn add_overlap<O: Sink>(
 fn fill_overlap(line: &mut Line, measured: &Measured, sample: u32)
     requires line { line.old ≡ [] }
     requires sample { sample < 64 }
-    ensures { line.new ≡ lines.overlap_line measured.now.slot measured.now.copy measured.now.time sample (overlap_in measured.now.agreeing.now.words measured.now.sites sample) }
+    ensures { line.new ≡ lines.overlap_line measured.now.place.slot measured.now.place.copy measured.now.time sample (overlap_in measured.now.agreeing.now.words measured.now.sites sample) }
 {
     line.add(b"age,");
-    line.number(measured.slot as u64);
+    line.number(measured.place.slot as u64);
     line.add(b",");
-    line.number(measured.copy as u64);
+    line.number(measured.place.copy as u64);
     line.add(b",");
     line.number(measured.time);
     line.add(b",");

@@ -6,11 +6,12 @@ ghost use Rattle.scalar_rule.specs.Shape.{FitsCopy};
 ghost use Rattle.spin_model.specs.Limits.{most_sweeps};
 
 use super::*;
+use crate::lines::ReplicaPlace;
 use coupling_set::Couplings;
 use glass_edges::MemorySink;
 use lattice_geometry::Lattice;
 use scalar_rule::{PlainCopy, Plan, Sample, Start, sweep};
-use std::alloc::Global;
+use std::alloc::{AllocGlobal, Global};
 use std::test::Fail;
 use std::thread::Threads;
 use threshold_table::{RuleKind, RuleRow, RuleTable, SwapTable};
@@ -59,24 +60,33 @@ fn random(alloc: Global, kind: RuleKind) -> Result<Plan, Fail>
     Ok(Plan::new(lattice, rules, swaps, couplings, 1, 11))
 }
 
+// Sweeps before the spins are kept, and from there on to an overlap with them.
+#[derive(Clone, Copy)]
+struct Ages {
+    wait: u64,
+    time: u64,
+}
+
+const AT_QUENCH: Ages = Ages { wait: 0, time: 1 };
+
 // What is put at time 0 and a later one, by an output that fails at the puts with these numbers.
-fn aged<R: Threads + Sync>(
+fn aged<R: AllocGlobal + Threads + Sync>(
     rt: &R,
-    alloc: Global,
     plan: &Plan,
     start: Start,
     samples: u32,
-    wait: u64,
-    later: u64,
+    ages: Ages,
     fails: Vec<u64>,
 ) -> Result<MemorySink, Fail>
     requires samples { (1 ≤ samples) × (samples ≤ 64) }
-    requires wait { wait ≤ most_sweeps }
-    requires later { (1 ≤ later) × (later ≤ most_sweeps) }
+    requires wait { ages.wait ≤ most_sweeps }
+    requires later { (1 ≤ ages.time) × (ages.time ≤ most_sweeps) }
 {
+    let Ages { wait, time } = ages;
+    let alloc = rt.alloc();
     let mut out = MemorySink::new(alloc, 5000, 100, fails)?;
     let aging = open_aging(alloc, plan, start)?;
-    let _ = write_aging(rt, aging, plan, samples, wait, &[0, later], &mut out);
+    let _ = write_aging(rt, aging, plan, samples, wait, &[0, time], &mut out);
     Ok(out)
 }
 
@@ -84,7 +94,7 @@ fn aged<R: Threads + Sync>(
 fn aging_from_the_quench(rt: HostRuntime) -> Result<(), Fail> {
     let alloc = rt.alloc();
     let plan = against(alloc)?;
-    let out = aged(&rt, alloc, &plan, Start::Up, 1, 0, 1, Vec::new(alloc))?;
+    let out = aged(&rt, &plan, Start::Up, 1, AT_QUENCH, Vec::new(alloc))?;
     assert_eq!(rt;
         out.taken(),
         b"age 1 size=4 slots=1 samples=1 rule=heat tw=0
@@ -103,7 +113,8 @@ end
 fn aging_after_one_sweep(rt: HostRuntime) -> Result<(), Fail> {
     let alloc = rt.alloc();
     let plan = against(alloc)?;
-    let out = aged(&rt, alloc, &plan, Start::Up, 1, 1, 1, Vec::new(alloc))?;
+    let ages = Ages { wait: 1, time: 1 };
+    let out = aged(&rt, &plan, Start::Up, 1, ages, Vec::new(alloc))?;
     assert_eq!(rt;
         out.taken(),
         b"age 1 size=4 slots=1 samples=1 rule=heat tw=1
@@ -124,7 +135,7 @@ fn aging_ends_where_the_output_fails(rt: HostRuntime) -> Result<(), Fail> {
     let alloc = rt.alloc();
     let plan = against(alloc)?;
     let fails = Vec::from_slice(alloc, &[1])?;
-    let out = aged(&rt, alloc, &plan, Start::Up, 1, 0, 1, fails)?;
+    let out = aged(&rt, &plan, Start::Up, 1, AT_QUENCH, fails)?;
     assert_eq!(rt;
         out.taken(),
         b"age 1 size=4 slots=1 samples=1 rule=heat tw=0\n".as_slice()
@@ -152,16 +163,15 @@ fn plain_overlap(
     plan: &Plan,
     slot: u32,
     bit: u32,
-    wait: u64,
-    time: u64,
+    ages: Ages,
 ) -> Result<i64, Fail>
     requires fits { FitsCopy plan.now.size replica.old }
     requires slot { slot < slots_of plan.now }
     requires bit { bit < 64 }
 {
-    sweep_alone(replica, plan, slot, bit, wait);
+    sweep_alone(replica, plan, slot, bit, ages.wait);
     let kept = replica.spins.as_slice().to_vec(alloc)?;
-    sweep_alone(replica, plan, slot, bit, time);
+    sweep_alone(replica, plan, slot, bit, ages.time);
     let mut sum = 0i64;
     for (was, is) in kept.as_slice().iter().zip(replica.spins.as_slice()) {
         sum = sum.wrapping_add(if was == is { 1 } else { -1 });
@@ -173,15 +183,15 @@ fn plain_overlap(
 fn plain_line(
     alloc: Global,
     plan: &Plan,
-    slot: u32,
-    copy: u32,
-    time: u64,
+    place: ReplicaPlace,
     bit: u32,
-    wait: u64,
+    ages: Ages,
 ) -> Result<String, Fail>
-    requires slot { slot < slots_of plan.now }
+    requires slot { place.slot < slots_of plan.now }
     requires bit { bit < 64 }
 {
+    let ReplicaPlace { slot, copy } = place;
+    let time = ages.time;
     let mut sample = Sample::opening(alloc, plan, bit, Start::Random)?;
     let duo = sample.slots.at_mut(slot as usize);
     let replica = if copy == 0 {
@@ -189,7 +199,7 @@ fn plain_line(
     } else {
         &mut duo.second
     };
-    let sum = plain_overlap(alloc, replica, plan, slot, bit, wait, time)?;
+    let sum = plain_overlap(alloc, replica, plan, slot, bit, ages)?;
     Ok(format!(in alloc; "age,{slot},{copy},{time},{bit},{sum}\n")?)
 }
 
@@ -201,13 +211,16 @@ fn random_samples_age_as_plain_ones(rt: HostRuntime) -> Result<(), Fail> {
         (RuleKind::Metropolis, "metropolis"),
     ] {
         let plan = random(alloc, kind)?;
-        let out = aged(&rt, alloc, &plan, Start::Random, 3, 2, 3, Vec::new(alloc))?;
+        let ages = Ages { wait: 2, time: 3 };
+        let out = aged(&rt, &plan, Start::Random, 3, ages, Vec::new(alloc))?;
         let mut text = format!(in alloc; "age 1 size=6 slots=2 samples=3 rule={rule} tw=2\n")?;
         for slot in 0..2 {
             for copy in 0..2 {
+                let place = ReplicaPlace { slot, copy };
                 for time in [0, 3] {
                     for bit in 0..3 {
-                        let line = plain_line(alloc, &plan, slot, copy, time, bit, 2)?;
+                        let ages = Ages { wait: 2, time };
+                        let line = plain_line(alloc, &plan, place, bit, ages)?;
                         text.push_str(line.as_str())?;
                     }
                 }

@@ -11,7 +11,7 @@ ghost use Rattle.scalar_rule.specs.Plan.{slots_of};
 
 use crate::aging::Aging;
 use crate::keeping::keep;
-use crate::lines::{Measured, add_overlap, write_end, write_header};
+use crate::lines::{Measured, ReplicaPlace, add_overlap, write_end, write_header};
 use bit_totals::agreeing;
 use glass_edges::{Fault, Line, Sink};
 use plane_sweep::{Duo, Replica, Stand, sweep_often};
@@ -130,8 +130,10 @@ fn write_slot<R: Threads + Sync, O: Sink>(
     ensures cause { HasCause (O.faults out.old) (O.faults out.new) result }
     ensures room { FitsReplica order.now.plan.now.size kept.new }
 {
-    write_replica(rt, out, &mut duo.first, kept, order, slot, 0)?;
-    write_replica(rt, out, &mut duo.second, kept, order, slot, 1)
+    let first = ReplicaPlace { slot, copy: 0 };
+    write_replica(rt, out, &mut duo.first, kept, order, first)?;
+    let second = ReplicaPlace { slot, copy: 1 };
+    write_replica(rt, out, &mut duo.second, kept, order, second)
 }
 
 // Puts the lines of a replica: its waiting sweeps, and then those from each time to the next.
@@ -141,23 +143,23 @@ fn write_replica<R: Threads + Sync, O: Sink>(
     replica: &mut Replica,
     kept: &mut Replica,
     order: &Order,
-    slot: u32,
-    copy: u32,
+    place: ReplicaPlace,
 ) -> Result<(), Fault>
     requires replica { FitsReplica order.now.plan.now.size replica.old }
     requires kept { FitsReplica order.now.plan.now.size kept.old }
-    requires slot { slot < slots_of order.now.plan.now }
+    requires slot { place.slot < slots_of order.now.plan.now }
     requires samples { order.now.samples ≤ 64 }
     requires wait { order.now.wait ≤ most_sweeps }
     requires times { text.AreTimes order.now.times.now }
     ensures whole { OnOk result (O.taken out.new ≡ appended (O.taken out.old)
-        (text.replica_lines order.now.plan.now order.now.samples order.now.wait order.now.times.now slot copy (λ b. part_copy order.now.plan.now.size b replica.old))) }
+        (text.replica_lines order.now.plan.now order.now.samples order.now.wait order.now.times.now place.slot place.copy (λ b. part_copy order.now.plan.now.size b replica.old))) }
     ensures prefix { OnErr result (AppendsPrefix (O.taken out.old) (O.taken out.new)
-        (text.replica_lines order.now.plan.now order.now.samples order.now.wait order.now.times.now slot copy (λ b. part_copy order.now.plan.now.size b replica.old))) }
+        (text.replica_lines order.now.plan.now order.now.samples order.now.wait order.now.times.now place.slot place.copy (λ b. part_copy order.now.plan.now.size b replica.old))) }
     ensures cause { HasCause (O.faults out.old) (O.faults out.new) result }
     ensures room { FitsReplica order.now.plan.now.size kept.new }
 {
     let lattice = order.plan.lattice();
+    let slot = place.slot;
     sweep_often(rt, replica, order.plan, slot, PIECES, order.wait as u32);
     keep(kept, replica);
     let mut done = 0;
@@ -167,8 +169,7 @@ fn write_replica<R: Threads + Sync, O: Sink>(
         done = time;
         let totals = agreeing(kept, replica);
         let measured = Measured {
-            slot,
-            copy,
+            place,
             time,
             agreeing: &totals,
             sites: lattice.sites(),
@@ -182,9 +183,9 @@ fn write_replica<R: Threads + Sync, O: Sink>(
 fn write_time<O: Sink>(out: &mut O, measured: &Measured, samples: u32) -> Result<(), Fault>
     requires { samples ≤ 64 }
     ensures whole { OnOk result (O.taken out.new ≡ appended (O.taken out.old)
-        (text.time_lines measured.now.slot measured.now.copy measured.now.time (overlap_in measured.now.agreeing.now.words measured.now.sites) samples)) }
+        (text.time_lines measured.now.place.slot measured.now.place.copy measured.now.time (overlap_in measured.now.agreeing.now.words measured.now.sites) samples)) }
     ensures prefix { OnErr result (AppendsPrefix (O.taken out.old) (O.taken out.new)
-        (text.time_lines measured.now.slot measured.now.copy measured.now.time (overlap_in measured.now.agreeing.now.words measured.now.sites) samples)) }
+        (text.time_lines measured.now.place.slot measured.now.place.copy measured.now.time (overlap_in measured.now.agreeing.now.words measured.now.sites) samples)) }
     ensures cause { HasCause (O.faults out.old) (O.faults out.new) result }
 {
     let mut line = Line::new();
@@ -201,9 +202,9 @@ fn add_time<O: Sink>(
 ) -> Result<(), Fault>
     requires { samples ≤ 64 }
     ensures front { OnOk result (PutsFront (O.taken out.old) (O.taken out.new)
-        (line.old ++ text.time_lines measured.now.slot measured.now.copy measured.now.time (overlap_in measured.now.agreeing.now.words measured.now.sites) samples) line.new) }
+        (line.old ++ text.time_lines measured.now.place.slot measured.now.place.copy measured.now.time (overlap_in measured.now.agreeing.now.words measured.now.sites) samples) line.new) }
     ensures prefix { OnErr result (AppendsPrefix (O.taken out.old) (O.taken out.new)
-        (line.old ++ text.time_lines measured.now.slot measured.now.copy measured.now.time (overlap_in measured.now.agreeing.now.words measured.now.sites) samples)) }
+        (line.old ++ text.time_lines measured.now.place.slot measured.now.place.copy measured.now.time (overlap_in measured.now.agreeing.now.words measured.now.sites) samples)) }
     ensures cause { HasCause (O.faults out.old) (O.faults out.new) result }
 {
     'samples: for b in 0..samples {

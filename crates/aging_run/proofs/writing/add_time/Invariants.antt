@@ -6,6 +6,6 @@ use Rattle.aging_run.proofs.writing.add_time.Given as goal
 
 abbrev pub invariant-samples : goal.invariant-samples
 invariant-samples g l = record {
-  text : PutsFront (g.O.Sink.taken l.fn.out) (g.O.Sink.taken l.out) (l.fn.line ++ time_lines l.measured.slot l.measured.copy l.measured.time (overlap_in l.measured.agreeing.now.words l.measured.sites) l.b) l.line;
+  text : PutsFront (g.O.Sink.taken l.fn.out) (g.O.Sink.taken l.out) (l.fn.line ++ time_lines l.measured.place.slot l.measured.place.copy l.measured.time (overlap_in l.measured.agreeing.now.words l.measured.sites) l.b) l.line;
   passed : g.O.Sink.faults l.out ≡ g.O.Sink.faults l.fn.out;
 }

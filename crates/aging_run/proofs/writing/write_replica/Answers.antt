@@ -20,7 +20,7 @@ pub times-init : goal.times-init
 times-init g c = record {
   text = put-none _ _ refl;
   passed = refl;
-  swept = swept-same c.args.order.now.plan.now c.args.slot _ (c.args.order.now.wait + 0) c.args.replica.now c.sweep_often.new.replica c.sweep_often.ensures.swept (omega (arith, c.requires.wait));
+  swept = swept-same c.args.order.now.plan.now c.args.place.slot _ (c.args.order.now.wait + 0) c.args.replica.now c.sweep_often.new.replica c.sweep_often.ensures.swept (omega (arith, c.requires.wait));
   spins = λ b small. c.keep.ensures.spins c.args.order.now.plan.now.size b c.sweep_often.ensures.fits ∙ ap (λ (r : PlainCopy). r.spins) (c.sweep_often.ensures.swept b small);
   fits = c.sweep_often.ensures.fits;
   room = c.keep.ensures.fits c.args.order.now.plan.now.size c.requires.kept;
@@ -45,10 +45,10 @@ times-preserved g c =
     let earlier = before-earlier c.args.order.now.times.now c.times.k c.requires.times c.times-test.true in
     let short = c.requires.times.each c.times.k 0 c.times-test.true in
     let last = c.times.invariant.last in
-    let swept : HasSwept plan c.args.slot (c.args.order.now.wait + time) c.args.replica.now c.sweep_often-in-times.new.replica =
-    swept-on plan c.args.slot (c.args.order.now.wait + c.times.done) _ (c.args.order.now.wait + time) c.args.replica.now c.times.replica c.sweep_often-in-times.new.replica
+    let swept : HasSwept plan c.args.place.slot (c.args.order.now.wait + time) c.args.replica.now c.sweep_often-in-times.new.replica =
+    swept-on plan c.args.place.slot (c.args.order.now.wait + c.times.done) _ (c.args.order.now.wait + time) c.args.replica.now c.times.replica c.sweep_often-in-times.new.replica
     c.times.invariant.swept c.sweep_often-in-times.ensures.swept (omega arith) in
-    let lines = measured plan c.args.slot c.args.copy c.args.order.now.wait time c.sites.result c.args.order.now.samples c.agreeing-totals.result.words c.args.replica.now
+    let lines = measured plan c.args.place.slot c.args.place.copy c.args.order.now.wait time c.sites.result c.args.order.now.samples c.agreeing-totals.result.words c.args.replica.now
     c.keep.new.kept c.sweep_often-in-times.new.replica c.requires.samples (λ b small. c.agreeing-totals.ensures.value plan.size b c.times.invariant.room small)
     (c.sites.ensures.value ∙ ap volume c.lattice-lattice.ensures.value) c.times.invariant.spins swept in
     record {
@@ -68,10 +68,10 @@ returns-in_err-write_time-clause-prefix g c =
     let earlier = before-earlier c.args.order.now.times.now c.times.k c.requires.times c.times-test.true in
     let short = c.requires.times.each c.times.k 0 c.times-test.true in
     let last = c.times.invariant.last in
-    let swept : HasSwept plan c.args.slot (c.args.order.now.wait + time) c.args.replica.now c.sweep_often-in-times.new.replica =
-    swept-on plan c.args.slot (c.args.order.now.wait + c.times.done) _ (c.args.order.now.wait + time) c.args.replica.now c.times.replica c.sweep_often-in-times.new.replica
+    let swept : HasSwept plan c.args.place.slot (c.args.order.now.wait + time) c.args.replica.now c.sweep_often-in-times.new.replica =
+    swept-on plan c.args.place.slot (c.args.order.now.wait + c.times.done) _ (c.args.order.now.wait + time) c.args.replica.now c.times.replica c.sweep_often-in-times.new.replica
     c.times.invariant.swept c.sweep_often-in-times.ensures.swept (omega arith) in
-    let lines = measured plan c.args.slot c.args.copy c.args.order.now.wait time c.sites.result c.args.order.now.samples c.agreeing-totals.result.words c.args.replica.now
+    let lines = measured plan c.args.place.slot c.args.place.copy c.args.order.now.wait time c.sites.result c.args.order.now.samples c.agreeing-totals.result.words c.args.replica.now
     c.keep.new.kept c.sweep_often-in-times.new.replica c.requires.samples (λ b small. c.agreeing-totals.ensures.value plan.size b c.times.invariant.room small)
     (c.sites.ensures.value ∙ ap volume c.lattice-lattice.ensures.value) c.times.invariant.spins swept in
     OnErr_of _ (put-failed _ _ _ _ _ _ _ c.times.invariant.text (subst (AppendsPrefix _ (g.O.Sink.taken c.write_time.new.out)) lines c.in_err-write_time.ensures.prefix)

@@ -7,10 +7,10 @@ use Rattle.aging_run.proofs.writing.write_replica.Given as goal
 
 abbrev pub invariant-times : goal.invariant-times
 invariant-times g l = record {
-  text : g.O.Sink.taken l.out ≡ appended (g.O.Sink.taken l.fn.out) (replica_lines l.order.plan.now l.order.samples l.order.wait (take l.k l.order.times.now) l.slot l.copy (λ b. part_copy l.order.plan.now.size b l.fn.replica));
+  text : g.O.Sink.taken l.out ≡ appended (g.O.Sink.taken l.fn.out) (replica_lines l.order.plan.now l.order.samples l.order.wait (take l.k l.order.times.now) l.place.slot l.place.copy (λ b. part_copy l.order.plan.now.size b l.fn.replica));
   passed : g.O.Sink.faults l.out ≡ g.O.Sink.faults l.fn.out;
-  swept : HasSwept l.order.plan.now l.slot (l.order.wait + l.done) l.fn.replica l.replica;
-  spins : HasSpinsAfter l.order.plan.now l.slot l.order.wait l.fn.replica l.kept;
+  swept : HasSwept l.order.plan.now l.place.slot (l.order.wait + l.done) l.fn.replica l.replica;
+  spins : HasSpinsAfter l.order.plan.now l.place.slot l.order.wait l.fn.replica l.kept;
   fits : FitsReplica l.order.plan.now.size l.replica;
   room : FitsReplica l.order.plan.now.size l.kept;
   last : l.done ≡ time_before l.order.times.now l.k;
