@@ -15,6 +15,15 @@ use glass_edges::{Fault, Line, Sink};
 use run_plan::Orders;
 use scalar_rule::Record;
 
+/// What the rows of all banks are read from: the banks that were driven, the orders of the whole, and
+/// the number of slots.
+#[derive(Clone, Copy)]
+struct BankRows<'a> {
+    driven: &'a [Done],
+    orders: &'a Orders,
+    slots: usize,
+}
+
 /// Puts the rows of all banks between two epochs.
 pub(crate) fn write_bank_rows<O: Sink>(
     out: &mut O,
@@ -32,7 +41,12 @@ pub(crate) fn write_bank_rows<O: Sink>(
     ensures cause { HasCause (O.faults out.old) (O.faults out.new) result }
 {
     let mut line = Line::new();
-    add_bank_rows(out, &mut line, driven, orders, slots, from, to)?;
+    let rows = BankRows {
+        driven,
+        orders,
+        slots,
+    };
+    add_bank_rows(out, &mut line, &rows, from, to)?;
     line.put(out)
 }
 
@@ -40,24 +54,24 @@ pub(crate) fn write_bank_rows<O: Sink>(
 fn add_bank_rows<O: Sink>(
     out: &mut O,
     line: &mut Line,
-    driven: &[Done],
-    orders: &Orders,
-    slots: usize,
+    rows: &BankRows,
     from: u64,
     to: u64,
 ) -> Result<(), Fault>
-    requires { AreRowsFrom driven.now orders.now slots from to 0 }
+    requires { AreRowsFrom rows.now.driven.now rows.now.orders.now rows.now.slots from to 0 }
     ensures front { OnOk result (PutsFront (O.taken out.old) (O.taken out.new) (line.old
-        ++ text.rows_in_order (banks_measured (banks_in driven.now)) orders.now.samples orders.now.every from to)
+        ++ text.rows_in_order (banks_measured (banks_in rows.now.driven.now))
+        rows.now.orders.now.samples rows.now.orders.now.every from to)
         line.new) }
     ensures prefix { OnErr result (AppendsPrefix (O.taken out.old) (O.taken out.new) (line.old
-        ++ text.rows_in_order (banks_measured (banks_in driven.now)) orders.now.samples orders.now.every from to)) }
+        ++ text.rows_in_order (banks_measured (banks_in rows.now.driven.now))
+        rows.now.orders.now.samples rows.now.orders.now.every from to)) }
     ensures cause { HasCause (O.faults out.old) (O.faults out.new) result }
 {
     // How many of the epochs so far were recorded.
     let mut passed = 0usize;
     'epochs: for epoch in from..to {
-        let count = add_bank_recorded(out, line, driven, orders, slots, epoch, passed)?;
+        let count = add_bank_recorded(out, line, rows, epoch, passed)?;
         passed += count;
     }
     Ok(())
@@ -68,26 +82,26 @@ fn add_bank_rows<O: Sink>(
 fn add_bank_recorded<O: Sink>(
     out: &mut O,
     line: &mut Line,
-    driven: &[Done],
-    orders: &Orders,
-    slots: usize,
+    rows: &BankRows,
     epoch: u64,
     passed: usize,
 ) -> Result<usize, Fault>
-    requires { HaveNext driven.now orders.now slots epoch passed }
-    ensures count { IfOk result (λ count. count ≡ (if is_recorded orders.now.every epoch then 1 else 0)) }
+    requires { HaveNext rows.now.driven.now rows.now.orders.now rows.now.slots epoch passed }
+    ensures count { IfOk result (λ count. count ≡ (if is_recorded rows.now.orders.now.every epoch then 1 else 0)) }
     ensures front { OnOk result (PutsFront (O.taken out.old) (O.taken out.new) (line.old
-        ++ (if is_recorded orders.now.every epoch
-        then text.epoch_rows (banks_measured (banks_in driven.now)) orders.now.samples epoch else [])) line.new) }
+        ++ (if is_recorded rows.now.orders.now.every epoch
+        then text.epoch_rows (banks_measured (banks_in rows.now.driven.now)) rows.now.orders.now.samples epoch
+        else [])) line.new) }
     ensures prefix { OnErr result (AppendsPrefix (O.taken out.old) (O.taken out.new) (line.old
-        ++ (if is_recorded orders.now.every epoch
-        then text.epoch_rows (banks_measured (banks_in driven.now)) orders.now.samples epoch else []))) }
+        ++ (if is_recorded rows.now.orders.now.every epoch
+        then text.epoch_rows (banks_measured (banks_in rows.now.driven.now)) rows.now.orders.now.samples epoch
+        else []))) }
     ensures cause { HasCause (O.faults out.old) (O.faults out.new) result }
 {
-    if epoch % orders.every != orders.every - 1 {
+    if epoch % rows.orders.every != rows.orders.every - 1 {
         return Ok(0);
     }
-    add_bank_epoch(out, line, driven, orders, slots, epoch, passed)?;
+    add_bank_epoch(out, line, rows, epoch, passed)?;
     Ok(1)
 }
 
@@ -95,23 +109,21 @@ fn add_bank_recorded<O: Sink>(
 fn add_bank_epoch<O: Sink>(
     out: &mut O,
     line: &mut Line,
-    driven: &[Done],
-    orders: &Orders,
-    slots: usize,
+    rows: &BankRows,
     epoch: u64,
     passed: usize,
 ) -> Result<(), Fault>
-    requires next { HaveNext driven.now orders.now slots epoch passed }
-    requires recorded { is_recorded orders.now.every epoch ≡ true }
+    requires next { HaveNext rows.now.driven.now rows.now.orders.now rows.now.slots epoch passed }
+    requires recorded { is_recorded rows.now.orders.now.every epoch ≡ true }
     ensures front { OnOk result (PutsFront (O.taken out.old) (O.taken out.new) (line.old
-        ++ text.epoch_rows (banks_measured (banks_in driven.now)) orders.now.samples epoch) line.new) }
+        ++ text.epoch_rows (banks_measured (banks_in rows.now.driven.now)) rows.now.orders.now.samples epoch) line.new) }
     ensures prefix { OnErr result (AppendsPrefix (O.taken out.old) (O.taken out.new) (line.old
-        ++ text.epoch_rows (banks_measured (banks_in driven.now)) orders.now.samples epoch)) }
+        ++ text.epoch_rows (banks_measured (banks_in rows.now.driven.now)) rows.now.orders.now.samples epoch)) }
     ensures cause { HasCause (O.faults out.old) (O.faults out.new) result }
 {
-    'samples: for b in 0..orders.samples {
-        let bank = bank_with(driven, b);
-        let records = sample_records(bank, slots, passed, b as usize % 64);
+    'samples: for b in 0..rows.orders.samples {
+        let bank = bank_with(rows.driven, b);
+        let records = sample_records(bank, rows.slots, passed, b as usize % 64);
         add_sample(out, line, epoch, b, records)?;
     }
     Ok(())

@@ -75,7 +75,7 @@ fn put_report<O: Sink>(
     let to = stand.floor();
     let count = row_count(origin, slots, from, to);
     header(out, plan, window.samples, from, to)?;
-    write_rows(out, origin, slots, from, to, &records[..count])?;
+    write_rows(out, origin, from, to, &records[..count])?;
     end(out, to)?;
     if prints(spins, to, window.until) {
         write_spins(out, plan, stand, window.samples)?;

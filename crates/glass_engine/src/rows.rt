@@ -14,17 +14,23 @@ use glass_edges::{Fault, Line, Sink};
 use report_text::add_row;
 use scalar_rule::Record;
 
+/// Which rows a run has: those of the first samples in every slot, of each so many epochs in the last.
+#[derive(Clone, Copy)]
+struct Shape {
+    samples: u32,
+    every: u64,
+    slots: usize,
+}
+
 /// Puts the rows of a run between two epochs, whose records are these.
 pub(crate) fn write_rows<O: Sink>(
     out: &mut O,
     origin: &Origin,
-    slots: usize,
     from: u64,
     to: u64,
     records: &[Record],
 ) -> Result<(), Fault>
     requires lawful { board.IsLawfulOrigin origin.now }
-    requires slots { slots ≡ board.slots_in origin.now }
     requires window { from ≤ to }
     requires to { to ≤ last_epoch }
     requires records { records.now ≡ in_order (measured origin.now)
@@ -36,7 +42,7 @@ pub(crate) fn write_rows<O: Sink>(
     ensures cause { HasCause (O.faults out.old) (O.faults out.new) result }
 {
     let mut line = Line::new();
-    add_rows(out, &mut line, origin, slots, from, to, records)?;
+    add_rows(out, &mut line, origin, from, to, records)?;
     line.put(out)
 }
 
@@ -45,13 +51,11 @@ fn add_rows<O: Sink>(
     out: &mut O,
     line: &mut Line,
     origin: &Origin,
-    slots: usize,
     from: u64,
     to: u64,
     records: &[Record],
 ) -> Result<(), Fault>
     requires lawful { board.IsLawfulOrigin origin.now }
-    requires slots { slots ≡ board.slots_in origin.now }
     requires window { from ≤ to }
     requires to { to ≤ last_epoch }
     requires records { records.now ≡ in_order (measured origin.now)
@@ -63,10 +67,14 @@ fn add_rows<O: Sink>(
         ++ text.rows_in_order (measured origin.now) origin.now.window.samples origin.now.window.every from to)) }
     ensures cause { HasCause (O.faults out.old) (O.faults out.new) result }
 {
-    let window = origin.window;
+    let shape = Shape {
+        samples: origin.window.samples,
+        every: origin.window.every,
+        slots: origin.plan.slots() as usize,
+    };
     let mut rest = records;
     'epochs: for epoch in from..to {
-        let count = add_recorded(out, line, window.samples, window.every, slots, epoch, rest)?;
+        let count = add_recorded(out, line, &shape, epoch, rest)?;
         rest = &rest[count..];
     }
     Ok(())
@@ -77,53 +85,54 @@ fn add_rows<O: Sink>(
 fn add_recorded<O: Sink>(
     out: &mut O,
     line: &mut Line,
-    samples: u32,
-    every: u64,
-    slots: usize,
+    shape: &Shape,
     epoch: u64,
     records: &[Record],
 ) -> Result<usize, Fault>
-    requires samples { samples ≤ 64 }
-    requires every { 1 ≤ every }
-    requires slots { slots ≤ 32 }
-    requires records { (if is_recorded every epoch then samples * slots else 0) ≤ length records.now }
-    ensures count { IfOk result (λ count. count ≡ (if is_recorded every epoch then samples * slots else 0)) }
+    requires samples { shape.now.samples ≤ 64 }
+    requires every { 1 ≤ shape.now.every }
+    requires slots { shape.now.slots ≤ 32 }
+    requires records { (if is_recorded shape.now.every epoch then shape.now.samples * shape.now.slots else 0)
+        ≤ length records.now }
+    ensures count { IfOk result (λ count. count
+        ≡ (if is_recorded shape.now.every epoch then shape.now.samples * shape.now.slots else 0)) }
     ensures within { IfOk result (λ count. count ≤ length records.now) }
     ensures few { IfOk result (λ count. count ≤ 2048) }
     ensures front { OnOk result (PutsFront (O.taken out.old) (O.taken out.new)
-        (line.old ++ (if is_recorded every epoch then piece_rows epoch samples slots records.now else [])) line.new) }
+        (line.old ++ (if is_recorded shape.now.every epoch
+        then piece_rows epoch shape.now.samples shape.now.slots records.now else [])) line.new) }
     ensures prefix { OnErr result (AppendsPrefix (O.taken out.old) (O.taken out.new)
-        (line.old ++ (if is_recorded every epoch then piece_rows epoch samples slots records.now else []))) }
+        (line.old ++ (if is_recorded shape.now.every epoch
+        then piece_rows epoch shape.now.samples shape.now.slots records.now else []))) }
     ensures cause { HasCause (O.faults out.old) (O.faults out.new) result }
 {
-    if epoch % every != every - 1 {
+    if epoch % shape.every != shape.every - 1 {
         return Ok(0);
     }
-    add_epoch(out, line, epoch, samples, slots, records)?;
-    Ok(samples as usize * slots)
+    add_epoch(out, line, shape, epoch, records)?;
+    Ok(shape.samples as usize * shape.slots)
 }
 
 // Adds the rows of one epoch, whose records are the first of these.
 fn add_epoch<O: Sink>(
     out: &mut O,
     line: &mut Line,
+    shape: &Shape,
     epoch: u64,
-    samples: u32,
-    slots: usize,
     records: &[Record],
 ) -> Result<(), Fault>
-    requires records { samples * slots ≤ length records.now }
-    requires slots { slots ≤ 32 }
+    requires records { shape.now.samples * shape.now.slots ≤ length records.now }
+    requires slots { shape.now.slots ≤ 32 }
     ensures front { OnOk result (PutsFront (O.taken out.old) (O.taken out.new)
-        (line.old ++ piece_rows epoch samples slots records.now) line.new) }
+        (line.old ++ piece_rows epoch shape.now.samples shape.now.slots records.now) line.new) }
     ensures prefix { OnErr result (AppendsPrefix (O.taken out.old) (O.taken out.new)
-        (line.old ++ piece_rows epoch samples slots records.now)) }
+        (line.old ++ piece_rows epoch shape.now.samples shape.now.slots records.now)) }
     ensures cause { HasCause (O.faults out.old) (O.faults out.new) result }
 {
     let mut rest = records;
-    'samples: for b in 0..samples {
-        add_sample(out, line, epoch, b, &rest[..slots])?;
-        rest = &rest[slots..];
+    'samples: for b in 0..shape.samples {
+        add_sample(out, line, epoch, b, &rest[..shape.slots])?;
+        rest = &rest[shape.slots..];
     }
     Ok(())
 }

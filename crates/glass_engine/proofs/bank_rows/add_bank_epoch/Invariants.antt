@@ -7,6 +7,6 @@ use Rattle.glass_engine.proofs.bank_rows.add_bank_epoch.Given as goal
 
 abbrev pub invariant-samples : goal.invariant-samples
 invariant-samples g l = record {
-  text : PutsFront (g.O.Sink.taken l.fn.out) (g.O.Sink.taken l.out) (l.fn.line ++ epoch_rows (banks_measured (banks_in l.driven)) l.b l.epoch) l.line;
+  text : PutsFront (g.O.Sink.taken l.fn.out) (g.O.Sink.taken l.out) (l.fn.line ++ epoch_rows (banks_measured (banks_in l.rows.driven.now)) l.b l.epoch) l.line;
   passed : g.O.Sink.faults l.out ≡ g.O.Sink.faults l.fn.out;
 }

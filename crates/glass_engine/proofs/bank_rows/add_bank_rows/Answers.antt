@@ -24,16 +24,16 @@ add_bank_recorded-requires g c = record {
 
 pub returns-in_err-count-clause-prefix : goal.returns-in_err-count-clause-prefix
 returns-in_err-count-clause-prefix g c =
-    let m = banks_measured (banks_in c.args.driven.now) in
+    let m = banks_measured (banks_in c.args.rows.now.driven.now) in
     OnErr_of _ (add-failed _ _ _ _ _ _ _ _ _ c.epochs.invariant.text c.in_err-count.ensures.prefix
-    (window-at (rows_if m c.args.orders.now.samples c.args.orders.now.every) c.args.from c.epochs.epoch c.args.to (search (rules, arith)) c.epochs-test.true))
+    (window-at (rows_if m c.args.rows.now.orders.now.samples c.args.rows.now.orders.now.every) c.args.from c.epochs.epoch c.args.to (search (rules, arith)) c.epochs-test.true))
 
 pub epochs-preserved : goal.epochs-preserved
 epochs-preserved g c =
-    let m = banks_measured (banks_in c.args.driven.now) in
-    let next = rows-next c.args.driven.now c.args.orders.now c.args.slots c.epochs.epoch c.args.to c.epochs.passed c.epochs-test.true c.epochs.invariant.rows in
+    let m = banks_measured (banks_in c.args.rows.now.driven.now) in
+    let next = rows-next c.args.rows.now.driven.now c.args.rows.now.orders.now c.args.rows.now.slots c.epochs.epoch c.args.to c.epochs.passed c.epochs-test.true c.epochs.invariant.rows in
     record {
-      text = add-more _ _ _ _ _ _ _ _ _ c.epochs.invariant.text c.in_ok-count.ensures.front (rows-more m c.args.orders.now.samples c.args.orders.now.every c.args.from c.epochs.epoch (search (rules, arith)));
-      rows = subst (AreRowsFrom c.args.driven.now c.args.orders.now c.args.slots (c.epochs.epoch + 1) c.args.to) (ap (λ k. c.epochs.passed + k) (sym c.in_ok-count.ensures.count)) next;
+      text = add-more _ _ _ _ _ _ _ _ _ c.epochs.invariant.text c.in_ok-count.ensures.front (rows-more m c.args.rows.now.orders.now.samples c.args.rows.now.orders.now.every c.args.from c.epochs.epoch (search (rules, arith)));
+      rows = subst (AreRowsFrom c.args.rows.now.driven.now c.args.rows.now.orders.now c.args.rows.now.slots (c.epochs.epoch + 1) c.args.to) (ap (λ k. c.epochs.passed + k) (sym c.in_ok-count.ensures.count)) next;
       faultless = c.in_ok-count.ensures.cause.passed ∙ c.epochs.invariant.faultless;
     }

@@ -9,7 +9,7 @@ use Rattle.glass_engine.proofs.rows.add_epoch.Goals as goal
 
 pub samples-init : goal.samples-init
 samples-init g c =
-    let none : 0 * c.args.slots ≡ 0 = omega arith in
+    let none : 0 * c.args.shape.now.slots ≡ 0 = omega arith in
     record {
       text = add-none _ _ _ (joined-zero _ _);
       rest = sym (ap (λ n. drop n c.args.records.now) none);
@@ -18,22 +18,22 @@ samples-init g c =
 
 pub add_sample-requires : goal.add_sample-requires
 add_sample-requires g c =
-    let long = length-take c.args.slots c.samples.rest.now in
+    let long = length-take c.args.shape.now.slots c.samples.rest.now in
     omega (arith, c.requires.slots)
 
 pub samples-preserved : goal.samples-preserved
 samples-preserved g c =
-    let piece = ap (λ xs. sample_rows c.args.epoch c.samples.b (take c.args.slots xs)) c.samples.invariant.rest in
-    let next : c.samples.b * c.args.slots + c.args.slots ≡ (c.samples.b + 1) * c.args.slots = grind arith in
+    let piece = ap (λ xs. sample_rows c.args.epoch c.samples.b (take c.args.shape.now.slots xs)) c.samples.invariant.rest in
+    let next : c.samples.b * c.args.shape.now.slots + c.args.shape.now.slots ≡ (c.samples.b + 1) * c.args.shape.now.slots = grind arith in
     record {
       text = add-more _ _ _ _ _ _ _ _ _ c.samples.invariant.text (subst (λ xs. PutsFront (g.O.Sink.taken c.samples.out) (g.O.Sink.taken c.add_sample.new.out) (c.samples.line ++ xs) c.add_sample.new.line) piece c.in_ok-add_sample.ensures.front) (joined-more _ _ c.samples.b);
-      rest = take_rest c.samples.rest.now c.args.slots ∙ ap (drop c.args.slots) c.samples.invariant.rest
-          ∙ drop-drop c.args.slots (c.samples.b * c.args.slots) c.args.records.now ∙ ap (λ n. drop n c.args.records.now) next;
+      rest = take_rest c.samples.rest.now c.args.shape.now.slots ∙ ap (drop c.args.shape.now.slots) c.samples.invariant.rest
+          ∙ drop-drop c.args.shape.now.slots (c.samples.b * c.args.shape.now.slots) c.args.records.now ∙ ap (λ n. drop n c.args.records.now) next;
       passed = c.in_ok-add_sample.ensures.cause.passed ∙ c.samples.invariant.passed;
     }
 
 pub returns-in_err-add_sample-clause-prefix : goal.returns-in_err-add_sample-clause-prefix
 returns-in_err-add_sample-clause-prefix g c =
-    let piece = ap (λ xs. sample_rows c.args.epoch c.samples.b (take c.args.slots xs)) c.samples.invariant.rest in
+    let piece = ap (λ xs. sample_rows c.args.epoch c.samples.b (take c.args.shape.now.slots xs)) c.samples.invariant.rest in
     let failed = subst (λ xs. AppendsPrefix (g.O.Sink.taken c.samples.out) (g.O.Sink.taken c.add_sample.new.out) (c.samples.line ++ xs)) piece c.in_err-add_sample.ensures.prefix in
     OnErr_of _ (add-failed _ _ _ _ _ _ _ _ _ c.samples.invariant.text failed (joined-at _ _ c.samples.b _ c.samples-test.true))

@@ -1,8 +1,9 @@
-use Rattle.std.proofs.Common.{rules, arith, ◌++◌, drop, ◌∙◌, ap, sym, subst, refl}
+use Rattle.std.proofs.Common.{rules, arith, ◌≡◌, ◌++◌, drop, ◌∙◌, ap, sym, subst, refl}
 use Rattle.std.proofs.lemmas.List.{take_rest}
 use Rattle.spin_model.proofs.Tables.{length-table}
 use Rattle.glass_edges.specs.Contents.{AppendsPrefix, PutsFront}
 use Rattle.exchange_board.specs.Content.{slots_in}
+use Rattle.scalar_rule.specs.Plan.{Plan, slots_of}
 use Rattle.glass_engine.specs.RecordPieces.{measured}
 use Rattle.spin_model.proofs.Joined.{window-none, window-at}
 use Rattle.glass_engine.proofs.Pieces.{rows_if, rows-front, rows-more, count-front, drop-front}
@@ -20,14 +21,18 @@ epochs-init g c = record {
 pub add_recorded-requires-clause-records : goal.add_recorded-requires-clause-records
 add_recorded-requires-clause-records g c =
     let m = measured c.args.origin.now in
-    count-front m c.args.origin.now.window.samples c.args.slots c.args.origin.now.window.every c.epochs.epoch c.args.to c.epochs.rest.now
-    (λ k within. length-table _ (slots_in c.args.origin.now) ∙ sym c.requires.slots) c.epochs-test.true c.epochs.invariant.rest
+    let slots = c.slots.result in
+    let are : slots ≡ slots_in c.args.origin.now = c.slots.ensures.value ∙ ap (λ (p : Plan). slots_of p) c.deref.ensures in
+    count-front m c.args.origin.now.window.samples slots c.args.origin.now.window.every c.epochs.epoch c.args.to c.epochs.rest.now
+    (λ k within. length-table _ (slots_in c.args.origin.now) ∙ sym are) c.epochs-test.true c.epochs.invariant.rest
 
 pub returns-in_err-count-clause-prefix : goal.returns-in_err-count-clause-prefix
 returns-in_err-count-clause-prefix g c =
     let m = measured c.args.origin.now in
-    let front = rows-front m c.args.origin.now.window.samples c.args.slots c.args.origin.now.window.every c.epochs.epoch c.args.to c.epochs.rest.now
-    (λ k within. length-table _ (slots_in c.args.origin.now) ∙ sym c.requires.slots) c.epochs-test.true c.epochs.invariant.rest in
+    let slots = c.slots.result in
+    let are : slots ≡ slots_in c.args.origin.now = c.slots.ensures.value ∙ ap (λ (p : Plan). slots_of p) c.deref.ensures in
+    let front = rows-front m c.args.origin.now.window.samples slots c.args.origin.now.window.every c.epochs.epoch c.args.to c.epochs.rest.now
+    (λ k within. length-table _ (slots_in c.args.origin.now) ∙ sym are) c.epochs-test.true c.epochs.invariant.rest in
     let failed = subst (λ xs. AppendsPrefix (g.O.Sink.taken c.epochs.out) (g.O.Sink.taken c.add_recorded.new.out) (c.epochs.line ++ xs)) front c.in_err-count.ensures.prefix in
     OnErr_of _ (add-failed _ _ _ _ _ _ _ _ _ c.epochs.invariant.text failed
     (window-at (rows_if m c.args.origin.now.window.samples c.args.origin.now.window.every) c.args.from c.epochs.epoch c.args.to (search (rules, arith)) c.epochs-test.true))
@@ -35,10 +40,12 @@ returns-in_err-count-clause-prefix g c =
 pub epochs-preserved : goal.epochs-preserved
 epochs-preserved g c =
     let m = measured c.args.origin.now in
-    let front = rows-front m c.args.origin.now.window.samples c.args.slots c.args.origin.now.window.every c.epochs.epoch c.args.to c.epochs.rest.now
-    (λ k within. length-table _ (slots_in c.args.origin.now) ∙ sym c.requires.slots) c.epochs-test.true c.epochs.invariant.rest in
-    let behind = drop-front m c.args.origin.now.window.samples c.args.slots c.args.origin.now.window.every c.epochs.epoch c.args.to c.epochs.rest.now
-    (λ k within. length-table _ (slots_in c.args.origin.now) ∙ sym c.requires.slots) c.epochs-test.true c.epochs.invariant.rest in
+    let slots = c.slots.result in
+    let are : slots ≡ slots_in c.args.origin.now = c.slots.ensures.value ∙ ap (λ (p : Plan). slots_of p) c.deref.ensures in
+    let front = rows-front m c.args.origin.now.window.samples slots c.args.origin.now.window.every c.epochs.epoch c.args.to c.epochs.rest.now
+    (λ k within. length-table _ (slots_in c.args.origin.now) ∙ sym are) c.epochs-test.true c.epochs.invariant.rest in
+    let behind = drop-front m c.args.origin.now.window.samples slots c.args.origin.now.window.every c.epochs.epoch c.args.to c.epochs.rest.now
+    (λ k within. length-table _ (slots_in c.args.origin.now) ∙ sym are) c.epochs-test.true c.epochs.invariant.rest in
     record {
       text = add-more _ _ _ _ _ _ _ _ _ c.epochs.invariant.text (subst (λ xs. PutsFront (g.O.Sink.taken c.epochs.out) (g.O.Sink.taken c.add_recorded.new.out) (c.epochs.line ++ xs) c.add_recorded.new.line) front c.in_ok-count.ensures.front)
           (rows-more m c.args.origin.now.window.samples c.args.origin.now.window.every c.args.from c.epochs.epoch (search (rules, arith)));
