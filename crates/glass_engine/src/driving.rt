@@ -5,7 +5,7 @@ ghost use Rattle.glass_engine.specs.Runs.{IsEnd};
 
 use crate::done::Done;
 use crate::run::Run;
-use crate::workers::work_all;
+use crate::workers::{Shared, work_all};
 use glass_edges::Gate;
 use scalar_rule::Plan;
 use std::sync::Wait;
@@ -34,7 +34,12 @@ pub fn drive<R: Threads + Wait + Sync, G: Gate + Sync>(
         orders,
         saving,
     } = run;
-    work_all(rt, gate, &board, plan, pieces, seats.as_mut_slice());
+    let shared = Shared {
+        board: &board,
+        plan,
+        pieces,
+    };
+    work_all(rt, gate, &shared, seats.as_mut_slice());
     match board.close(seats).into_ragged() {
         Ok(ended) => Done {
             ended,

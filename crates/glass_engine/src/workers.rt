@@ -16,48 +16,51 @@ use shared_board::{BoardPass, SharedBoard};
 use std::sync::Wait;
 use std::thread::{Threads, join_mut};
 
+/// What all workers of a run share: the board, the plan, and into how many pieces they cut the planes
+/// of a sweep at most.
+#[derive(Clone, Copy)]
+pub(crate) struct Shared<'a> {
+    pub(crate) board: &'a SharedBoard,
+    pub(crate) plan: &'a Plan,
+    pub(crate) pieces: u32,
+    ghost some_pieces: { 1 ≤ pieces },
+    ghost few_pieces: { pieces ≤ 16 },
+}
+
 // The sweeps of a slot that this seat took, and its hand-back.
 fn bring<R: Threads + Wait + Sync, G: Gate + Sync>(
     rt: &R,
     gate: &G,
-    board: &SharedBoard,
-    plan: &Plan,
-    pieces: u32,
+    shared: &Shared,
     seat: &mut BoardPass,
     job: Job,
 )
-    requires own { IsTaker (lock_id board.now) plan.now job seat.old }
-    requires some_pieces { 1 ≤ pieces }
-    requires few_pieces { pieces ≤ 16 }
-    ensures rest { IsAtRest (lock_id board.now) plan.now seat.new }
+    requires own { IsTaker (lock_id shared.now.board.now) shared.now.plan.now job seat.old }
+    ensures rest { IsAtRest (lock_id shared.now.board.now) shared.now.plan.now seat.new }
     ensures same { IsSame (seat_view seat.old) (seat_view seat.new) }
 {
     gate.enter(job.slot(), job.epoch());
-    let swept = job.sweep(rt, plan, pieces);
-    let _ = board.settle(rt, plan, seat, swept);
+    let swept = job.sweep(rt, shared.plan, shared.pieces);
+    let _ = shared.board.settle(rt, shared.plan, seat, swept);
 }
 
 // One turn of a worker: true once there is no more to do. One that finds nothing pauses.
 fn turn<R: Threads + Wait + Sync, G: Gate + Sync>(
     rt: &R,
     gate: &G,
-    board: &SharedBoard,
-    plan: &Plan,
-    pieces: u32,
+    shared: &Shared,
     pause: &Backoff,
     seat: &mut BoardPass,
 ) -> bool
-    requires rest { IsAtRest (lock_id board.now) plan.now seat.old }
-    requires some_pieces { 1 ≤ pieces }
-    requires few_pieces { pieces ≤ 16 }
-    ensures rest { IsAtRest (lock_id board.now) plan.now seat.new }
+    requires rest { IsAtRest (lock_id shared.now.board.now) shared.now.plan.now seat.old }
+    ensures rest { IsAtRest (lock_id shared.now.board.now) shared.now.plan.now seat.new }
     ensures same { IsSame (seat_view seat.old) (seat_view seat.new) }
     ensures left { result ≡ true → HasLeft (seat_view seat.new) }
 {
-    match board.take(rt, seat) {
+    match shared.board.take(rt, seat) {
         Next::Job(job) => {
             pause.reset();
-            bring(rt, gate, board, plan, pieces, seat, job);
+            bring(rt, gate, shared, seat, job);
             false
         }
         Next::Nothing => {
@@ -72,21 +75,17 @@ fn turn<R: Threads + Wait + Sync, G: Gate + Sync>(
 fn work<R: Threads + Wait + Sync, G: Gate + Sync>(
     rt: &R,
     gate: &G,
-    board: &SharedBoard,
-    plan: &Plan,
-    pieces: u32,
+    shared: &Shared,
     seat: &mut BoardPass,
 )
-    requires rest { IsAtRest (lock_id board.now) plan.now seat.old }
-    requires some_pieces { 1 ≤ pieces }
-    requires few_pieces { pieces ≤ 16 }
-    ensures rest { IsAtRest (lock_id board.now) plan.now seat.new }
+    requires rest { IsAtRest (lock_id shared.now.board.now) shared.now.plan.now seat.old }
+    ensures rest { IsAtRest (lock_id shared.now.board.now) shared.now.plan.now seat.new }
     ensures same { IsSame (seat_view seat.old) (seat_view seat.new) }
     ensures left { HasLeft (seat_view seat.new) }
 {
     let pause = Backoff::new();
     for _ in rt.forever() {
-        if turn(rt, gate, board, plan, pieces, &pause, seat) {
+        if turn(rt, gate, shared, &pause, seat) {
             return;
         }
     }
@@ -100,24 +99,20 @@ fn work<R: Threads + Wait + Sync, G: Gate + Sync>(
 pub(crate) fn work_all<R: Threads + Wait + Sync, G: Gate + Sync>(
     rt: &R,
     gate: &G,
-    board: &SharedBoard,
-    plan: &Plan,
-    pieces: u32,
+    shared: &Shared,
     seats: &mut [BoardPass],
 )
-    requires rest { AreAtRest (lock_id board.now) plan.now seats.old }
-    requires some_pieces { 1 ≤ pieces }
-    requires few_pieces { pieces ≤ 16 }
-    ensures { HaveLeft (lock_id board.now) plan.now seats.old seats.new }
+    requires rest { AreAtRest (lock_id shared.now.board.now) shared.now.plan.now seats.old }
+    ensures { HaveLeft (lock_id shared.now.board.now) shared.now.plan.now seats.old seats.new }
 {
     if seats.len() < 2 {
         if let Some(seat) = seats.first_mut() {
-            work(rt, gate, board, plan, pieces, seat);
+            work(rt, gate, shared, seat);
         }
         return;
     }
     let (front, back) = seats.split_at_mut(seats.len() / 2);
-    both(rt, gate, board, plan, pieces, front, back);
+    both(rt, gate, shared, front, back);
 }
 
 // Apart from `work_all`, so that what the closures require is what this function is given.
@@ -125,31 +120,27 @@ pub(crate) fn work_all<R: Threads + Wait + Sync, G: Gate + Sync>(
 fn both<R: Threads + Wait + Sync, G: Gate + Sync>(
     rt: &R,
     gate: &G,
-    board: &SharedBoard,
-    plan: &Plan,
-    pieces: u32,
+    shared: &Shared,
     front: &mut [BoardPass],
     back: &mut [BoardPass],
 )
     requires some { (0 < length front.old) × (0 < length back.old) }
-    requires front { AreAtRest (lock_id board.now) plan.now front.old }
-    requires back { AreAtRest (lock_id board.now) plan.now back.old }
-    requires some_pieces { 1 ≤ pieces }
-    requires few_pieces { pieces ≤ 16 }
-    ensures front { HaveLeft (lock_id board.now) plan.now front.old front.new }
-    ensures back { HaveLeft (lock_id board.now) plan.now back.old back.new }
+    requires front { AreAtRest (lock_id shared.now.board.now) shared.now.plan.now front.old }
+    requires back { AreAtRest (lock_id shared.now.board.now) shared.now.plan.now back.old }
+    ensures front { HaveLeft (lock_id shared.now.board.now) shared.now.plan.now front.old front.new }
+    ensures back { HaveLeft (lock_id shared.now.board.now) shared.now.plan.now back.old back.new }
 {
     join_mut(
         rt,
         &mut ||
-            requires { IsSync R.row × IsSync G.row × (1 ≤ pieces) × (pieces ≤ 16)
-                × AreAtRest (lock_id board.now) plan.now front.now }
-            ensures { HaveLeft (lock_id board.entry.now) plan.entry.now front.entry.now front.exit.now }
-        { work_all(rt, gate, board, plan, pieces, front) },
+            requires { IsSync R.row × IsSync G.row
+                × AreAtRest (lock_id shared.now.board.now) shared.now.plan.now front.now }
+            ensures { HaveLeft (lock_id shared.entry.now.board.now) shared.entry.now.plan.now front.entry.now front.exit.now }
+        { work_all(rt, gate, shared, front) },
         &mut ||
-            requires { IsSync R.row × IsSync G.row × (1 ≤ pieces) × (pieces ≤ 16)
-                × AreAtRest (lock_id board.now) plan.now back.now }
-            ensures { HaveLeft (lock_id board.entry.now) plan.entry.now back.entry.now back.exit.now }
-        { work_all(rt, gate, board, plan, pieces, back) },
+            requires { IsSync R.row × IsSync G.row
+                × AreAtRest (lock_id shared.now.board.now) shared.now.plan.now back.now }
+            ensures { HaveLeft (lock_id shared.entry.now.board.now) shared.entry.now.plan.now back.entry.now back.exit.now }
+        { work_all(rt, gate, shared, back) },
     );
 }

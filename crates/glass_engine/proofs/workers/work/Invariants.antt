@@ -6,4 +6,4 @@ use Rattle.glass_engine.proofs.workers.work.Given as goal
 abbrev pub invariant-loop : goal.invariant-loop
 invariant-loop g l =
     (goal.iterator-loop g).can_next l.iterator' × (goal.iterator-loop g).is_finite l.iterator'
-    × IsAtRest (lock_id l.board) l.plan l.seat × IsSame (seat_view l.fn.seat) (seat_view l.seat)
+    × IsAtRest (lock_id l.shared.board.now) l.shared.plan.now l.seat × IsSame (seat_view l.fn.seat) (seat_view l.seat)
