@@ -1,12 +1,11 @@
 -- The planes of both colours of a replica in one list, colour 0 ahead of colour 1: what a step of the sweep does to it.
-use Rattle.std.proofs.Common.{◌≡◌, ℕ, ◌+◌, ◌-◌, ◌*◌, ◌<◌, ◌≤◌, List, ◌++◌, All, length, take, drop, refl, sym, ap, subst, ◌∙◌, arith, length-drop, length-append}
+use Rattle.std.proofs.Common.{◌≡◌, ℕ, ◌+◌, ◌-◌, ◌*◌, ◌<◌, ◌≤◌, List, ◌++◌, All, length, take, drop, sym, subst, ◌∙◌, arith, length-drop, length-append}
 use Rattle.std.proofs.lemmas.List.{take_at, drop_at, length-take-le}
 use Rattle.std.proofs.lemmas.List.Elements.{All-append, All-take, All-drop}
 use Rattle.coupling_set.specs.CouplingWords.{CouplingsView}
 use Rattle.plane_sweep.specs.DuoSweep.{FitHalves, FitsColours, SweepsAhead, SweepsBehind}
 use Rattle.plane_sweep.specs.Packed.{FitsPlane}
-use Rattle.plane_sweep.specs.PlaneSweep.{SweepsAt, SweepsPlane, SweepsColours}
-use Rattle.plane_sweep.specs.Storing.{Changed}
+use Rattle.plane_sweep.specs.PlaneSweep.{SweepsAt, SweepsColours}
 use Rattle.plane_sweep.specs.declared.replica.Plane.{Plane}
 use Rattle.threshold_table.specs.declared.rule_table.SlotRule.{SlotRule}
 use Rattle.plane_sweep.proofs.Following.{IsFollowing, following-start, following-step, following-first, following-second}

@@ -26,8 +26,8 @@ pub(crate) struct Drawn<'a, 'b> {
     pub(crate) second: &'b [u32],
 }
 
-/// The new words of the sites of a colour in plane `z` of both replicas, each by the planes of its
-/// own replica and its own draws. A smaller lattice has no code for both, since its couplings stay
+/// The new words of the sites of a colour in a plane of both replicas, each by the planes of its own
+/// replica and its own draws. A smaller lattice has no code for both, since its couplings stay
 /// near the processor anyhow.
 pub(crate) fn sweep_words_of_duo(
     first: &mut [u64],

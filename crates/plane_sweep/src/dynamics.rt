@@ -3,18 +3,18 @@
 use coupling_set::Couplings;
 use threshold_table::SlotRule;
 
-/// What all sites of a replica are swept by.
+/// What the sweep of a replica depends on besides spins and draws.
 #[derive(Clone, Copy)]
-pub(crate) struct Dynamics<'a> {
-    pub(crate) couplings: &'a Couplings,
-    pub(crate) rule: &'a SlotRule,
+pub struct Dynamics<'a> {
+    pub couplings: &'a Couplings,
+    pub rule: &'a SlotRule,
 }
 
-/// The sites of a colour in plane z, and what they are swept by.
+/// The sites of a colour in plane `z`, and what their new spins depend on besides spins and draws.
 #[derive(Clone, Copy)]
-pub(crate) struct HalfPlane<'a> {
-    pub(crate) couplings: &'a Couplings,
-    pub(crate) rule: &'a SlotRule,
-    pub(crate) colour: u32,
-    pub(crate) z: u32,
+pub struct HalfPlane<'a> {
+    pub couplings: &'a Couplings,
+    pub rule: &'a SlotRule,
+    pub colour: u32,
+    pub z: u32,
 }

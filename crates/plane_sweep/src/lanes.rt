@@ -33,10 +33,10 @@ pub(crate) fn sweep_four(
     update_four(own, rule, draws, row.here + k, &six);
 }
 
-// The new words of the four sites from a place on, each by its draw. Lane i has J times the spins of
-// the neighbours of site i.
+/// The new words of the four sites from a place on, each by its draw. Lane i has J times the spins of
+/// the neighbours of site i.
 #[inline(always)]
-fn update_four(own: &mut [u64], rule: &SlotRule, draws: &[u32], at: usize, six: &[[u64; 4]; 6])
+pub fn update_four(own: &mut [u64], rule: &SlotRule, draws: &[u32], at: usize, six: &[[u64; 4]; 6])
     requires own { at + 4 ≤ length own.old }
     requires draws { at + 4 ≤ length draws.now }
     ensures { SweepsFour (lane_words six.now) rule.now draws.now at own.old own.new }

@@ -24,14 +24,15 @@ mod uneven;
 
 pub use cells::{Cell, cell_at, deepest, has_record, shallowest};
 pub use duos::sweep_duo_often;
-pub use lanes::pulls_of_four;
+pub use dynamics::{Dynamics, HalfPlane};
+pub use lanes::{pulls_of_four, update_four};
 pub use laws::{
     labels_permute_after_epochs, labels_permute_after_exchange, parts_are_starting_states,
 };
 pub use parts::site_word;
 pub use replica::{Duo, Plane, Replica};
-pub use rows::{Row, first_row, pulls_of, row_behind};
+pub use rows::{Row, first_row, is_in_order, kind_of, pulls_of, row_behind, sweep_words};
 pub use stand::{PairWheels, Stand};
 pub use surroundings::{Surroundings, lend};
-pub use sweeping::{sweep, sweep_often};
+pub use sweeping::{sweep, sweep_often, sweep_plane};
 pub use uneven::{Place, RaggedStand, record_in_range};

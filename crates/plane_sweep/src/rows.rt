@@ -1,6 +1,7 @@
 //! The new words of a plane's sites, row by row.
 
 ghost use Rattle.std.specs.Prelude.{◌≡◌, ℕ, ◌+◌, ◌-◌, ◌*◌, ◌/◌, ◌%◌, ◌<◌, ◌≤◌, ◌==◌, if◌then◌else◌, length, All};
+ghost use Rattle.local_rule.specs.RowOrder.{is_falling, is_rising};
 ghost use Rattle.local_rule.specs.SiteBits.{set_count};
 ghost use Rattle.plane_sweep.specs.PlaneSweep.{agreeing_count, left_column, pulls_lent, right_column, SweepsRow, SweepsWord, SweepsWords, IsRow, HasRows};
 ghost use Rattle.plane_sweep.specs.Packed.{FitsPlane};
@@ -29,9 +30,9 @@ pub struct Row {
     pub even: bool,
 }
 
-/// The new words of the sites of a colour in plane `z`, from the planes of the other colour, each
-/// site by the draw of its place.
-pub(crate) fn sweep_words(own: &mut [u64], other: &[Plane], sites: &HalfPlane, draws: &[u32])
+/// The new words of the sites of a colour in a plane, from the planes of the other colour, each site
+/// by the draw of its place.
+pub fn sweep_words(own: &mut [u64], other: &[Plane], sites: &HalfPlane, draws: &[u32])
     requires own { length own.old ≡ half_plane sites.now.couplings.now.size }
     requires draws { length draws.now ≡ half_plane sites.now.couplings.now.size }
     requires count { length other.now ≡ sites.now.couplings.now.size }
@@ -124,7 +125,7 @@ fn sweep_rows<const SIZE: usize, const HEAT: bool, const EVEN: bool>(
 
 /// Heat bath, or Metropolis.
 #[inline(always)]
-pub(crate) fn kind_of(heat: bool) -> RuleKind
+pub fn kind_of(heat: bool) -> RuleKind
     ensures { result ≡ (if heat then RuleKind.Heat else RuleKind.Metropolis) }
 {
     if heat {
@@ -136,7 +137,10 @@ pub(crate) fn kind_of(heat: bool) -> RuleKind
 
 /// Whether a row of a table is in the order that the code of a size asks for.
 #[inline(always)]
-pub(crate) fn is_in_order(kind: RuleKind, row: &RuleRow) -> bool {
+pub fn is_in_order(kind: RuleKind, row: &RuleRow) -> bool
+    ensures heat { kind ≡ RuleKind.Heat → result ≡ is_rising row.now.values }
+    ensures metropolis { kind ≡ RuleKind.Metropolis → result ≡ is_falling row.now.values }
+{
     match kind {
         RuleKind::Heat => is_rising(row),
         RuleKind::Metropolis => is_falling(row),

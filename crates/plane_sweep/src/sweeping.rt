@@ -246,8 +246,9 @@ fn sweep_alone(plane: &mut Plane, other: &[Plane], dynamics: &Dynamics, colour: 
     sweep_plane(plane, other, &sites, &mut [0u32; 2048]);
 }
 
-// The sites of a colour in plane z. Each has a draw, used or not, so that all samples can share it.
-fn sweep_plane(plane: &mut Plane, other: &[Plane], sites: &HalfPlane, draws: &mut [u32])
+/// Sweeps the sites of a colour in a plane, by the planes of the other colour. Each site has a draw, used
+/// or not, so that all samples can share it; `draws` is the room for them.
+pub fn sweep_plane(plane: &mut Plane, other: &[Plane], sites: &HalfPlane, draws: &mut [u32])
     requires own { FitsPlane sites.now.couplings.now.size plane.old }
     requires other { length other.now ≡ sites.now.couplings.now.size }
     requires others { All (FitsPlane sites.now.couplings.now.size) other.now }
