@@ -9,8 +9,8 @@ ghost use Rattle.exchange_board.specs.Views.{place_at, out_at, ready_at, arrived
 
 use crate::board::{Board, Home, Slot};
 use crate::job::Swept;
-use crate::rows::record_slot;
-use crate::trading::{Side, meet};
+use crate::rows::{SlotEpoch, record_slot};
+use crate::trading::{PlanPair, Side, meet};
 use scalar_rule::Plan;
 
 /// What a hand-back has done.
@@ -120,15 +120,8 @@ impl Board {
             duo,
             totals,
         } = swept;
-        record_slot(
-            &mut self.records,
-            &duo,
-            &totals,
-            plan,
-            &self.origin,
-            slot,
-            epoch,
-        );
+        let at = SlotEpoch { slot, epoch };
+        record_slot(&mut self.records, &duo, &totals, plan, &self.origin, at);
         *self.slots.at_mut(slot as usize) = Slot {
             epoch: epoch + 1,
             home: Some(Home {
@@ -155,15 +148,8 @@ impl Board {
             duo,
             totals,
         } = swept;
-        record_slot(
-            &mut self.records,
-            &duo,
-            &totals,
-            plan,
-            &self.origin,
-            slot,
-            epoch,
-        );
+        let at = SlotEpoch { slot, epoch };
+        record_slot(&mut self.records, &duo, &totals, plan, &self.origin, at);
         *self.slots.at_mut(slot as usize) = Slot {
             epoch,
             home: Some(Home {
@@ -191,20 +177,17 @@ impl Board {
             mut duo,
             totals,
         } = swept;
-        record_slot(
-            &mut self.records,
-            &duo,
-            &totals,
-            plan,
-            &self.origin,
-            slot,
-            epoch,
-        );
+        let at = SlotEpoch { slot, epoch };
+        record_slot(&mut self.records, &duo, &totals, plan, &self.origin, at);
         let is_low = is_colder(slot, epoch);
         let pair = colder(slot, other, is_low);
         let wheels = self.pairs.at_mut(pair as usize);
         let mate = self.slots.at_mut(other as usize);
-        meet(mate, &mut duo, &totals, wheels, plan, Side { pair, is_low });
+        let side = Side {
+            pair: PlanPair { plan, number: pair },
+            is_low,
+        };
+        meet(mate, &mut duo, &totals, wheels, &side);
         *self.slots.at_mut(slot as usize) = Slot {
             epoch: epoch + 1,
             home: Some(Home {

@@ -83,6 +83,13 @@ fn write_rows(records: &mut Items<Record>, duo: &Duo, totals: &Totals, plan: &Pl
     }
 }
 
+/// A slot at an epoch.
+#[derive(Clone, Copy)]
+pub(crate) struct SlotEpoch {
+    pub(crate) slot: u32,
+    pub(crate) epoch: u64,
+}
+
 /// Writes the records of a slot that is swept at an epoch, where it is recorded.
 pub(crate) fn record_slot(
     records: &mut Items<Record>,
@@ -90,18 +97,17 @@ pub(crate) fn record_slot(
     totals: &Totals,
     plan: &Plan,
     origin: &Origin,
-    slot: u32,
-    epoch: u64,
+    at: SlotEpoch,
 )
     requires lawful { IsLawfulOrigin origin.now }
-    requires slot { slot < slots_in origin.now }
-    requires from { floor_in origin.now ≤ epoch }
-    requires below { epoch < origin.now.window.until }
+    requires slot { at.slot < slots_in origin.now }
+    requires from { floor_in origin.now ≤ at.epoch }
+    requires below { at.epoch < origin.now.window.until }
     requires duo { FitsDuo plan.now.size duo.now }
     requires totals { AreTotals plan.now duo.now totals.now }
     requires sized { length records.old ≡ row_total origin.now }
-    ensures { RecordsAfter origin.now slot epoch (λ i. model.record_of plan.now i (part_slot plan.now.size i duo.now)) records.old records.new }
+    ensures { RecordsAfter origin.now at.slot at.epoch (λ i. model.record_of plan.now i (part_slot plan.now.size i duo.now)) records.old records.new }
 {
-    let rows = rows_of(origin, slot, epoch);
+    let rows = rows_of(origin, at.slot, at.epoch);
     write_rows(records, duo, totals, plan, &rows);
 }

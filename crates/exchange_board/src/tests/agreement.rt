@@ -38,18 +38,24 @@ fn has_rows(records: &[Record], place: usize, rows: &[Record]) -> bool
     place + 3 <= records.len() && &records[place..place + 3] == rows
 }
 
+// The state and the records that a board ends with.
+#[derive(Clone, Copy)]
+struct Outcome<'a> {
+    end: &'a Stand,
+    records: &'a [Record],
+}
+
 // Whether a sample alone goes to the state and the records of a board at epoch 4, where epochs 1 and
 // 3 of all samples are recorded.
 fn agrees(
     alloc: Global,
     plan: &Plan,
     start: &Stand,
-    end: &Stand,
-    records: &[Record],
+    outcome: &Outcome,
     bit: u32,
 ) -> Result<bool, Fail>
     requires start { StandFits plan.now start.now }
-    requires end { StandFits plan.now end.now }
+    requires end { StandFits plan.now outcome.now.end.now }
     requires bit { bit < 64 }
 {
     let mut sample = start.sample(alloc, plan, bit)?;
@@ -58,10 +64,10 @@ fn agrees(
     }
     let mut rows = vec![in alloc; record(0, 0); plan.slots() as usize]?;
     two_epochs(&mut sample, plan, rows.as_mut_slice());
-    let early = has_rows(records, bit as usize * 3, rows.as_slice());
+    let early = has_rows(outcome.records, bit as usize * 3, rows.as_slice());
     two_epochs(&mut sample, plan, rows.as_mut_slice());
-    let late = has_rows(records, (64 + bit) as usize * 3, rows.as_slice());
-    let part = end.sample(alloc, plan, bit)?;
+    let late = has_rows(outcome.records, (64 + bit) as usize * 3, rows.as_slice());
+    let part = outcome.end.sample(alloc, plan, bit)?;
     Ok(early && late && same_sample(&part, &sample))
 }
 
@@ -95,8 +101,7 @@ fn order_agrees<R: Abort + Threads + Sync>(
     alloc: Global,
     plan: &Arc<Plan, Global>,
     start: &Stand,
-    end: &Stand,
-    records: &[Record],
+    outcome: &Outcome,
     order: Order,
 ) -> Result<(), Fail>
     requires slots { slots_of (arc_value plan.now) ≡ 3 }
@@ -104,7 +109,7 @@ fn order_agrees<R: Abort + Threads + Sync>(
     requires begun { start.now.epoch ≡ 0 }
 {
     let (other, rows) = worked(rt, alloc, plan, start, order)?;
-    let same = same_stand(end, &other) && rows.as_slice() == records;
+    let same = same_stand(outcome.end, &other) && rows.as_slice() == outcome.records;
     holds(rt, "another order ends otherwise", 0, same);
     Ok(())
 }
@@ -115,14 +120,13 @@ fn samples_agree<R: Abort>(
     alloc: Global,
     plan: &Plan,
     start: &Stand,
-    end: &Stand,
-    records: &[Record],
+    outcome: &Outcome,
 ) -> Result<(), Fail>
     requires start { StandFits plan.now start.now }
-    requires end { StandFits plan.now end.now }
+    requires end { StandFits plan.now outcome.now.end.now }
 {
     for bit in 0..64 {
-        let same = agrees(alloc, plan, start, end, records, bit)?;
+        let same = agrees(alloc, plan, start, outcome, bit)?;
         holds(rt, "a sample alone ends otherwise:", bit as u64, same);
     }
     Ok(())
@@ -136,12 +140,15 @@ fn orders_agree<R: Abort + Threads + Sync>(
     let plan = random_slots(alloc, 6, kind)?;
     let start = opening(alloc, &plan, Start::Random)?;
     let (end, records) = worked(rt, alloc, &plan, &start, Order::OneByOne)?;
-    let records = records.as_slice();
+    let outcome = Outcome {
+        end: &end,
+        records: records.as_slice(),
+    };
     for order in [Order::FirstBackFirst, Order::LastBackFirst] {
-        order_agrees(rt, alloc, &plan, &start, &end, records, order)?;
+        order_agrees(rt, alloc, &plan, &start, &outcome, order)?;
     }
     holds(rt, "384 records", 0, records.len() == 384);
-    samples_agree(rt, alloc, &plan, &start, &end, records)
+    samples_agree(rt, alloc, &plan, &start, &outcome)
 }
 
 #[test]

@@ -54,23 +54,30 @@ pub(super) fn holds<R: Abort>(rt: &R, case: &str, number: u64, whether: bool) {
     }
 }
 
+// The tables of so many slots, as text.
+#[derive(Clone, Copy)]
+struct Tables<'a> {
+    kind: RuleKind,
+    rules: &'a str,
+    swaps: &'a str,
+    slots: u32,
+}
+
 // The plan of so many slots by the texts of its tables.
 fn plan_by(
     alloc: Global,
     lattice: Lattice,
     couplings: Couplings,
-    kind: RuleKind,
-    rules: &str,
-    swaps: &str,
-    slots: u32,
+    tables: &Tables,
     seed: u64,
 ) -> Result<Arc<Plan, Global>, Fail>
     requires couplings { couplings.size ≡ lattice }
     requires seed { seed ≤ 1000000 }
-    ensures { IfOk result (λ plan. slots_of (arc_value plan) ≡ slots) }
+    ensures { IfOk result (λ plan. slots_of (arc_value plan) ≡ tables.now.slots) }
 {
-    let rules = read_rule(alloc, rules.as_bytes(), kind)?;
-    let swaps = read_swap(alloc, swaps.as_bytes(), rules.slots())?;
+    let slots = tables.slots;
+    let rules = read_rule(alloc, tables.rules.as_bytes(), tables.kind)?;
+    let swaps = read_swap(alloc, tables.swaps.as_bytes(), rules.slots())?;
     if rules.slots() != slots || swaps.pairs() + 1 != slots {
         return Err("another number of slots".into());
     }
@@ -82,18 +89,30 @@ fn plan_by(
 pub(super) fn two_slots(alloc: Global) -> Result<Arc<Plan, Global>, Fail>
     ensures { IfOk result (λ plan. slots_of (arc_value plan) ≡ 2) }
 {
-    let (lattice, kind) = (Lattice::of(4)?, RuleKind::Heat);
+    let lattice = Lattice::of(4)?;
     let couplings = Couplings::plus(alloc, lattice)?;
-    plan_by(alloc, lattice, couplings, kind, AGAINST_AND_UP, "0\n", 2, 7)
+    let tables = Tables {
+        kind: RuleKind::Heat,
+        rules: AGAINST_AND_UP,
+        swaps: "0\n",
+        slots: 2,
+    };
+    plan_by(alloc, lattice, couplings, &tables, 7)
 }
 
 // Three slots of the ferromagnet that are alike.
 pub(super) fn three_slots(alloc: Global) -> Result<Arc<Plan, Global>, Fail>
     ensures { IfOk result (λ plan. slots_of (arc_value plan) ≡ 3) }
 {
-    let (lattice, kind) = (Lattice::of(4)?, RuleKind::Heat);
+    let lattice = Lattice::of(4)?;
     let couplings = Couplings::plus(alloc, lattice)?;
-    plan_by(alloc, lattice, couplings, kind, UP, "0\n0\n", 3, 7)
+    let tables = Tables {
+        kind: RuleKind::Heat,
+        rules: UP,
+        swaps: "0\n0\n",
+        slots: 3,
+    };
+    plan_by(alloc, lattice, couplings, &tables, 7)
 }
 
 // Three temperatures with random couplings.
@@ -110,7 +129,13 @@ pub(super) fn random_slots(
         RuleKind::Heat => HEAT,
         RuleKind::Metropolis => METROPOLIS,
     };
-    plan_by(alloc, lattice, couplings, kind, rules, HALF, 3, 11)
+    let tables = Tables {
+        kind,
+        rules,
+        swaps: HALF,
+        slots: 3,
+    };
+    plan_by(alloc, lattice, couplings, &tables, 11)
 }
 
 // The state at epoch 0.
