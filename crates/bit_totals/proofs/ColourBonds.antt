@@ -1,4 +1,4 @@
--- Each bond has one end of colour 0: the six bonds of each site of that colour are all bonds.
+-- Each bond has one end of each colour: the six bonds of each site of one colour are all bonds.
 use Rattle.std.proofs.Common.{inl, inr, ◌≡◌, ℕ, zero, suc, ◌+◌, ◌*◌, ◌/◌, ◌%◌, ◌<◌, ◌≤◌, ◌==◌, Bool, true, false, not, cond, List, refl, ap, sym, ◌∙◌, arith}
 use Rattle.std.proofs.Math.Nat.{mul_assoc}
 use Rattle.std.proofs.lemmas.Bool.{cases_eq}
@@ -97,55 +97,65 @@ either : (t : Bool) (x : ℕ) → cond t x 0 + cond t 0 x ≡ x
 either true x = omega arith
 either false x = omega arith
 
-both-ends : (c e x y : ℕ) → e + c ≡ 1 → cond (c == 0) (x + y) 0 ≡ cond (c == 0) x 0 + cond (e == 0) 0 y
-both-ends c e x y one = elim (cases_eq c 0) [
+both-ends : (a e c x y : ℕ) → e + a ≡ 1 → c < 2 → cond (a == c) (x + y) 0 ≡ cond (a == c) x 0 + cond (e == c) 0 y
+both-ends a e zero x y one chosen = elim (cases_eq a 0) [
   | inl first ↦
       let other : e ≡ 1 = omega arith in
       rw (first, other) refl
   | inr not ↦
-      let second : c ≡ 1 = omega arith in
+      let second : a ≡ 1 = omega arith in
       let other : e ≡ 0 = omega arith in
       rw (second, other) refl
 ]
+both-ends a e (suc zero) x y one chosen = elim (cases_eq a 0) [
+  | inl first ↦
+      let other : e ≡ 1 = omega arith in
+      rw (first, other) refl
+  | inr not ↦
+      let second : a ≡ 1 = omega arith in
+      let other : e ≡ 0 = omega arith in
+      rw (second, other) refl
+]
+both-ends a e (suc (suc c)) x y one chosen = absurd (omega arith)
 
--- in one direction the sites of colour 0 have all bonds, ahead or behind
-one-direction : (l : ℕ) (bonds : Bonds) (spins : List Bool) (d : ℕ) → IsLawfulSize l → d < 3
-    → sum_below (λ i. cond (colour l i == 0) (one_ahead l bonds spins d i + one_ahead l bonds spins d (backward l i d)) 0) (volume l) ≡ sum_below (one_ahead l bonds spins d) (volume l)
-one-direction l bonds spins d lawful h =
+-- in one direction the sites of a colour have all bonds, ahead or behind
+one-direction : (l : ℕ) (bonds : Bonds) (spins : List Bool) (c d : ℕ) → IsLawfulSize l → c < 2 → d < 3
+    → sum_below (λ i. cond (colour l i == c) (one_ahead l bonds spins d i + one_ahead l bonds spins d (backward l i d)) 0) (volume l) ≡ sum_below (one_ahead l bonds spins d) (volume l)
+one-direction l bonds spins c d lawful chosen h =
     let v = volume l in
     let f = one_ahead l bonds spins d in
-    let first = λ (i : ℕ). cond (colour l i == 0) (f i) 0 in
-    let second = λ (i : ℕ). cond (colour l i == 0) 0 (f i) in
+    let first = λ (i : ℕ). cond (colour l i == c) (f i) 0 in
+    let second = λ (i : ℕ). cond (colour l i == c) 0 (f i) in
     let shift = shifted l d lawful h in
     let back : ArePermutation (λ i. backward l i d) (λ i. forward l i d) v = record { on = shift.back; back = shift.on; undone = shift.redone; redone = shift.undone } in
-    sum-same (λ i. cond (colour l i == 0) (f i + f (backward l i d)) 0) (λ i. first i + second (backward l i d)) v
-    (λ i below. both-ends (colour l i) (colour l (backward l i d)) (f i) (f (backward l i d)) (colour-backward l i d lawful below))
+    sum-same (λ i. cond (colour l i == c) (f i + f (backward l i d)) 0) (λ i. first i + second (backward l i d)) v
+    (λ i below. both-ends (colour l i) (colour l (backward l i d)) c (f i) (f (backward l i d)) (colour-backward l i d lawful below) chosen)
     ∙ sum-add first (λ i. second (backward l i d)) v
     ∙ ap (λ n. sum_below first v + n) (sum-permuted second (λ i. backward l i d) (λ i. forward l i d) v back)
     ∙ sym (sum-add first second v)
-    ∙ sum-same (λ i. first i + second i) f v (λ i below. either (colour l i == 0) (f i))
+    ∙ sum-same (λ i. first i + second i) f v (λ i below. either (colour l i == c) (f i))
 
 spread : (t : Bool) (x y z : ℕ) → cond t (x + y + z) 0 ≡ cond t x 0 + cond t y 0 + cond t z 0
 spread true x y z = refl
 spread false x y z = refl
 
 -- over all three directions
-colour-bonds : (l : ℕ) (bonds : Bonds) (spins : List Bool) → IsLawfulSize l
-    → sum_below (λ i. cond (colour l i == 0) (unsatisfied_at l bonds spins i) 0) (volume l) ≡ unsatisfied l bonds spins
-colour-bonds l bonds spins lawful =
+colour-bonds : (l : ℕ) (bonds : Bonds) (spins : List Bool) (c : ℕ) → IsLawfulSize l → c < 2
+    → sum_below (λ i. cond (colour l i == c) (unsatisfied_at l bonds spins i) 0) (volume l) ≡ unsatisfied l bonds spins
+colour-bonds l bonds spins c lawful chosen =
     let v = volume l in
     let f = one_ahead l bonds spins in
-    let part = λ (d i : ℕ). cond (colour l i == 0) (f d i + f d (backward l i d)) 0 in
+    let part = λ (d i : ℕ). cond (colour l i == c) (f d i + f d (backward l i d)) 0 in
     let test = λ (n : ℕ). one_if (is_unsatisfied l bonds spins n) in
     let sites =
-    sum-same (λ i. cond (colour l i == 0) (unsatisfied_at l bonds spins i) 0) (λ i. part 0 i + part 1 i + part 2 i) v
-    (λ i below. ap (λ n. cond (colour l i == 0) n 0) (six-bonds l bonds spins i lawful below) ∙ spread (colour l i == 0) (f 0 i + f 0 (backward l i 0)) (f 1 i + f 1 (backward l i 1)) (f 2 i + f 2 (backward l i 2)))
+    sum-same (λ i. cond (colour l i == c) (unsatisfied_at l bonds spins i) 0) (λ i. part 0 i + part 1 i + part 2 i) v
+    (λ i below. ap (λ n. cond (colour l i == c) n 0) (six-bonds l bonds spins i lawful below) ∙ spread (colour l i == c) (f 0 i + f 0 (backward l i 0)) (f 1 i + f 1 (backward l i 1)) (f 2 i + f 2 (backward l i 2)))
     in
     let parts = sum-add (λ i. part 0 i + part 1 i) (part 2) v in
     let more = sum-add (part 0) (part 1) v in
-    let x = one-direction l bonds spins 0 lawful (omega arith) in
-    let y = one-direction l bonds spins 1 lawful (omega arith) in
-    let z = one-direction l bonds spins 2 lawful (omega arith) in
+    let x = one-direction l bonds spins c 0 lawful chosen (omega arith) in
+    let y = one-direction l bonds spins c 1 lawful chosen (omega arith) in
+    let z = one-direction l bonds spins c 2 lawful chosen (omega arith) in
     let thirds = sum-thirds test v in
     let all = count-sum (is_unsatisfied l bonds spins) (bond_count l) in
     let first = sum-same (f 0) (λ i. test (3 * i)) v (λ i _. let e : bond i 0 ≡ 3 * i = omega arith in ap test e) in
@@ -163,44 +173,64 @@ place-colour l c p lawful chosen below =
     let place : c * half_volume l + p ≡ c * half_volume l + p / half_plane l * half_plane l + p % half_plane l = omega arith in
     ap (λ n. colour l (from_compact l n)) place ∙ (site_of-at l c (p / half_plane l) (p % half_plane l) lawful chosen z j).of_colour
 
--- the first half of the compact order is colour 0
-first-half : (f : ℕ → ℕ) (l : ℕ) → IsLawfulSize l → sum_below (λ p. f (from_compact l p)) (half_volume l) ≡ sum_below (λ i. cond (colour l i == 0) (f i) 0) (volume l)
-first-half f l lawful =
+sum-chosen : (t : Bool) (f : ℕ → ℕ) (n : ℕ) → sum_below (λ p. cond t (f p) 0) n ≡ cond t (sum_below f n) 0
+sum-chosen true f n = refl
+sum-chosen false f n = sum-none (λ p. 0) n (λ t below. refl)
+
+-- each half of the compact order is one colour
+half-chosen : (f : ℕ → ℕ) (l c e : ℕ) → IsLawfulSize l → e < 2
+    → sum_below (λ p. cond (colour l (from_compact l (e * half_volume l + p)) == c) (f (from_compact l (e * half_volume l + p))) 0) (half_volume l)
+    ≡ cond (e == c) (sum_below (λ p. f (from_compact l (e * half_volume l + p))) (half_volume l)) 0
+half-chosen f l c e lawful known =
     let h = half_volume l in
-    let g = λ (i : ℕ). cond (colour l i == 0) (f i) 0 in
+    let at = λ (p : ℕ). f (from_compact l (e * h + p)) in
+    sum-same (λ p. cond (colour l (from_compact l (e * h + p)) == c) (at p) 0) (λ p. cond (e == c) (at p) 0) h (λ p below. ap (λ n. cond (n == c) (at p) 0) (place-colour l e p lawful known below))
+    ∙ sum-chosen (e == c) at h
+
+one-half : (sums : ℕ → ℕ) (c : ℕ) → c < 2 → cond (0 == c) (sums 0) 0 + cond (1 == c) (sums 1) 0 ≡ sums c
+one-half sums zero chosen = omega arith
+one-half sums (suc zero) chosen = omega arith
+one-half sums (suc (suc c)) chosen = absurd (omega arith)
+
+-- the sites of a colour are those at its places
+colour-half : (f : ℕ → ℕ) (l c : ℕ) → IsLawfulSize l → c < 2 → sum_below (λ p. f (from_compact l (c * half_volume l + p))) (half_volume l) ≡ sum_below (λ i. cond (colour l i == c) (f i) 0) (volume l)
+colour-half f l c lawful chosen =
+    let h = half_volume l in
+    let g = λ (i : ℕ). cond (colour l i == c) (f i) 0 in
+    let sums = λ (e : ℕ). sum_below (λ p. f (from_compact l (e * h + p))) h in
     let whole : h + h ≡ volume l = omega (arith, places-all l lawful, twice) in
-    let front = sum-same (λ p. f (from_compact l p)) (λ p. g (from_compact l p)) h (λ p below.
+    let front = sum-same (λ p. g (from_compact l p)) (λ p. g (from_compact l (0 * h + p))) h (λ p below.
     let place : p ≡ 0 * h + p = omega arith in
-    let zero_colour : colour l (from_compact l p) ≡ 0 = ap (λ n. colour l (from_compact l n)) place ∙ place-colour l 0 p lawful (omega arith) below in
-    sym (ap (λ n. cond (n == 0) (f (from_compact l p)) 0) zero_colour)) in
-    let rest = sum-none (λ p. g (from_compact l (h + p))) h (λ p below.
+    ap (λ n. g (from_compact l n)) place) in
+    let back = sum-same (λ p. g (from_compact l (h + p))) (λ p. g (from_compact l (1 * h + p))) h (λ p below.
     let place : h + p ≡ 1 * h + p = omega arith in
-    let one_colour : colour l (from_compact l (h + p)) ≡ 1 = ap (λ n. colour l (from_compact l n)) place ∙ place-colour l 1 p lawful (omega arith) below in
-    ap (λ n. cond (n == 0) (f (from_compact l (h + p))) 0) one_colour) in
+    ap (λ n. g (from_compact l n)) place) in
+    let first = half-chosen f l c 0 lawful (omega arith) in
+    let second = half-chosen f l c 1 lawful (omega arith) in
     let cut = sum-behind (λ p. g (from_compact l p)) h h in
     let permuted = sum-permuted g (from_compact l) (compact l) (volume l) (compact-order l lawful) in
     let all = ap (sum_below (λ p. g (from_compact l p))) whole in
-    front ∙ omega arith ∙ permuted
+    sym (one-half sums c chosen) ∙ omega arith ∙ permuted
   where
     twice : 2 * l * half_plane l ≡ half_volume l + half_volume l
     twice = mul_assoc 2 l (half_plane l) ∙ omega arith
 
--- the bonds of the sites of colour 0 are all bonds
-pub all-bonds : (l : ℕ) (bonds : Bonds) (spins : List Bool) → IsLawfulSize l → unsatisfied_from l bonds spins (l * half_plane l) ≡ unsatisfied l bonds spins
+-- the bonds of the sites of a colour are all bonds
+pub all-bonds : (l : ℕ) (bonds : Bonds) (spins : List Bool) (c : ℕ) → IsLawfulSize l → c < 2 → unsatisfied_from l bonds spins c (l * half_plane l) ≡ unsatisfied l bonds spins
 unfolding unsatisfied_from
-all-bonds l bonds spins lawful = first-half (unsatisfied_at l bonds spins) l lawful ∙ colour-bonds l bonds spins lawful
+all-bonds l bonds spins c lawful chosen = colour-half (unsatisfied_at l bonds spins) l c lawful chosen ∙ colour-bonds l bonds spins c lawful chosen
 
 -- a site has six
 unsatisfied-le : (l : ℕ) (bonds : Bonds) (spins : List Bool) (i : ℕ) → unsatisfied_at l bonds spins i ≤ 6
 unfolding unsatisfied_at
 unsatisfied-le l bonds spins i = count_by-le-length (λ n. not (agree (pull bonds spins n) (spin spins i))) (neighbours l i)
 
-pub from-le : (l : ℕ) (bonds : Bonds) (spins : List Bool) (n : ℕ) → unsatisfied_from l bonds spins n ≤ 6 * n
+pub from-le : (l : ℕ) (bonds : Bonds) (spins : List Bool) (c n : ℕ) → unsatisfied_from l bonds spins c n ≤ 6 * n
 unfolding unsatisfied_from
-from-le l bonds spins n =
-    let most = sum-most (λ p. unsatisfied_at l bonds spins (from_compact l p)) n 6 (λ p below. unsatisfied-le l bonds spins (from_compact l p)) in
+from-le l bonds spins c n =
+    let most = sum-most (λ p. unsatisfied_at l bonds spins (from_compact l (c * half_volume l + p))) n 6 (λ p below. unsatisfied-le l bonds spins (from_compact l (c * half_volume l + p))) in
     omega arith
 
-pub from-none : (l : ℕ) (bonds : Bonds) (spins : List Bool) → unsatisfied_from l bonds spins 0 ≡ 0
+pub from-none : (l : ℕ) (bonds : Bonds) (spins : List Bool) (c : ℕ) → unsatisfied_from l bonds spins c 0 ≡ 0
 unfolding unsatisfied_from sum_below
-from-none l bonds spins = refl
+from-none l bonds spins c = refl

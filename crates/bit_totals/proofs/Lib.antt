@@ -5,3 +5,5 @@ pub mod PlaceCounts
 pub mod ColourBonds
 pub mod RowCounts
 pub mod PlaneBonds
+pub mod SweptPairs
+pub mod LastSweep

@@ -1,4 +1,4 @@
--- The words of a plane of colour 0 and of those around it count the bonds of its sites.
+-- The words of a plane of one colour and of those around it count the bonds of its sites.
 use Rattle.std.proofs.Common.{◌≡◌, ℕ, ◌+◌, ◌-◌, ◌*◌, ◌/◌, ◌%◌, ◌<◌, ◌≤◌, Bool, true, false, not, cond, List, [], ◌∷◌, All, length, take, drop, get_or, refl, ap, sym, subst, ◌∙◌, arith}
 use Rattle.std.specs.Prelude.{count_by}
 use Rattle.std.proofs.Math.Nat.{add-mul}
@@ -57,11 +57,11 @@ unfolding pulls
 pulls-six couplings other c z y k = refl
 
 -- at one site
-site-counted : (couplings : CouplingsView) (planes other : List Plane) (z b j : ℕ) (own : List ℕ) → IsLawfulSize couplings.size → z < couplings.size → j < half_plane couplings.size
-    → AreOthers couplings.size 0 planes other → own ≡ (plane_at planes z).words
-    → against_count (pulls couplings other 0 z (j / (couplings.size / 2)) (j % (couplings.size / 2))) (get_or own j 0) b
-    ≡ unsatisfied_at couplings.size (bonds_of couplings b) (spins_of couplings.size b planes) (from_compact couplings.size (z * half_plane couplings.size + j))
-site-counted couplings planes other z b j own lawful plane within others same =
+site-counted : (couplings : CouplingsView) (planes other : List Plane) (c z b j : ℕ) (own : List ℕ) → IsLawfulSize couplings.size → c < 2 → z < couplings.size → j < half_plane couplings.size
+    → AreOthers couplings.size c planes other → own ≡ (plane_at planes (c * couplings.size + z)).words
+    → against_count (pulls couplings other c z (j / (couplings.size / 2)) (j % (couplings.size / 2))) (get_or own j 0) b
+    ≡ unsatisfied_at couplings.size (bonds_of couplings b) (spins_of couplings.size b planes) (from_compact couplings.size (c * half_volume couplings.size + (z * half_plane couplings.size + j)))
+site-counted couplings planes other c z b j own lawful chosen plane within others same =
     let l = couplings.size in
     let y = j / (l / 2) in
     let k = j % (l / 2) in
@@ -71,72 +71,70 @@ site-counted couplings planes other z b j own lawful plane within others same =
     let bonds = bonds_of couplings b in
     let spins = spins_of l b planes in
     let w = get_or own j 0 in
-    let first : 0 * l + z ≡ z = omega arith in
-    let place : 0 * half_volume l + z * half_plane l + j ≡ z * half_plane l + j = omega arith in
-    let here : is_set w b ≡ spin spins (site_of l 0 z (y * (l / 2) + k)) =
-    sym (ap (λ n. spin spins (site_of l 0 z n)) parts ∙ spin-place l b 0 z j planes lawful (omega arith) plane within
-    ∙ ap (λ q. is_set (get_or (plane_at planes q).words j 0) b) first ∙ sym (ap (λ ws. is_set (get_or ws j 0) b) same)) in
-    let counts = has-counts couplings planes other b 0 z y k w lawful (omega arith) plane row column others here in
-    let site : site_of l 0 z (y * (l / 2) + k) ≡ from_compact l (z * half_plane l + j) = ap (site_of l 0 z) parts ∙ ap (from_compact l) place in
+    let place : c * half_volume l + z * half_plane l + j ≡ c * half_volume l + (z * half_plane l + j) = omega arith in
+    let here : is_set w b ≡ spin spins (site_of l c z (y * (l / 2) + k)) =
+    sym (ap (λ n. spin spins (site_of l c z n)) parts ∙ spin-place l b c z j planes lawful chosen plane within ∙ sym (ap (λ ws. is_set (get_or ws j 0) b) same)) in
+    let counts = has-counts couplings planes other b c z y k w lawful chosen plane row column others here in
+    let site : site_of l c z (y * (l / 2) + k) ≡ from_compact l (c * half_volume l + (z * half_plane l + j)) = ap (site_of l c z) parts ∙ ap (from_compact l) place in
     let read = counts.satisfied_count ∙ ap (satisfied l bonds spins) site in
-    let rest = against-rest (pulls couplings other 0 z y k) w b ∙ pulls-six couplings other 0 z y k in
-    let whole = at-rest l bonds spins (from_compact l (z * half_plane l + j)) in
+    let rest = against-rest (pulls couplings other c z y k) w b ∙ pulls-six couplings other c z y k in
+    let whole = at-rest l bonds spins (from_compact l (c * half_volume l + (z * half_plane l + j))) in
     omega (arith, read, rest, whole)
 
 -- a plane more
-pub plane-counted : (couplings : CouplingsView) (planes other : List Plane) (z b : ℕ) (own : List ℕ) → IsLawfulSize couplings.size → z < couplings.size
-    → AreOthers couplings.size 0 planes other → own ≡ (plane_at planes z).words
-    → unsatisfied_from couplings.size (bonds_of couplings b) (spins_of couplings.size b planes) ((z + 1) * half_plane couplings.size)
-    ≡ unsatisfied_from couplings.size (bonds_of couplings b) (spins_of couplings.size b planes) (z * half_plane couplings.size) + plane_count couplings other z own b (half_plane couplings.size)
+pub plane-counted : (couplings : CouplingsView) (planes other : List Plane) (c z b : ℕ) (own : List ℕ) → IsLawfulSize couplings.size → c < 2 → z < couplings.size
+    → AreOthers couplings.size c planes other → own ≡ (plane_at planes (c * couplings.size + z)).words
+    → unsatisfied_from couplings.size (bonds_of couplings b) (spins_of couplings.size b planes) c ((z + 1) * half_plane couplings.size)
+    ≡ unsatisfied_from couplings.size (bonds_of couplings b) (spins_of couplings.size b planes) c (z * half_plane couplings.size) + plane_count couplings other c z own b (half_plane couplings.size)
 unfolding unsatisfied_from plane_count
-plane-counted couplings planes other z b own lawful plane others same =
+plane-counted couplings planes other c z b own lawful chosen plane others same =
     let l = couplings.size in
     let h = half_plane l in
     let more = add-mul z 1 h in
     let place : (z + 1) * h ≡ z * h + h = omega arith in
-    let at = λ (p : ℕ). unsatisfied_at l (bonds_of couplings b) (spins_of l b planes) (from_compact l p) in
-    let each = sum-same (λ j. against_count (pulls couplings other 0 z (j / (l / 2)) (j % (l / 2))) (get_or own j 0) b) (λ j. at (z * h + j)) h
-    (λ j within. site-counted couplings planes other z b j own lawful plane within others same) in
+    let at = λ (p : ℕ). unsatisfied_at l (bonds_of couplings b) (spins_of l b planes) (from_compact l (c * half_volume l + p)) in
+    let each = sum-same (λ j. against_count (pulls couplings other c z (j / (l / 2)) (j % (l / 2))) (get_or own j 0) b) (λ j. at (z * h + j)) h
+    (λ j within. site-counted couplings planes other c z b j own lawful chosen plane within others same) in
     ap (sum_below at) place ∙ sum-behind at (z * h) h ∙ ap (λ n. sum_below at (z * h) + n) (sym each)
 
 -- the rows before, and one row more
-pub row-counted : (couplings : CouplingsView) (other : List Plane) (z y b : ℕ) (own : List ℕ) (s : Surroundings) (row : Row) → IsLawfulSize couplings.size → y < couplings.size
-    → Surrounds couplings other 0 z s → IsRow couplings.size 0 z y row
-    → plane_count couplings other z own b ((y + 1) * (couplings.size / 2)) ≡ plane_count couplings other z own b (y * (couplings.size / 2)) + row_count own s row b row.half
+pub row-counted : (couplings : CouplingsView) (other : List Plane) (c z y b : ℕ) (own : List ℕ) (s : Surroundings) (row : Row) → IsLawfulSize couplings.size → y < couplings.size
+    → Surrounds couplings other c z s → IsRow couplings.size c z y row
+    → plane_count couplings other c z own b ((y + 1) * (couplings.size / 2)) ≡ plane_count couplings other c z own b (y * (couplings.size / 2)) + row_count own s row b row.half
 unfolding plane_count row_count
-row-counted couplings other z y b own s row lawful within around at =
+row-counted couplings other c z y b own s row lawful within around at =
     let half = couplings.size / 2 in
     let more = add-mul y 1 half in
     let place : (y + 1) * half ≡ y * half + half = omega arith in
-    let term = λ (j : ℕ). against_count (pulls couplings other 0 z (j / half) (j % half)) (get_or own j 0) b in
+    let term = λ (j : ℕ). against_count (pulls couplings other c z (j / half) (j % half)) (get_or own j 0) b in
     let each = sum-same (λ k. against_count (pulls_lent s row k) (get_or own (row.here + k) 0) b) (λ k. term (y * half + k)) half
     (λ k column.
     ap (λ six. against_count six (get_or own (row.here + k) 0) b)
-    (pulls-lent couplings other 0 z y k s row lawful within column around at
-    ∙ ap (λ a. pulls couplings other 0 z a k) (sym (div-mul-add y half k column))
-    ∙ ap (pulls couplings other 0 z ((y * half + k) / half)) (sym (mod-mul-add y half k column)))
-    ∙ ap (λ n. against_count (pulls couplings other 0 z ((y * half + k) / half) ((y * half + k) % half)) (get_or own (n + k) 0) b) at.here) in
+    (pulls-lent couplings other c z y k s row lawful within column around at
+    ∙ ap (λ a. pulls couplings other c z a k) (sym (div-mul-add y half k column))
+    ∙ ap (pulls couplings other c z ((y * half + k) / half)) (sym (mod-mul-add y half k column)))
+    ∙ ap (λ n. against_count (pulls couplings other c z ((y * half + k) / half) ((y * half + k) % half)) (get_or own (n + k) 0) b) at.here) in
     ap (sum_below term) place ∙ sum-behind term (y * half) half ∙ ap (λ n. sum_below term (y * half) + n) (sym each ∙ ap (sum_below (λ k. against_count (pulls_lent s row k) (get_or own (row.here + k) 0) b)) (sym at.half))
 
 sum-zero : (f : ℕ → ℕ) → sum_below f 0 ≡ 0
 unfolding sum_below
 sum-zero f = refl
 
-pub plane-none : (couplings : CouplingsView) (other : List Plane) (z b : ℕ) (own : List ℕ) → plane_count couplings other z own b (0 * (couplings.size / 2)) ≡ 0
+pub plane-none : (couplings : CouplingsView) (other : List Plane) (c z b : ℕ) (own : List ℕ) → plane_count couplings other c z own b (0 * (couplings.size / 2)) ≡ 0
 unfolding plane_count
-plane-none couplings other z b own =
+plane-none couplings other c z b own =
     let half = couplings.size / 2 in
     let none : 0 * half ≡ 0 = omega arith in
-    let term = λ (j : ℕ). against_count (pulls couplings other 0 z (j / half) (j % half)) (get_or own j 0) b in
+    let term = λ (j : ℕ). against_count (pulls couplings other c z (j / half) (j % half)) (get_or own j 0) b in
     ap (sum_below term) none ∙ sum-zero term
 
 -- a site has six bonds
-pub plane-le : (couplings : CouplingsView) (other : List Plane) (z b : ℕ) (own : List ℕ) (n : ℕ) → plane_count couplings other z own b n ≤ 6 * n
+pub plane-le : (couplings : CouplingsView) (other : List Plane) (c z b : ℕ) (own : List ℕ) (n : ℕ) → plane_count couplings other c z own b n ≤ 6 * n
 unfolding plane_count
-plane-le couplings other z b own n =
+plane-le couplings other c z b own n =
     let half = couplings.size / 2 in
-    let most = sum-most (λ j. against_count (pulls couplings other 0 z (j / half) (j % half)) (get_or own j 0) b) n 6
-    (λ j below. against-le (pulls couplings other 0 z (j / half) (j % half)) (get_or own j 0) b (pulls-six couplings other 0 z (j / half) (j % half))) in
+    let most = sum-most (λ j. against_count (pulls couplings other c z (j / half) (j % half)) (get_or own j 0) b) n 6
+    (λ j below. against-le (pulls couplings other c z (j / half) (j % half)) (get_or own j 0) b (pulls-six couplings other c z (j / half) (j % half))) in
     omega arith
 
 -- the items from a place on

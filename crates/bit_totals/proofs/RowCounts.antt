@@ -1,5 +1,5 @@
 -- The unsatisfied bonds of the sites of a row, from words: site by site, and four sites side by side.
-use Rattle.std.proofs.Common.{◌≡◌, ℕ, zero, suc, ◌+◌, ◌*◌, ◌<◌, ◌≤◌, Bool, List, [], ◌∷◌, length, get_or, bit_xor, refl, sym, ap, ◌∙◌, arith, add-one}
+use Rattle.std.proofs.Common.{◌≡◌, ℕ, zero, suc, ◌+◌, ◌*◌, ◌<◌, ◌≤◌, Bool, true, false, List, [], ◌∷◌, length, get_or, bit_xor, refl, sym, ap, ◌∙◌, arith, add-one}
 use Rattle.std.specs.Int.{bit_at}
 use Rattle.std.proofs.lemmas.List.{length-map}
 use Rattle.std.proofs.lemmas.List.Sums.{count_by-le-length}
@@ -12,9 +12,9 @@ use Rattle.local_rule.proofs.Counts.{lane-list}
 use Rattle.plane_sweep.specs.PlaneSweep.{pulls_lent}
 use Rattle.plane_sweep.specs.declared.rows.Row.{Row}
 use Rattle.plane_sweep.specs.declared.surroundings.Surroundings.{Surroundings}
-use Rattle.bit_totals.specs.RowBonds.{against_count, row_count}
+use Rattle.bit_totals.specs.RowBonds.{against_count, four_count, row_count}
 use Rattle.bit_totals.specs.Tallies.{set_lanes}
-use Rattle.bit_totals.proofs.Tallying.{set_lanes-is}
+use Rattle.bit_totals.proofs.Tallying.{over_lanes, set_lanes-is}
 
 pub row-none : (own : List ℕ) (s : Surroundings) (row : Row) (b : ℕ) → row_count own s row b 0 ≡ 0
 unfolding row_count sum_below
@@ -86,23 +86,47 @@ lane-against rows i w b e = rw (lane-list rows i e) (omega arith)
 set-bit : (x b : ℕ) (t : Bool) → is_set x b ≡ t → bit_at x b ≡ one_if t
 set-bit x b t e = sym (one_if-is_set x b) ∙ ap one_if e
 
-pub lane-bits : (rows : List (List ℕ)) (i w b x₀ x₁ x₂ x₃ x₄ x₅ : ℕ) → length rows ≡ 6
-    → is_set x₀ b ≡ differs (is_set (get_or (get_or rows 0 []) i 0) b) (is_set w b)
-    → is_set x₁ b ≡ differs (is_set (get_or (get_or rows 1 []) i 0) b) (is_set w b)
-    → is_set x₂ b ≡ differs (is_set (get_or (get_or rows 2 []) i 0) b) (is_set w b)
-    → is_set x₃ b ≡ differs (is_set (get_or (get_or rows 3 []) i 0) b) (is_set w b)
-    → is_set x₄ b ≡ differs (is_set (get_or (get_or rows 4 []) i 0) b) (is_set w b)
-    → is_set x₅ b ≡ differs (is_set (get_or (get_or rows 5 []) i 0) b) (is_set w b)
-    → bit_at x₀ b + bit_at x₁ b + bit_at x₂ b + bit_at x₃ b + bit_at x₄ b + bit_at x₅ b ≡ against_count (lane_words rows i) w b
-lane-bits rows i w b x₀ x₁ x₂ x₃ x₄ x₅ sized e₀ e₁ e₂ e₃ e₄ e₅ =
-    omega (arith, set-bit x₀ b _ e₀, set-bit x₁ b _ e₁, set-bit x₂ b _ e₂, set-bit x₃ b _ e₃, set-bit x₄ b _ e₄, set-bit x₅ b _ e₅, lane-against rows i w b sized)
+-- a bit that is compared with one that is set is turned, and else it is kept
+turned : (x : Bool) → one_if (differs x true) + one_if x ≡ 1
+turned true = refl
+turned false = refl
 
--- four sites side by side, whose six words are the lanes of six
-pub four-counted : (own : List ℕ) (s : Surroundings) (row : Row) (k b : ℕ) (x₀ x₁ x₂ x₃ x₄ x₅ : List ℕ)
-    → ((i : ℕ) → i < 4 → bit_at (get_or x₀ i 0) b + bit_at (get_or x₁ i 0) b + bit_at (get_or x₂ i 0) b + bit_at (get_or x₃ i 0) b + bit_at (get_or x₄ i 0) b + bit_at (get_or x₅ i 0) b
-    ≡ against_count (pulls_lent s row (k + i)) (get_or own (row.here + (k + i)) 0) b)
-    → row_count own s row b k + (set_lanes x₀ b + set_lanes x₁ b + set_lanes x₂ b + (set_lanes x₃ b + set_lanes x₄ b + set_lanes x₅ b)) ≡ row_count own s row b (k + 4)
-four-counted own s row k b x₀ x₁ x₂ x₃ x₄ x₅ each =
+kept : (x : Bool) → one_if (differs x false) ≡ one_if x
+kept true = refl
+kept false = refl
+
+-- three bits that are compared with a spin have the compared sum and the compared carry
+compared : (low high p q r w : Bool) → one_if low + 2 * one_if high ≡ one_if p + one_if q + one_if r
+    → one_if (differs low w) + 2 * one_if (differs high w) ≡ one_if (differs p w) + one_if (differs q w) + one_if (differs r w)
+compared low high p q r true e = omega (arith, e, turned low, turned high, turned p, turned q, turned r)
+compared low high p q r false e = omega (arith, e, kept low, kept high, kept p, kept q, kept r)
+
+three-compared : (low high p q r w b : ℕ) → bit_at low b + 2 * bit_at high b ≡ bit_at p b + bit_at q b + bit_at r b
+    → one_if (differs (is_set low b) (is_set w b)) + 2 * one_if (differs (is_set high b) (is_set w b))
+    ≡ one_if (differs (is_set p b) (is_set w b)) + one_if (differs (is_set q b) (is_set w b)) + one_if (differs (is_set r b) (is_set w b))
+three-compared low high p q r w b e =
+    compared (is_set low b) (is_set high b) (is_set p b) (is_set q b) (is_set r b) (is_set w b)
+    (omega (arith, e, one_if-is_set low b, one_if-is_set high b, one_if-is_set p b, one_if-is_set q b, one_if-is_set r b))
+
+-- in a lane of six rows, whose sums and carries are compared with a word
+pub lane-compared : (rows : List (List ℕ)) (i w b low high more most x₀ x₁ x₂ x₃ : ℕ) → length rows ≡ 6
+    → bit_at low b + 2 * bit_at high b ≡ bit_at (get_or (get_or rows 0 []) i 0) b + bit_at (get_or (get_or rows 1 []) i 0) b + bit_at (get_or (get_or rows 2 []) i 0) b
+    → bit_at more b + 2 * bit_at most b ≡ bit_at (get_or (get_or rows 3 []) i 0) b + bit_at (get_or (get_or rows 4 []) i 0) b + bit_at (get_or (get_or rows 5 []) i 0) b
+    → is_set x₀ b ≡ differs (is_set low b) (is_set w b)
+    → is_set x₁ b ≡ differs (is_set more b) (is_set w b)
+    → is_set x₂ b ≡ differs (is_set high b) (is_set w b)
+    → is_set x₃ b ≡ differs (is_set most b) (is_set w b)
+    → bit_at x₀ b + bit_at x₁ b + 2 * (bit_at x₂ b + bit_at x₃ b) ≡ against_count (lane_words rows i) w b
+lane-compared rows i w b low high more most x₀ x₁ x₂ x₃ sized front back e₀ e₁ e₂ e₃ =
+    let one = three-compared low high (get_or (get_or rows 0 []) i 0) (get_or (get_or rows 1 []) i 0) (get_or (get_or rows 2 []) i 0) w b front in
+    let two = three-compared more most (get_or (get_or rows 3 []) i 0) (get_or (get_or rows 4 []) i 0) (get_or (get_or rows 5 []) i 0) w b back in
+    omega (arith, one, two, set-bit x₀ b _ e₀, set-bit x₁ b _ e₁, set-bit x₂ b _ e₂, set-bit x₃ b _ e₃, lane-against rows i w b sized)
+
+-- four sites side by side, of which each has so many
+four-counted : (own : List ℕ) (s : Surroundings) (row : Row) (k b : ℕ) (n : ℕ → ℕ)
+    → ((i : ℕ) → i < 4 → n i ≡ against_count (pulls_lent s row (k + i)) (get_or own (row.here + (k + i)) 0) b)
+    → row_count own s row b k + over_lanes n ≡ row_count own s row b (k + 4)
+four-counted own s row k b n each =
     let none : k + 0 ≡ k = omega arith in
     let two : k + 1 + 1 ≡ k + 2 = omega arith in
     let three : k + 2 + 1 ≡ k + 3 = omega arith in
@@ -115,8 +139,18 @@ four-counted own s row k b x₀ x₁ x₂ x₃ x₄ x₅ each =
     let m₁ = rw two at (row-more own s row b (k + 1)) in
     let m₂ = rw three at (row-more own s row b (k + 2)) in
     let m₃ = rw four at (row-more own s row b (k + 3)) in
-    rw (set_lanes-is x₀ b, set_lanes-is x₁ b, set_lanes-is x₂ b, set_lanes-is x₃ b, set_lanes-is x₄ b, set_lanes-is x₅ b)
-    (omega arith)
+    omega arith
+
+-- and which lanes are
+pub four-seen : (own : List ℕ) (s : Surroundings) (row : Row) (k b : ℕ) (six : List (List ℕ)) (words : List ℕ)
+    → ((i : ℕ) → i < 4 → lane_words six i ≡ pulls_lent s row (k + i))
+    → ((i : ℕ) → i < 4 → get_or words i 0 ≡ get_or own (row.here + k + i) 0)
+    → row_count own s row b k + four_count six words b ≡ row_count own s row b (k + 4)
+four-seen own s row k b six words read same =
+    four-counted own s row k b (λ i. against_count (lane_words six i) (get_or words i 0) b) (λ i h.
+    let place : row.here + k + i ≡ row.here + (k + i) = omega arith in
+    ap (λ xs. against_count xs (get_or words i 0) b) (read i h)
+    ∙ ap (λ n. against_count (pulls_lent s row (k + i)) n b) (same i h ∙ ap (λ n. get_or own n 0) place))
 
 -- some columns more have six bonds each
 pub row-more-le : (own : List ℕ) (s : Surroundings) (row : Row) (b k n : ℕ) → row_count own s row b (k + n) ≤ row_count own s row b k + 6 * n

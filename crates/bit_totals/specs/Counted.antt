@@ -1,8 +1,8 @@
 -- The unsatisfied bonds and the agreeing sites at the first places of the compact order.
-use Rattle.std.specs.Prelude.{ℕ, Bool, not, List, count_by}
+use Rattle.std.specs.Prelude.{ℕ, ◌+◌, ◌*◌, Bool, not, List, count_by}
 use Rattle.spin_model.specs.Steps.{count_below}
 use Rattle.spin_model.specs.Couplings.{Bonds}
-use Rattle.spin_model.specs.Lattice.{IsLawfulSize, from_compact}
+use Rattle.spin_model.specs.Lattice.{IsLawfulSize, half_volume, from_compact}
 use Rattle.scalar_rule.specs.Neighbours.{spin, agree, pull, neighbours}
 use Rattle.scalar_rule.specs.Positions.{sum_below}
 use Rattle.plane_sweep.specs.Packed.{FitsReplica}
@@ -12,9 +12,9 @@ use Rattle.plane_sweep.specs.declared.replica.Replica.{Replica}
 unfoldable pub unsatisfied_at : ℕ → Bonds → List Bool → ℕ → ℕ
 unsatisfied_at l bonds spins i = count_by (λ n. not (agree (pull bonds spins n) (spin spins i))) (neighbours l i)
 
--- those of the sites at the first n places: of colour 0, as long as these are at most half of all
-unfoldable pub unsatisfied_from : ℕ → Bonds → List Bool → ℕ → ℕ
-unsatisfied_from l bonds spins n = sum_below (λ p. unsatisfied_at l bonds spins (from_compact l p)) n
+-- those of the sites at the first n places of colour c
+unfoldable pub unsatisfied_from : ℕ → Bonds → List Bool → ℕ → ℕ → ℕ
+unsatisfied_from l bonds spins c n = sum_below (λ p. unsatisfied_at l bonds spins (from_compact l (c * half_volume l + p))) n
 
 -- at how many of the sites at the first n places two configurations agree
 unfoldable pub agreeing_from : ℕ → List Bool → List Bool → ℕ → ℕ

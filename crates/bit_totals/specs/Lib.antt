@@ -1,3 +1,4 @@
 pub mod Counted
+pub mod CountedRows
 pub mod RowBonds
 pub mod Tallies

@@ -1,7 +1,7 @@
 //! How many of the six bonds of a row's sites are unsatisfied in each sample.
 
 ghost use Rattle.std.specs.Prelude.{◌≡◌, ℕ, ◌+◌, ◌*◌, ◌^◌, ◌<◌, ◌≤◌, length, slice_index};
-ghost use Rattle.bit_totals.specs.RowBonds.{counted_lanes, pair_count, row_count, HasLanes};
+ghost use Rattle.bit_totals.specs.RowBonds.{counted_lanes, four_count, pair_count, row_count, HasLanes};
 ghost use Rattle.bit_totals.specs.Tallies.{set_lanes, tallied};
 ghost use Rattle.multispin_word.specs.Planes.{differs, is_set};
 ghost use Rattle.plane_sweep.specs.PlaneSweep.{HasRows};
@@ -13,7 +13,7 @@ use std::simd::prelude::*;
 
 /// How many of the six bonds of each of four sites are unsatisfied: the sum of two low and two high bits.
 #[derive(Drop)]
-struct BondCounts {
+pub(crate) struct BondCounts {
     ones: u64x4,
     more_ones: u64x4,
     twos: u64x4,
@@ -73,8 +73,13 @@ fn add_eight<const SIZE: usize, const EVEN: bool>(
         → tallied counts.new b + pair_count own.now around.now first.now second.now b k
         ≡ tallied counts.old b + pair_count own.now around.now first.now second.now b (k + 8) }
 {
-    let most = sum_eight::<SIZE, EVEN>(counts, own, around, first, second, k);
-    add_one(counts, 5, most);
+    let a = count_four(own, around, first, k);
+    let b = count_four(own, around, first, k + 4);
+    let front = add_counts(counts, &a, &b);
+    let c = count_four(own, around, second, k);
+    let d = count_four(own, around, second, k + 4);
+    let back = add_counts(counts, &c, &d);
+    add_carries(counts, front, back);
 }
 
 // The sites of four columns from one on.
@@ -99,10 +104,8 @@ fn add_four<const SIZE: usize, const EVEN: bool>(
 {
     let a = count_four(own, around, first, k);
     let b = count_four(own, around, second, k);
-    let (eights, fours) = add_counts(counts, &a, &b);
-    let more = add_two(counts, 2, fours, u64x4::splat(0));
-    let most = add_two(counts, 3, eights, more);
-    add_one(counts, 4, most);
+    let last = add_counts(counts, &a, &b);
+    add_last_carries(counts, last);
 }
 
 // One column. The twelve words of its two sites stand in the four lanes, whose sum alone counts.
@@ -138,41 +141,48 @@ fn add_column<const SIZE: usize, const EVEN: bool>(
     add_one(counts, 2, most);
 }
 
-// The sites of eight columns of both rows, but for the carries of 32, which it gives.
+/// Takes up the carries of eight and of four of two pairs of counts.
 #[inline(always)]
-fn sum_eight<const SIZE: usize, const EVEN: bool>(
+pub(crate) fn add_carries(
     counts: &mut [[u64; 4]; 20],
-    own: &[u64],
-    around: &Surroundings,
-    first: &Row,
-    second: &Row,
-    k: usize,
-) -> u64x4
-    requires own { length own.now ≡ length around.now.here.now }
-    requires first { HasRows (length around.now.here.now) around.now first.now }
-    requires second { HasRows (length around.now.here.now) around.now second.now }
-    requires half { second.now.half ≡ first.now.half }
-    requires within { k + 8 ≤ first.now.half }
-    ensures length { length result ≡ 4 }
-    ensures sum { (b : ℕ) → tallied counts.new b + 32 * set_lanes result b
-        + pair_count own.now around.now first.now second.now b k
-        ≡ tallied counts.old b + pair_count own.now around.now first.now second.now b (k + 8) }
+    first: (u64x4, u64x4),
+    second: (u64x4, u64x4),
+)
+    requires first { (length first.0 ≡ 4) × (length first.1 ≡ 4) }
+    requires second { (length second.0 ≡ 4) × (length second.1 ≡ 4) }
+    requires room { (b : ℕ) → b < 64 → tallied counts.old b
+        + 8 * (set_lanes first.0 b + set_lanes second.0 b) + 4 * (set_lanes first.1 b + set_lanes second.1 b) < 2 ^ 20 }
+    ensures { (b : ℕ) → b < 64 → tallied counts.new b ≡ tallied counts.old b
+        + 8 * (set_lanes first.0 b + set_lanes second.0 b) + 4 * (set_lanes first.1 b + set_lanes second.1 b) }
 {
-    let a = count_four(own, around, first, k);
-    let b = count_four(own, around, first, k + 4);
-    let (eights, fours) = add_counts(counts, &a, &b);
-    let c = count_four(own, around, second, k);
-    let d = count_four(own, around, second, k + 4);
-    let (more_eights, more_fours) = add_counts(counts, &c, &d);
-    let last = add_two(counts, 2, fours, more_fours);
-    let front = add_two(counts, 3, eights, more_eights);
+    let last = add_two(counts, 2, first.1, second.1);
+    let front = add_two(counts, 3, first.0, second.0);
     let back = add_two(counts, 3, last, u64x4::splat(0));
-    add_two(counts, 4, front, back)
+    let most = add_two(counts, 4, front, back);
+    add_one(counts, 5, most);
 }
 
-// Two counts, but for the carries of eight and of four, which it gives.
+/// The same of one pair of counts alone.
 #[inline(always)]
-fn add_counts(counts: &mut [[u64; 4]; 20], a: &BondCounts, b: &BondCounts) -> (u64x4, u64x4)
+pub(crate) fn add_last_carries(counts: &mut [[u64; 4]; 20], carries: (u64x4, u64x4))
+    requires lengths { (length carries.0 ≡ 4) × (length carries.1 ≡ 4) }
+    requires room { (b : ℕ) → b < 64
+        → tallied counts.old b + 8 * set_lanes carries.0 b + 4 * set_lanes carries.1 b < 2 ^ 20 }
+    ensures { (b : ℕ) → b < 64 → tallied counts.new b
+        ≡ tallied counts.old b + 8 * set_lanes carries.0 b + 4 * set_lanes carries.1 b }
+{
+    let more = add_two(counts, 2, carries.1, u64x4::splat(0));
+    let most = add_two(counts, 3, carries.0, more);
+    add_one(counts, 4, most);
+}
+
+/// Adds two counts, but for the carries of eight and of four, which it gives.
+#[inline(always)]
+pub(crate) fn add_counts(
+    counts: &mut [[u64; 4]; 20],
+    a: &BondCounts,
+    b: &BondCounts,
+) -> (u64x4, u64x4)
     requires first { HasLanes a.now }
     requires second { HasLanes b.now }
     ensures lengths { (length result.0 ≡ 4) × (length result.1 ≡ 4) }
@@ -199,31 +209,36 @@ fn count_four(own: &[u64], around: &Surroundings, row: &Row, k: usize) -> BondCo
 {
     let six = pulls_of_four(around, row, k);
     let words = words_at(own, row.here + k);
-    let front = full_adder_lanes(
-        against(&six[0], words),
-        against(&six[1], words),
-        against(&six[2], words),
-    );
-    let back = full_adder_lanes(
-        against(&six[3], words),
-        against(&six[4], words),
-        against(&six[5], words),
-    );
+    count_bonds(&six, words)
+}
+
+/// The bonds of four sites, of which lane i has J times the spins of the neighbours and the site's word.
+/// Three bits compared with a spin have the compared sum and the compared carry: so the adders are those
+/// that the sites' new spins take.
+#[inline(always)]
+pub(crate) fn count_bonds(six: &[[u64; 4]; 6], words: u64x4) -> BondCounts
+    requires { length words ≡ 4 }
+    ensures lanes { HasLanes result }
+    ensures sum { (b : ℕ) → counted_lanes result b ≡ four_count six.now words b }
+{
+    let front = full_adder_lanes(load(&six[0]), load(&six[1]), load(&six[2]));
+    let back = full_adder_lanes(load(&six[3]), load(&six[4]), load(&six[5]));
     BondCounts {
-        ones: front.0,
-        more_ones: back.0,
-        twos: front.1,
-        more_twos: back.1,
+        ones: against(front.0, words),
+        more_ones: against(back.0, words),
+        twos: against(front.1, words),
+        more_twos: against(back.1, words),
     }
 }
 
-// The samples in which J times the neighbour's spin differs from the site's: the bond is unsatisfied.
+// The samples in which a bit differs from the site's spin: J times the neighbour's spin does where the
+// bond is unsatisfied.
 #[inline(always)]
-fn against(pulls: &[u64; 4], words: u64x4) -> u64x4
-    requires { length words ≡ 4 }
+fn against(bits: u64x4, words: u64x4) -> u64x4
+    requires { (length bits ≡ 4) × (length words ≡ 4) }
     ensures length { length result ≡ 4 }
     ensures differing { (i b : ℕ) → i < 4 → is_set (slice_index result i) b
-        ≡ differs (is_set (slice_index pulls.now i) b) (is_set (slice_index words i) b) }
+        ≡ differs (is_set (slice_index bits i) b) (is_set (slice_index words i) b) }
 {
-    load(pulls) ^ words
+    bits ^ words
 }

@@ -35,7 +35,7 @@ fn count_planes(replica: &Replica, plan: &Plan) -> Tally
     requires fits { FitsReplica plan.now.size replica.now }
     ensures counted { (b : ℕ) → b < 64 → tallied result.rows b
         ≡ unsatisfied_from plan.now.size (bonds_of plan.now.couplings b)
-        (spins_of plan.now.size b replica.now.planes) (plan.now.size * half_plane plan.now.size) }
+        (spins_of plan.now.size b replica.now.planes) 0 (plan.now.size * half_plane plan.now.size) }
     ensures lawful { IsLawfulSize plan.now.size }
 {
     let size = plan.lattice().size();
@@ -47,6 +47,7 @@ fn count_planes(replica: &Replica, plan: &Plan) -> Tally
             own: words_of(replica, z),
             other,
             couplings,
+            colour: 0,
             z,
         };
         count_plane(&mut tally.rows, &plane);
@@ -54,36 +55,43 @@ fn count_planes(replica: &Replica, plan: &Plan) -> Tally
     tally
 }
 
-// Plane z of colour 0, and what its sites' bonds depend on.
+/// Plane z of a colour, and what the bonds of its sites depend on.
 #[derive(Clone, Copy)]
-struct ColourPlane<'a> {
-    // The words of the plane.
-    own: &'a [u64],
-    // The planes of colour 1.
-    other: &'a [Plane],
-    couplings: &'a Couplings,
-    z: u32,
+pub(crate) struct ColourPlane<'a> {
+    /// The words of the plane.
+    pub(crate) own: &'a [u64],
+    /// The planes of the other colour.
+    pub(crate) other: &'a [Plane],
+    pub(crate) couplings: &'a Couplings,
+    pub(crate) colour: u32,
+    pub(crate) z: u32,
 }
 
-// The bonds of the sites of colour 0 in plane z, by the planes of colour 1.
-fn count_plane(counts: &mut [[u64; 4]; 20], plane: &ColourPlane)
+/// Adds to each sample's number the unsatisfied bonds of the sites of a plane.
+pub(crate) fn count_plane(counts: &mut [[u64; 4]; 20], plane: &ColourPlane)
     requires lawful { IsLawfulSize plane.now.couplings.now.size }
     requires own { length plane.now.own.now ≡ half_plane plane.now.couplings.now.size }
     requires count { length plane.now.other.now ≡ plane.now.couplings.now.size }
     requires planes { All (FitsPlane plane.now.couplings.now.size) plane.now.other.now }
+    requires colour { plane.now.colour < 2 }
     requires plane { plane.now.z < plane.now.couplings.now.size }
     requires room { (b : ℕ) → b < 64
         → tallied counts.old b + 6 * half_plane plane.now.couplings.now.size < 2 ^ 20 }
     ensures { (b : ℕ) → b < 64 → tallied counts.new b ≡ tallied counts.old b
-        + plane_count plane.now.couplings.now plane.now.other.now plane.now.z plane.now.own.now b
-        (half_plane plane.now.couplings.now.size) }
+        + plane_count plane.now.couplings.now plane.now.other.now plane.now.colour plane.now.z
+        plane.now.own.now b (half_plane plane.now.couplings.now.size) }
 {
     match plane.couplings.size() {
         8 => count_sized::<8>(counts, plane),
         16 => count_sized::<16>(counts, plane),
         32 => count_sized::<32>(counts, plane),
         64 => count_sized::<64>(counts, plane),
-        size => count_pairs::<0, false>(counts, plane, size as usize, plane.z % 2 == 0),
+        size => count_pairs::<0, false>(
+            counts,
+            plane,
+            size as usize,
+            (plane.colour + plane.z) % 2 == 0,
+        ),
     }
 }
 
@@ -95,14 +103,15 @@ fn count_sized<const SIZE: usize>(counts: &mut [[u64; 4]; 20], plane: &ColourPla
     requires own { length plane.now.own.now ≡ half_plane plane.now.couplings.now.size }
     requires count { length plane.now.other.now ≡ plane.now.couplings.now.size }
     requires planes { All (FitsPlane plane.now.couplings.now.size) plane.now.other.now }
+    requires colour { plane.now.colour < 2 }
     requires plane { plane.now.z < plane.now.couplings.now.size }
     requires room { (b : ℕ) → b < 64
         → tallied counts.old b + 6 * half_plane plane.now.couplings.now.size < 2 ^ 20 }
     ensures { (b : ℕ) → b < 64 → tallied counts.new b ≡ tallied counts.old b
-        + plane_count plane.now.couplings.now plane.now.other.now plane.now.z plane.now.own.now b
-        (half_plane plane.now.couplings.now.size) }
+        + plane_count plane.now.couplings.now plane.now.other.now plane.now.colour plane.now.z
+        plane.now.own.now b (half_plane plane.now.couplings.now.size) }
 {
-    if plane.z % 2 == 0 {
+    if (plane.colour + plane.z) % 2 == 0 {
         count_alike::<SIZE, true>(counts, plane);
     } else {
         count_alike::<SIZE, false>(counts, plane);
@@ -117,16 +126,17 @@ fn count_alike<const SIZE: usize, const EVEN: bool>(
 )
     requires size { plane.now.couplings.now.size ≡ SIZE }
     requires lawful { IsLawfulSize plane.now.couplings.now.size }
-    requires even { EVEN ≡ (plane.now.z % 2 == 0) }
+    requires even { EVEN ≡ ((plane.now.colour + plane.now.z) % 2 == 0) }
     requires own { length plane.now.own.now ≡ half_plane plane.now.couplings.now.size }
     requires count { length plane.now.other.now ≡ plane.now.couplings.now.size }
     requires planes { All (FitsPlane plane.now.couplings.now.size) plane.now.other.now }
+    requires colour { plane.now.colour < 2 }
     requires plane { plane.now.z < plane.now.couplings.now.size }
     requires room { (b : ℕ) → b < 64
         → tallied counts.old b + 6 * half_plane plane.now.couplings.now.size < 2 ^ 20 }
     ensures { (b : ℕ) → b < 64 → tallied counts.new b ≡ tallied counts.old b
-        + plane_count plane.now.couplings.now plane.now.other.now plane.now.z plane.now.own.now b
-        (half_plane plane.now.couplings.now.size) }
+        + plane_count plane.now.couplings.now plane.now.other.now plane.now.colour plane.now.z
+        plane.now.own.now b (half_plane plane.now.couplings.now.size) }
 {
     count_pairs::<SIZE, EVEN>(counts, plane, SIZE, EVEN);
 }
@@ -142,19 +152,20 @@ fn count_pairs<const SIZE: usize, const EVEN: bool>(
 )
     requires size { size ≡ plane.now.couplings.now.size }
     requires lawful { IsLawfulSize plane.now.couplings.now.size }
-    requires even { even ≡ (plane.now.z % 2 == 0) }
+    requires even { even ≡ ((plane.now.colour + plane.now.z) % 2 == 0) }
     requires own { length plane.now.own.now ≡ half_plane plane.now.couplings.now.size }
     requires count { length plane.now.other.now ≡ plane.now.couplings.now.size }
     requires planes { All (FitsPlane plane.now.couplings.now.size) plane.now.other.now }
+    requires colour { plane.now.colour < 2 }
     requires plane { plane.now.z < plane.now.couplings.now.size }
     requires room { (b : ℕ) → b < 64
         → tallied counts.old b + 6 * half_plane plane.now.couplings.now.size < 2 ^ 20 }
     ensures { (b : ℕ) → b < 64 → tallied counts.new b ≡ tallied counts.old b
-        + plane_count plane.now.couplings.now plane.now.other.now plane.now.z plane.now.own.now b
-        (half_plane plane.now.couplings.now.size) }
+        + plane_count plane.now.couplings.now plane.now.other.now plane.now.colour plane.now.z
+        plane.now.own.now b (half_plane plane.now.couplings.now.size) }
 {
     let own = plane.own;
-    let around = lend(plane.other, plane.couplings, 0, plane.z, size);
+    let around = lend(plane.other, plane.couplings, plane.colour, plane.z, size);
     let words = size * (size / 2);
     let mut row = first_row(size, even);
     'pairs: for i in 0..size / 2 {

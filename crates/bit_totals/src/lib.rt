@@ -2,12 +2,15 @@
 #![tactic(auto)]
 
 pub use energy::unsatisfied;
+pub use last_sweep::sweep_and_count;
 pub use overlap::agreeing;
 pub use tally::Tally;
 
 mod bonds;
+mod counted_rows;
 mod energy;
 mod lanes;
+mod last_sweep;
 mod overlap;
 mod tally;
 #[cfg(test)]

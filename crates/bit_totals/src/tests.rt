@@ -1,30 +1,57 @@
 //! Sums at the greatest size, and against the scalar calls at a size whose rows are shorter than a
-//! vector.
+//! vector; a sweep that counts against a sweep and a count.
 
 ghost use Rattle.std.specs.Prelude.{◌≡◌, ◌<◌, length, IfOk, vec_len};
-ghost use Rattle.plane_sweep.specs.Packed.{FitsPlane, FitsReplica};
+ghost use Rattle.plane_sweep.specs.Packed.{FitsPlane, FitsReplica, StandFits};
 ghost use Rattle.spin_model.specs.Lattice.{volume, half_plane};
 
-use crate::{agreeing, unsatisfied};
+use crate::{agreeing, sweep_and_count, unsatisfied};
 use coupling_set::Couplings;
 use lattice_geometry::Lattice;
-use multispin_word::bit;
+use multispin_word::{Planes, bit};
 use plain_list::Items;
-use plane_sweep::{Plane, Replica};
+use plane_sweep::{Plane, Replica, Stand, sweep};
 use pr_generator::Wheel;
-use scalar_rule::{PlainCopy, Plan};
+use scalar_rule::{PlainCopy, Plan, Start};
 use std::alloc::Global;
 use std::test::Fail;
+use std::thread::Threads;
 use threshold_table::{RuleKind, RuleRow, RuleTable, SwapTable};
 
+// Thresholds at 0 to 6 aligned neighbours, and at 4 to 6 satisfied bonds.
+const HEAT: RuleRow = RuleRow {
+    values: [
+        0, 1000000000, 2000000000, 2500000000, 3000000000, 4294967295, 4294967296,
+    ],
+};
+
+const METROPOLIS: RuleRow = RuleRow {
+    values: [3000000000, 1500000000, 700000000, 0, 0, 0, 0],
+};
+
 // A plan of one slot with these couplings.
-fn plan_of(alloc: Global, lattice: Lattice, couplings: Couplings) -> Result<Plan, Fail>
+fn plan_of(
+    alloc: Global,
+    lattice: Lattice,
+    couplings: Couplings,
+    kind: RuleKind,
+) -> Result<Plan, Fail>
     requires { couplings.size ≡ lattice }
     ensures { IfOk result (λ plan. plan.size ≡ lattice) }
 {
-    let rules = RuleTable::from_rows(alloc, RuleKind::Heat, &[RuleRow { values: [0; 7] }])?;
+    let row = match kind {
+        RuleKind::Heat => HEAT,
+        RuleKind::Metropolis => METROPOLIS,
+    };
+    let rules = RuleTable::from_rows(alloc, kind, &[row])?;
     let swaps = SwapTable::from_rows(alloc, &[[0; 1]; 0])?;
     Ok(Plan::new(lattice, rules, swaps, couplings, 1, 7))
+}
+
+fn random_plan(alloc: Global, lattice: Lattice, kind: RuleKind) -> Result<Plan, Fail>
+    ensures { IfOk result (λ plan. plan.size ≡ lattice) }
+{
+    plan_of(alloc, lattice, Couplings::random(alloc, lattice, 3)?, kind)
 }
 
 // A replica with these words, those of the sites in compact order.
@@ -108,7 +135,12 @@ fn checkerboard(alloc: Global, lattice: &Lattice) -> Result<Vec<u64>, Fail>
 fn greatest_energy_and_overlap(rt: HostRuntime) -> Result<(), Fail> {
     let alloc = rt.alloc();
     let lattice = Lattice::of(64)?;
-    let plan = plan_of(alloc, lattice, Couplings::plus(alloc, lattice)?)?;
+    let plan = plan_of(
+        alloc,
+        lattice,
+        Couplings::plus(alloc, lattice)?,
+        RuleKind::Heat,
+    )?;
     let words = checkerboard(alloc, &lattice)?;
     let replica = replica_of(alloc, &lattice, words.as_slice())?;
     let mut energies = [0; 64];
@@ -126,7 +158,7 @@ fn greatest_energy_and_overlap(rt: HostRuntime) -> Result<(), Fail> {
 fn sums_at_size_6_equal_64_scalar_sums(rt: HostRuntime) -> Result<(), Fail> {
     let alloc = rt.alloc();
     let lattice = Lattice::of(6)?;
-    let plan = plan_of(alloc, lattice, Couplings::random(alloc, lattice, 3)?)?;
+    let plan = random_plan(alloc, lattice, RuleKind::Heat)?;
     let first = random_words(alloc, &lattice, 88172645463325252)?;
     let second = random_words(alloc, &lattice, 1)?;
     let a = replica_of(alloc, &lattice, first.as_slice())?;
@@ -140,6 +172,64 @@ fn sums_at_size_6_equal_64_scalar_sums(rt: HostRuntime) -> Result<(), Fail> {
         let overlap = scalar_rule::agreeing(&own, &other);
         assert_eq!(rt; energies.number_at(sample), energy, "sample {sample}");
         assert_eq!(rt; overlaps.number_at(sample), overlap, "sample {sample}");
+    }
+    Ok(())
+}
+
+// A sweep of the first replica, and U after it, by one call.
+fn counted_sweep(stand: &mut Stand, plan: &Plan) -> Planes<20>
+    requires { StandFits plan.now stand.old }
+{
+    let _ = plan.slots();
+    sweep_and_count(&mut stand.slots.at_mut(0).first, plan, 0)
+}
+
+// The same by two.
+fn sweep_then_count<R: Threads + Sync>(rt: &R, stand: &mut Stand, plan: &Plan) -> Planes<20>
+    requires { StandFits plan.now stand.old }
+{
+    let _ = plan.slots();
+    let replica = &mut stand.slots.at_mut(0).first;
+    sweep(rt, replica, plan, 0, 1);
+    unsatisfied(replica, plan)
+}
+
+fn same_words(a: &Stand, b: &Stand) -> bool {
+    let (Some(a), Some(b)) = (a.slots.as_slice().first(), b.slots.as_slice().first()) else {
+        return false;
+    };
+    let mut same = true;
+    for (here, there) in a
+        .first
+        .planes
+        .as_slice()
+        .iter()
+        .zip(b.first.planes.as_slice())
+    {
+        same = same && here.words.as_slice() == there.words.as_slice();
+    }
+    same
+}
+
+#[test]
+fn a_sweep_that_counts_equals_a_sweep_and_a_count(rt: HostRuntime) -> Result<(), Fail> {
+    let alloc = rt.alloc();
+    for size in [6, 8, 16, 24] {
+        for kind in [RuleKind::Heat, RuleKind::Metropolis] {
+            let plan = random_plan(alloc, Lattice::of(size)?, kind)?;
+            let mut together = Stand::opening(alloc, &plan, Start::Random)?;
+            let mut apart = Stand::opening(alloc, &plan, Start::Random)?;
+            let counted = counted_sweep(&mut together, &plan);
+            let energies = sweep_then_count(&rt, &mut apart, &plan);
+            assert!(rt; same_words(&together, &apart), "size {size}");
+            for sample in 0..64 {
+                assert_eq!(rt;
+                    counted.number_at(sample),
+                    energies.number_at(sample),
+                    "sample {sample}"
+                );
+            }
+        }
     }
     Ok(())
 }

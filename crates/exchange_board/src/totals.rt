@@ -6,7 +6,7 @@ ghost use Rattle.plane_sweep.specs.Packed.{part_copy, part_slot, FitsDuo, FitsRe
 ghost use Rattle.scalar_rule.specs.Epoch as model;
 ghost use Rattle.scalar_rule.specs.Plan.{slots_of};
 
-use bit_totals::{agreeing, unsatisfied};
+use bit_totals::{agreeing, sweep_and_count, unsatisfied};
 use multispin_word::Planes;
 use plane_sweep::{Duo, sweep_duo_often};
 use scalar_rule::{Plan, Record, excess};
@@ -34,15 +34,59 @@ pub(crate) fn totals_of(duo: &Duo, plan: &Plan) -> Totals
     }
 }
 
-/// The sweeps of an epoch of both replicas of a slot.
-#[tactic(auto, unfolding(scalar_rule::specs::Epoch::swept_slot))]
-pub(crate) fn sweep_slot<R: Threads + Sync>(
+/// The sweeps of an epoch of both replicas of a slot, and their sums.
+pub(crate) fn sweep_and_sum<R: Threads + Sync>(
     rt: &R,
     duo: &mut Duo,
     plan: &Plan,
     slot: u32,
     pieces: u32,
-)
+) -> Totals
+    requires duo { FitsDuo plan.now.size duo.old }
+    requires slot { slot < slots_of plan.now }
+    requires some_pieces { 1 ≤ pieces }
+    requires few_pieces { pieces ≤ 16 }
+    ensures swept { (b : ℕ) → b < 64 → part_slot plan.now.size b duo.new
+        ≡ model.swept_slot plan.now b slot (part_slot plan.now.size b duo.old) }
+    ensures fits { FitsDuo plan.now.size duo.new }
+    ensures totals { AreTotals plan.now duo.new result }
+{
+    let size = plan.lattice().size();
+    // Where `sweep_and_count` has code of its own, and the two replicas don't go in turn.
+    if pieces == 1 && size % 8 == 0 && size < 48 {
+        sum_in_last_sweep(rt, duo, plan, slot)
+    } else {
+        sweep_slot(rt, duo, plan, slot, pieces);
+        totals_of(duo, plan)
+    }
+}
+
+// The same in one piece: the last sweep counts the bonds.
+#[tactic(auto, unfolding(scalar_rule::specs::Epoch::swept_slot))]
+fn sum_in_last_sweep<R: Threads + Sync>(rt: &R, duo: &mut Duo, plan: &Plan, slot: u32) -> Totals
+    requires duo { FitsDuo plan.now.size duo.old }
+    requires slot { slot < slots_of plan.now }
+    ensures swept { (b : ℕ) → b < 64 → part_slot plan.now.size b duo.new
+        ≡ model.swept_slot plan.now b slot (part_slot plan.now.size b duo.old) }
+    ensures fits { FitsDuo plan.now.size duo.new }
+    ensures totals { AreTotals plan.now duo.new result }
+{
+    let _ = plan.lattice();
+    let before = plan.sweeps() - 1;
+    sweep_duo_often(rt, duo, plan, slot, 1, before);
+    let first = sweep_and_count(&mut duo.first, plan, slot);
+    let second = sweep_and_count(&mut duo.second, plan, slot);
+    let agreeing = agreeing(&duo.first, &duo.second);
+    Totals {
+        first,
+        second,
+        agreeing,
+    }
+}
+
+// The sweeps of an epoch of both replicas of a slot.
+#[tactic(auto, unfolding(scalar_rule::specs::Epoch::swept_slot))]
+fn sweep_slot<R: Threads + Sync>(rt: &R, duo: &mut Duo, plan: &Plan, slot: u32, pieces: u32)
     requires duo { FitsDuo plan.now.size duo.old }
     requires slot { slot < slots_of plan.now }
     requires some_pieces { 1 ≤ pieces }

@@ -7,6 +7,6 @@ use Rattle.bit_totals.proofs.energy.count_pairs.Given as goal
 
 abbrev pub invariant-pairs : goal.invariant-pairs
 invariant-pairs g l = record {
-  counted : (b : ℕ) → b < 64 → tallied l.counts b ≡ tallied l.fn.counts b + plane_count l.plane.couplings.now l.plane.other.now l.plane.z l.plane.own.now b (2 * l.i * (l.plane.couplings.now.size / 2));
-  row : IsRow l.plane.couplings.now.size 0 l.plane.z (2 * l.i) l.row;
+  counted : (b : ℕ) → b < 64 → tallied l.counts b ≡ tallied l.fn.counts b + plane_count l.plane.couplings.now l.plane.other.now l.plane.colour l.plane.z l.plane.own.now b (2 * l.i * (l.plane.couplings.now.size / 2));
+  row : IsRow l.plane.couplings.now.size l.plane.colour l.plane.z (2 * l.i) l.row;
 }

@@ -9,4 +9,4 @@ use Rattle.bit_totals.proofs.energy.count_planes.Given as goal
 
 abbrev pub invariant-planes : goal.invariant-planes
 invariant-planes l = (b : ℕ) → b < 64 → tallied l.tally.rows b
-    ≡ unsatisfied_from l.plan.size (bonds_of l.plan.couplings b) (spins_of l.plan.size b l.replica.planes) (l.z * half_plane l.plan.size)
+    ≡ unsatisfied_from l.plan.size (bonds_of l.plan.couplings b) (spins_of l.plan.size b l.replica.planes) 0 (l.z * half_plane l.plan.size)

@@ -15,18 +15,18 @@ total-requires c = λ b h.
     let bonds = bonds_of c.args.plan.now.couplings b in
     let spins = spins_of l b c.args.replica.now.planes in
     let lawful = c.count_planes.ensures.lawful in
-    omega (arith, c.count_planes.ensures.counted b h, all-bonds l bonds spins lawful, count-most (is_unsatisfied l bonds spins) (bond_count l), volume-bound l lawful)
+    omega (arith, c.count_planes.ensures.counted b h, all-bonds l bonds spins 0 lawful (omega arith), count-most (is_unsatisfied l bonds spins) (bond_count l), volume-bound l lawful)
 
 pub returns-clause-value : goal.returns-clause-value
 returns-clause-value c = λ b h.
     let l = c.args.plan.now.size in
     let bonds = bonds_of c.args.plan.now.couplings b in
     let spins = spins_of l b c.args.replica.now.planes in
-    c.total.ensures b h ∙ c.count_planes.ensures.counted b h ∙ all-bonds l bonds spins c.count_planes.ensures.lawful
+    c.total.ensures b h ∙ c.count_planes.ensures.counted b h ∙ all-bonds l bonds spins 0 c.count_planes.ensures.lawful (omega arith)
 
 pub returns-clause-within : goal.returns-clause-within
 returns-clause-within c = λ b h.
     let l = c.args.plan.now.size in
     let bonds = bonds_of c.args.plan.now.couplings b in
     let spins = spins_of l b c.args.replica.now.planes in
-    omega (arith, c.total.ensures b h, c.count_planes.ensures.counted b h, all-bonds l bonds spins c.count_planes.ensures.lawful, count-most (is_unsatisfied l bonds spins) (bond_count l))
+    omega (arith, c.total.ensures b h, c.count_planes.ensures.counted b h, all-bonds l bonds spins 0 c.count_planes.ensures.lawful (omega arith), count-most (is_unsatisfied l bonds spins) (bond_count l))

@@ -1,0 +1,321 @@
+//! The sweep of the sites of one colour in a plane that counts their unsatisfied bonds as it goes: where
+//! four sites get their new spins, J times those of their neighbours is at hand.
+
+ghost use Rattle.std.specs.Prelude.{◌≡◌, ℕ, ◌+◌, ◌*◌, ◌%◌, ◌^◌, ◌<◌, ◌≤◌, ◌==◌, if◌then◌else◌, length, All};
+ghost use Rattle.bit_totals.specs.CountedRows.{CanSweepRow, SweepsPair};
+ghost use Rattle.bit_totals.specs.RowBonds.{counted_lanes, pair_count, plane_count, row_count, HasLanes};
+ghost use Rattle.bit_totals.specs.Tallies.{tallied};
+ghost use Rattle.plane_sweep.specs.Packed.{FitsPlane};
+ghost use Rattle.plane_sweep.specs.PlaneSweep.{SweepsPlane, SweepsRow, SweepsWords};
+ghost use Rattle.spin_model.specs.Lattice.{half_plane, IsLawfulSize};
+
+use crate::bonds::{BondCounts, add_carries, add_counts, add_last_carries, count_bonds};
+use crate::energy::{ColourPlane, count_plane};
+use crate::lanes::words_at;
+use plane_sweep::{
+    Dynamics, HalfPlane, Plane, Row, Surroundings, first_row, is_in_order, kind_of, lend,
+    pulls_of_four, row_behind, sweep_words, update_four,
+};
+use threshold_table::{RuleKind, SlotRule};
+
+/// What the sites of a plane are swept by.
+#[derive(Drop)]
+struct Lent<'a, 'b> {
+    around: Surroundings<'a>,
+    rule: SlotRule,
+    draws: &'b [u32],
+}
+
+/// Sweeps the sites of colour 1 in plane `z`, and adds to each sample's number their unsatisfied bonds.
+pub(crate) fn sweep_plane_counted(
+    counts: &mut [[u64; 4]; 20],
+    plane: &mut Plane,
+    first: &[Plane],
+    dynamics: &Dynamics,
+    draws: &mut [u32],
+    z: u32,
+)
+    requires lawful { IsLawfulSize dynamics.now.couplings.now.size }
+    requires own { FitsPlane dynamics.now.couplings.now.size plane.old }
+    requires count { length first.now ≡ dynamics.now.couplings.now.size }
+    requires planes { All (FitsPlane dynamics.now.couplings.now.size) first.now }
+    requires draws { half_plane dynamics.now.couplings.now.size ≤ length draws.old }
+    requires plane { z < dynamics.now.couplings.now.size }
+    requires room { (b : ℕ) → b < 64
+        → tallied counts.old b + 6 * half_plane dynamics.now.couplings.now.size < 2 ^ 20 }
+    ensures swept { SweepsPlane dynamics.now.couplings.now first.now dynamics.now.rule.now 1 z plane.old plane.new }
+    ensures counted { (b : ℕ) → b < 64 → tallied counts.new b ≡ tallied counts.old b
+        + plane_count dynamics.now.couplings.now first.now 1 z plane.new.words b (half_plane dynamics.now.couplings.now.size) }
+{
+    let size = dynamics.couplings.size();
+    let draws = &mut draws[..(size * (size / 2)) as usize];
+    plane.wheel.fill(draws);
+    let sites = HalfPlane {
+        couplings: dynamics.couplings,
+        rule: dynamics.rule,
+        colour: 1,
+        z,
+    };
+    sweep_words_counted(counts, plane.words.as_mut_slice(), first, &sites, draws);
+}
+
+// The new words of the plane's sites, each by the draw of its place.
+fn sweep_words_counted(
+    counts: &mut [[u64; 4]; 20],
+    own: &mut [u64],
+    other: &[Plane],
+    sites: &HalfPlane,
+    draws: &[u32],
+)
+    requires lawful { IsLawfulSize sites.now.couplings.now.size }
+    requires own { length own.old ≡ half_plane sites.now.couplings.now.size }
+    requires draws { length draws.now ≡ half_plane sites.now.couplings.now.size }
+    requires count { length other.now ≡ sites.now.couplings.now.size }
+    requires planes { All (FitsPlane sites.now.couplings.now.size) other.now }
+    requires colour { sites.now.colour < 2 }
+    requires plane { sites.now.z < sites.now.couplings.now.size }
+    requires room { (b : ℕ) → b < 64
+        → tallied counts.old b + 6 * half_plane sites.now.couplings.now.size < 2 ^ 20 }
+    ensures swept { SweepsWords sites.now.couplings.now other.now sites.now.rule.now draws.now sites.now.colour sites.now.z (half_plane sites.now.couplings.now.size) own.old own.new }
+    ensures counted { (b : ℕ) → b < 64 → tallied counts.new b ≡ tallied counts.old b
+        + plane_count sites.now.couplings.now other.now sites.now.colour sites.now.z own.new b (half_plane sites.now.couplings.now.size) }
+{
+    match sites.couplings.size() {
+        8 => sweep_sized::<8>(counts, own, other, sites, draws),
+        16 => sweep_sized::<16>(counts, own, other, sites, draws),
+        24 => sweep_sized::<24>(counts, own, other, sites, draws),
+        32 => sweep_sized::<32>(counts, own, other, sites, draws),
+        40 => sweep_sized::<40>(counts, own, other, sites, draws),
+        _ => sweep_then_count(counts, own, other, sites, draws),
+    }
+}
+
+// The same, by one code for all sizes and tables.
+fn sweep_then_count(
+    counts: &mut [[u64; 4]; 20],
+    own: &mut [u64],
+    other: &[Plane],
+    sites: &HalfPlane,
+    draws: &[u32],
+)
+    requires lawful { IsLawfulSize sites.now.couplings.now.size }
+    requires own { length own.old ≡ half_plane sites.now.couplings.now.size }
+    requires draws { length draws.now ≡ half_plane sites.now.couplings.now.size }
+    requires count { length other.now ≡ sites.now.couplings.now.size }
+    requires planes { All (FitsPlane sites.now.couplings.now.size) other.now }
+    requires colour { sites.now.colour < 2 }
+    requires plane { sites.now.z < sites.now.couplings.now.size }
+    requires room { (b : ℕ) → b < 64
+        → tallied counts.old b + 6 * half_plane sites.now.couplings.now.size < 2 ^ 20 }
+    ensures swept { SweepsWords sites.now.couplings.now other.now sites.now.rule.now draws.now sites.now.colour sites.now.z (half_plane sites.now.couplings.now.size) own.old own.new }
+    ensures counted { (b : ℕ) → b < 64 → tallied counts.new b ≡ tallied counts.old b
+        + plane_count sites.now.couplings.now other.now sites.now.colour sites.now.z own.new b (half_plane sites.now.couplings.now.size) }
+{
+    sweep_words(own, other, sites, draws);
+    let plane = ColourPlane {
+        own,
+        other,
+        couplings: sites.couplings,
+        colour: sites.colour,
+        z: sites.z,
+    };
+    count_plane(counts, &plane);
+}
+
+// The same, with code of its own for a size, for each kind of table in order, and for planes whose first
+// row begins at x = 0 or at x = 1: all are then known in its loops.
+fn sweep_sized<const SIZE: usize>(
+    counts: &mut [[u64; 4]; 20],
+    own: &mut [u64],
+    other: &[Plane],
+    sites: &HalfPlane,
+    draws: &[u32],
+)
+    requires eights { SIZE % 8 ≡ 0 }
+    requires size { sites.now.couplings.now.size ≡ SIZE }
+    requires lawful { IsLawfulSize sites.now.couplings.now.size }
+    requires own { length own.old ≡ half_plane sites.now.couplings.now.size }
+    requires draws { length draws.now ≡ half_plane sites.now.couplings.now.size }
+    requires count { length other.now ≡ sites.now.couplings.now.size }
+    requires planes { All (FitsPlane sites.now.couplings.now.size) other.now }
+    requires colour { sites.now.colour < 2 }
+    requires plane { sites.now.z < sites.now.couplings.now.size }
+    requires room { (b : ℕ) → b < 64
+        → tallied counts.old b + 6 * half_plane sites.now.couplings.now.size < 2 ^ 20 }
+    ensures swept { SweepsWords sites.now.couplings.now other.now sites.now.rule.now draws.now sites.now.colour sites.now.z (half_plane sites.now.couplings.now.size) own.old own.new }
+    ensures counted { (b : ℕ) → b < 64 → tallied counts.new b ≡ tallied counts.old b
+        + plane_count sites.now.couplings.now other.now sites.now.colour sites.now.z own.new b (half_plane sites.now.couplings.now.size) }
+{
+    let even = (sites.colour + sites.z) % 2 == 0;
+    match sites.rule.kind {
+        RuleKind::Heat if even => {
+            sweep_rows::<SIZE, true, true>(counts, own, other, sites, draws)
+        }
+        RuleKind::Heat => sweep_rows::<SIZE, true, false>(counts, own, other, sites, draws),
+        RuleKind::Metropolis if even => {
+            sweep_rows::<SIZE, false, true>(counts, own, other, sites, draws)
+        }
+        RuleKind::Metropolis => sweep_rows::<SIZE, false, false>(counts, own, other, sites, draws),
+    }
+}
+
+// The same by heat bath or Metropolis, two rows at a time: an even plane's first row begins at x = 0.
+// Not expanded where it is called, since no hint brings so much code into one function. A table out of
+// order, which no temperature has, takes the code for all sizes.
+#[inline(never)]
+fn sweep_rows<const SIZE: usize, const HEAT: bool, const EVEN: bool>(
+    counts: &mut [[u64; 4]; 20],
+    own: &mut [u64],
+    other: &[Plane],
+    sites: &HalfPlane,
+    draws: &[u32],
+)
+    requires eights { SIZE % 8 ≡ 0 }
+    requires size { sites.now.couplings.now.size ≡ SIZE }
+    requires even { EVEN ≡ ((sites.now.colour + sites.now.z) % 2 == 0) }
+    requires kind { sites.now.rule.now.kind ≡ (if HEAT then RuleKind.Heat else RuleKind.Metropolis) }
+    requires lawful { IsLawfulSize sites.now.couplings.now.size }
+    requires own { length own.old ≡ half_plane sites.now.couplings.now.size }
+    requires draws { length draws.now ≡ half_plane sites.now.couplings.now.size }
+    requires count { length other.now ≡ sites.now.couplings.now.size }
+    requires planes { All (FitsPlane sites.now.couplings.now.size) other.now }
+    requires colour { sites.now.colour < 2 }
+    requires plane { sites.now.z < sites.now.couplings.now.size }
+    requires room { (b : ℕ) → b < 64
+        → tallied counts.old b + 6 * half_plane sites.now.couplings.now.size < 2 ^ 20 }
+    ensures swept { SweepsWords sites.now.couplings.now other.now sites.now.rule.now draws.now sites.now.colour sites.now.z (half_plane sites.now.couplings.now.size) own.old own.new }
+    ensures counted { (b : ℕ) → b < 64 → tallied counts.new b ≡ tallied counts.old b
+        + plane_count sites.now.couplings.now other.now sites.now.colour sites.now.z own.new b (half_plane sites.now.couplings.now.size) }
+{
+    let (kind, row) = (kind_of(HEAT), sites.rule.row);
+    if !is_in_order(kind, &row) {
+        sweep_then_count(counts, own, other, sites, draws);
+        return;
+    }
+    let around = lend(other, sites.couplings, sites.colour, sites.z, SIZE);
+    // The rule is its own, not the one lent beside the words that are written: so the thresholds stay in
+    // registers.
+    let rule = SlotRule { kind, row };
+    let lent = Lent {
+        around,
+        rule,
+        draws,
+    };
+    let words = SIZE * (SIZE / 2);
+    let mut row = first_row(SIZE, EVEN);
+    'pairs: for i in 0..SIZE / 2 {
+        let behind = row_behind(&row, words);
+        sweep_pair::<SIZE, HEAT, EVEN>(counts, own, &lent, &row, &behind);
+        row = row_behind(&behind, words);
+    }
+}
+
+// The new words of two rows, the second behind the first: by eight columns, then by four.
+#[inline(always)]
+fn sweep_pair<const SIZE: usize, const HEAT: bool, const EVEN: bool>(
+    counts: &mut [[u64; 4]; 20],
+    own: &mut [u64],
+    lent: &Lent,
+    first: &Row,
+    second: &Row,
+)
+    requires first { CanSweepRow lent.now first.now own.old }
+    requires second { CanSweepRow lent.now second.now own.old }
+    requires half { second.now.half ≡ first.now.half }
+    requires apart { first.now.here + first.now.half ≤ second.now.here }
+    requires fours { first.now.half % 4 ≡ 0 }
+    requires room { (b : ℕ) → b < 64 → tallied counts.old b + 12 * first.now.half < 2 ^ 20 }
+    ensures swept { SweepsPair lent.now first.now second.now 0 first.now.half own.old own.new }
+    ensures counted { (b : ℕ) → b < 64 → tallied counts.new b
+        ≡ tallied counts.old b + pair_count own.new lent.now.around first.now second.now b first.now.half }
+{
+    let mut k = 0;
+    'eights: while first.half - k >= 8 {
+        sweep_eight::<SIZE, HEAT, EVEN>(counts, own, lent, first, second, k);
+        k += 8;
+    }
+    'fours: while first.half - k >= 4 {
+        sweep_four_of_both::<SIZE, HEAT, EVEN>(counts, own, lent, first, second, k);
+        k += 4;
+    }
+}
+
+// Eight columns of both rows, from one on.
+#[inline(always)]
+fn sweep_eight<const SIZE: usize, const HEAT: bool, const EVEN: bool>(
+    counts: &mut [[u64; 4]; 20],
+    own: &mut [u64],
+    lent: &Lent,
+    first: &Row,
+    second: &Row,
+    k: usize,
+)
+    requires first { CanSweepRow lent.now first.now own.old }
+    requires second { CanSweepRow lent.now second.now own.old }
+    requires half { second.now.half ≡ first.now.half }
+    requires apart { first.now.here + first.now.half ≤ second.now.here }
+    requires within { k + 8 ≤ first.now.half }
+    requires room { (b : ℕ) → b < 64 → tallied counts.old b + 96 < 2 ^ 20 }
+    ensures swept { SweepsPair lent.now first.now second.now k (k + 8) own.old own.new }
+    ensures counted { (b : ℕ) → b < 64
+        → tallied counts.new b + pair_count own.new lent.now.around first.now second.now b k
+        ≡ tallied counts.old b + pair_count own.new lent.now.around first.now second.now b (k + 8) }
+{
+    let a = sweep_and_count::<SIZE, HEAT, EVEN, 0>(own, lent, first, k);
+    let b = sweep_and_count::<SIZE, HEAT, EVEN, 1>(own, lent, first, k + 4);
+    let front = add_counts(counts, &a, &b);
+    let c = sweep_and_count::<SIZE, HEAT, EVEN, 2>(own, lent, second, k);
+    let d = sweep_and_count::<SIZE, HEAT, EVEN, 3>(own, lent, second, k + 4);
+    let back = add_counts(counts, &c, &d);
+    add_carries(counts, front, back);
+}
+
+// Four columns of both rows, from one on.
+#[inline(always)]
+fn sweep_four_of_both<const SIZE: usize, const HEAT: bool, const EVEN: bool>(
+    counts: &mut [[u64; 4]; 20],
+    own: &mut [u64],
+    lent: &Lent,
+    first: &Row,
+    second: &Row,
+    k: usize,
+)
+    requires first { CanSweepRow lent.now first.now own.old }
+    requires second { CanSweepRow lent.now second.now own.old }
+    requires half { second.now.half ≡ first.now.half }
+    requires apart { first.now.here + first.now.half ≤ second.now.here }
+    requires within { k + 4 ≤ first.now.half }
+    requires room { (b : ℕ) → b < 64 → tallied counts.old b + 48 < 2 ^ 20 }
+    ensures swept { SweepsPair lent.now first.now second.now k (k + 4) own.old own.new }
+    ensures counted { (b : ℕ) → b < 64
+        → tallied counts.new b + pair_count own.new lent.now.around first.now second.now b k
+        ≡ tallied counts.old b + pair_count own.new lent.now.around first.now second.now b (k + 4) }
+{
+    let a = sweep_and_count::<SIZE, HEAT, EVEN, 4>(own, lent, first, k);
+    let b = sweep_and_count::<SIZE, HEAT, EVEN, 5>(own, lent, second, k);
+    let last = add_counts(counts, &a, &b);
+    add_last_carries(counts, last);
+}
+
+// The new words of four sites of a row, from a column on, and then how many of their bonds are
+// unsatisfied. Each call has a copy of its own, since no hint brings so much code to where one function is
+// called more than once.
+#[inline(always)]
+fn sweep_and_count<const SIZE: usize, const HEAT: bool, const EVEN: bool, const PART: usize>(
+    own: &mut [u64],
+    lent: &Lent,
+    row: &Row,
+    k: usize,
+) -> BondCounts
+    requires row { CanSweepRow lent.now row.now own.old }
+    requires within { k + 4 ≤ row.now.half }
+    ensures lanes { HasLanes result }
+    ensures swept { SweepsRow lent.now.around lent.now.rule lent.now.draws.now row.now k (k + 4) own.old own.new }
+    ensures counted { (b : ℕ) → row_count own.new lent.now.around row.now b k + counted_lanes result b
+        ≡ row_count own.new lent.now.around row.now b (k + 4) }
+{
+    let six = pulls_of_four(&lent.around, row, k);
+    update_four(own, &lent.rule, lent.draws, row.here + k, &six);
+    let words = words_at(own, row.here + k);
+    count_bonds(&six, words)
+}
