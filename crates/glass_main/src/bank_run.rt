@@ -18,6 +18,7 @@ ghost use Rattle.glass_main.specs.Request.{banks_work, plans_at, has_banks};
 ghost use Rattle.glass_main.specs.Resumes.{AreResumable};
 ghost use Rattle.glass_main.specs.Statuses.{Ends};
 
+use crate::asked::Asked;
 use crate::bank_finishing::{OpenedBanks, finish_banks};
 use crate::bank_resuming::gather_stands;
 use crate::ending::Ending;
@@ -35,7 +36,7 @@ use std::alloc::Global;
 use std::sync::{Arc, Wait};
 use std::thread::Threads;
 
-/// Reads the checkpoint of an order whose run file and what it names are read; runs the banks, prints
+/// Reads the checkpoint of a run whose run file and what it names are read; runs the banks, prints
 /// their one report, and places their one checkpoint.
 pub(crate) fn run_banks<R: Threads + Wait + Sync, H: Shelf, O: Sink, G: Gate + Sync>(
     rt: &R,
@@ -43,29 +44,29 @@ pub(crate) fn run_banks<R: Threads + Wait + Sync, H: Shelf, O: Sink, G: Gate + S
     shelf: &mut H,
     out: &mut O,
     gate: &G,
-    order: &RunOrder<'_>,
-    planned: PlannedBanks,
+    asked: Asked<'_, PlannedBanks>,
 ) -> Ending
-    requires order { IsLawfulOrder order.now }
-    requires planned { IfSome (option_map (plans_at (has_banks order.now.stop_after) order.now.run.now)
-        (H.holds shelf.old)) (λ asked. asked ≡ Ok (Plans.Banks planned)) }
-    ensures { Ends (Some (commands.Run (read_run_order order.now))) result
+    requires order { IsLawfulOrder asked.order }
+    requires planned { IfSome (option_map (plans_at (has_banks asked.order.stop_after) asked.order.run.now)
+        (H.holds shelf.old)) (λ said. said ≡ Ok (Plans.Banks asked.planned)) }
+    ensures { Ends (Some (commands.Run (read_run_order asked.entry.order))) result
         (store H.holds H.faults H.lengths shelf.old) (store H.holds H.faults H.lengths shelf.new)
         (output O.taken O.faults out.old) (output O.taken O.faults out.new) }
 {
     // What the banks print and save is the serial dynamics'.
     banks_report_is_serial();
     banks_checkpoint_is_serial();
-    let until = until_of(order, &planned.orders);
+    let Asked { order, planned } = asked;
+    let until = until_of(&order, &planned.orders);
     let stands = match gather_stands(alloc, shelf, &planned, until, order.from) {
         Ok(stands) => stands,
         Err(ending) => return ending,
     };
-    let opened = match open_run(alloc, planned, stands, until, order) {
+    let opened = match open_run(alloc, planned, stands, until, &order) {
         Ok(opened) => opened,
         Err(ending) => return ending,
     };
-    finish_banks(rt, shelf, out, gate, opened, order)
+    finish_banks(rt, shelf, out, gate, opened, &order)
 }
 
 // Opens the banks from their states, unless they would print too much.

@@ -6,7 +6,9 @@ ghost use Rattle.glass_main.specs.Outside.{output};
 ghost use Rattle.glass_main.specs.Statuses.{Says};
 
 use crate::digest_lines::{say_damage, say_digests};
-use crate::lines::{add_file, say, say_end, say_file_number, say_file_numbers, say_number};
+use crate::lines::{
+    Numbers, add_file, say, say_end, say_file_number, say_file_numbers, say_number,
+};
 use crate::role::Role;
 use glass_edges::{Line, Sink};
 use run_checkpoint::CheckpointRefused;
@@ -24,19 +26,12 @@ pub(crate) fn say_checkpoint<E: Sink>(err: &mut E, refused: &CheckpointRefused)
         }
         CheckpointRefused::Magic => say_end(err, file, b" is of another kind\n"),
         CheckpointRefused::Shape { size, slots } => {
-            let size = size as u64;
-            say_file_numbers(
-                err,
-                file,
-                b" has size ",
-                size,
-                b" and ",
-                slots as u64,
-                b" slots\n",
-            );
+            let numbers = Numbers::of(size as u64, slots as u64);
+            say_file_numbers(err, file, numbers, b" has size ", b" and ", b" slots\n");
         }
         CheckpointRefused::Length { found, wanted } => {
-            say_file_numbers(err, file, b" has ", found, b" bytes, not ", wanted, b"\n");
+            let numbers = Numbers::of(found, wanted);
+            say_file_numbers(err, file, numbers, b" has ", b" bytes, not ", b"\n");
         }
         CheckpointRefused::Digest { stored, computed } => say_damage(err, file, &stored, &computed),
         CheckpointRefused::OtherPlan { stored, mine } => {
@@ -51,7 +46,8 @@ pub(crate) fn say_checkpoint<E: Sink>(err: &mut E, refused: &CheckpointRefused)
         }
         CheckpointRefused::Replicas { slot, copy, sample } => say_label(err, slot, copy, sample),
         CheckpointRefused::Late { epoch, until } => {
-            say_file_numbers(err, file, b" is at epoch ", epoch, b", past ", until, b"\n");
+            let numbers = Numbers::of(epoch, until);
+            say_file_numbers(err, file, numbers, b" is at epoch ", b", past ", b"\n");
         }
         CheckpointRefused::NoMemory => say(err, b"glass: no memory\n"),
         CheckpointRefused::Places { slot } => {
@@ -64,39 +60,23 @@ pub(crate) fn say_checkpoint<E: Sink>(err: &mut E, refused: &CheckpointRefused)
             );
         }
         CheckpointRefused::Orders { samples, every } => {
-            let samples = samples as u64;
-            say_file_numbers(
-                err,
-                file,
-                b" is of samples=",
-                samples,
-                b" every=",
-                every,
-                b"\n",
-            );
+            let numbers = Numbers::of(samples as u64, every);
+            say_file_numbers(err, file, numbers, b" is of samples=", b" every=", b"\n");
         }
         CheckpointRefused::Pending { found, wanted } => {
+            let numbers = Numbers::of(found, wanted);
             say_file_numbers(
                 err,
                 file,
+                numbers,
                 b" has ",
-                found,
                 b" pending records, not ",
-                wanted,
                 b"\n",
             );
         }
         CheckpointRefused::BankCount { found, wanted } => {
-            let found = found as u64;
-            say_file_numbers(
-                err,
-                file,
-                b" has ",
-                found,
-                b" banks, not ",
-                wanted as u64,
-                b"\n",
-            );
+            let numbers = Numbers::of(found as u64, wanted as u64);
+            say_file_numbers(err, file, numbers, b" has ", b" banks, not ", b"\n");
         }
         CheckpointRefused::BankEpoch { bank, epoch, first } => say_bank(err, bank, epoch, first),
     }

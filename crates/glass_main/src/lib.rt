@@ -3,6 +3,7 @@
 
 mod age;
 mod age_words;
+mod asked;
 mod average;
 mod average_words;
 mod bank_finishing;

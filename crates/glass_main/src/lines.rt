@@ -117,25 +117,42 @@ pub(crate) fn say_file_number<E: Sink>(
     say_number(err, &mut line, before, number, after);
 }
 
-/// Writes a line on a file with two numbers in it.
+/// The two numbers of a line.
+#[derive(Clone, Copy)]
+pub(crate) struct Numbers {
+    pub(crate) first: u64,
+    pub(crate) second: u64,
+}
+
+impl Numbers {
+    /// The first number and the second.
+    pub(crate) fn of(first: u64, second: u64) -> Numbers
+        ensures first { result.first ≡ first }
+        ensures second { result.second ≡ second }
+    {
+        Numbers { first, second }
+    }
+}
+
+/// Writes a line on a file with two numbers in it: the texts stand before, between and after them.
 pub(crate) fn say_file_numbers<E: Sink>(
     err: &mut E,
     role: Role,
+    numbers: Numbers,
     before: &[u8],
-    first: u64,
     between: &[u8],
-    second: u64,
     after: &[u8],
 )
     requires { length before.now + length between.now + length after.now ≤ 100 }
-    ensures { Says (file_front role ++ before.now ++ decimal first ++ between.now ++ decimal second ++ after.now)
+    ensures { Says (file_front role ++ before.now ++ decimal numbers.first ++ between.now
+        ++ decimal numbers.second ++ after.now)
         (output E.taken E.faults err.old) (output E.taken E.faults err.new) }
 {
     let mut line = Line::new();
     add_file(&mut line, role);
     line.add(before);
-    line.number(first);
-    say_number(err, &mut line, between, second, after);
+    line.number(numbers.first);
+    say_number(err, &mut line, between, numbers.second, after);
 }
 
 /// Writes what the buffer has, and behind it a number between two texts.

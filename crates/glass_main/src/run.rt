@@ -17,6 +17,7 @@ ghost use Rattle.glass_main.specs.Request as model;
 ghost use Rattle.glass_main.specs.Resumes.{IsResumable};
 ghost use Rattle.glass_main.specs.Statuses.{Ends};
 
+use crate::asked::Asked;
 use crate::bank_gathering::gather_plans;
 use crate::bank_run::run_banks;
 use crate::ending::Ending;
@@ -57,9 +58,10 @@ pub(crate) fn run<R: Threads + Wait + Sync, H: Shelf, O: Sink, G: Gate + Sync>(
         Ok(plans) => plans,
         Err(ending) => return ending,
     };
+    let order = *order;
     match plans {
-        Plans::One(planned) => run_one(rt, alloc, shelf, out, gate, order, planned),
-        Plans::Banks(planned) => run_banks(rt, alloc, shelf, out, gate, order, planned),
+        Plans::One(planned) => run_one(rt, alloc, shelf, out, gate, Asked { order, planned }),
+        Plans::Banks(planned) => run_banks(rt, alloc, shelf, out, gate, Asked { order, planned }),
     }
 }
 
@@ -70,7 +72,7 @@ fn has_banks(order: &RunOrder<'_>) -> bool
     order.stop_after.is_none()
 }
 
-// Reads the checkpoint of an order whose run file and what it names are read, of one bank; runs it, prints
+// Reads the checkpoint of a run whose run file and what it names are read, of one bank; runs it, prints
 // the report, and places its own checkpoint.
 fn run_one<R: Threads + Wait + Sync, H: Shelf, O: Sink, G: Gate + Sync>(
     rt: &R,
@@ -78,27 +80,27 @@ fn run_one<R: Threads + Wait + Sync, H: Shelf, O: Sink, G: Gate + Sync>(
     shelf: &mut H,
     out: &mut O,
     gate: &G,
-    order: &RunOrder<'_>,
-    planned: Planned,
+    asked: Asked<'_, Planned>,
 ) -> Ending
-    requires order { IsLawfulOrder order.now }
-    requires orders { AreLawfulOrders planned.orders }
-    requires planned { IfSome (option_map (model.plans_at (model.has_banks order.now.stop_after) order.now.run.now)
-        (H.holds shelf.old)) (λ asked. asked ≡ Ok (Plans.One planned)) }
-    ensures { Ends (Some (commands.Run (read_run_order order.now))) result
+    requires order { IsLawfulOrder asked.order }
+    requires orders { AreLawfulOrders asked.planned.orders }
+    requires planned { IfSome (option_map (model.plans_at (model.has_banks asked.order.stop_after) asked.order.run.now)
+        (H.holds shelf.old)) (λ said. said ≡ Ok (Plans.One asked.planned)) }
+    ensures { Ends (Some (commands.Run (read_run_order asked.entry.order))) result
         (store H.holds H.faults H.lengths shelf.old) (store H.holds H.faults H.lengths shelf.new)
         (output O.taken O.faults out.old) (output O.taken O.faults out.new) }
 {
-    let until = until_of(order, &planned.orders);
+    let Asked { order, planned } = asked;
+    let until = until_of(&order, &planned.orders);
     let base = match gather_base(alloc, shelf, &planned, until, order.from) {
         Ok(base) => base,
         Err(ending) => return ending,
     };
-    let opened = match open_run(alloc, planned, base, until, order) {
+    let opened = match open_run(alloc, planned, base, until, &order) {
         Ok(opened) => opened,
         Err(ending) => return ending,
     };
-    finish_run(rt, shelf, out, gate, opened, order)
+    finish_run(rt, shelf, out, gate, opened, &order)
 }
 
 /// The epoch at which a run ends.

@@ -16,8 +16,8 @@ use Rattle.glass_main.proofs.bank_run.run_banks.Goals as goal
 
 pub returns-in-Err : goal.returns-in-Err
 returns-in-Err g c =
-    let order = read_run_order c.args.order.now in
-    let planned = c.args.planned in
+    let order = read_run_order c.args.asked.order in
+    let planned = c.args.asked.planned in
     let e = until_of order planned.orders in
     let same : c.until_of-until.result ≡ e = c.until_of-until.ensures.value ∙ ap (λ (p : PlannedBanks). until_of order p.orders) c.planned.view_is in
     let B : ℕ → Type 0 = λ e. Begins order.from (BanksStand planned.plans) (option_map (banks_beginning_at order.from planned e) (g.H.Shelf.holds c.args.shelf.now)) (Err c.in-Err.ending) (store g.H.Shelf.holds g.H.Shelf.faults g.H.Shelf.lengths c.args.shelf.now) (store g.H.Shelf.holds g.H.Shelf.faults g.H.Shelf.lengths c.gather_stands.new.shelf) in
@@ -26,8 +26,8 @@ returns-in-Err g c =
 
 pub returns-in-Err-open_run : goal.returns-in-Err-open_run
 returns-in-Err-open_run g c =
-    let order = read_run_order c.args.order.now in
-    let planned = c.args.planned in
+    let order = read_run_order c.args.asked.order in
+    let planned = c.args.asked.planned in
     let stands = c.in-Ok.stands in
     let e = until_of order planned.orders in
     let same : c.until_of-until.result ≡ e = c.until_of-until.ensures.value ∙ ap (λ (p : PlannedBanks). until_of order p.orders) c.planned.view_is in
@@ -42,8 +42,8 @@ returns-in-Err-open_run g c =
 
 pub returns : goal.returns
 returns g c =
-    let order = read_run_order c.args.order.now in
-    let planned = c.args.planned in
+    let order = read_run_order c.args.asked.order in
+    let planned = c.args.asked.planned in
     let stands = c.in-Ok.stands in
     let until = c.until_of-until.result in
     let e = until_of order planned.orders in

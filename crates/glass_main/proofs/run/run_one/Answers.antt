@@ -18,8 +18,8 @@ use Rattle.glass_main.proofs.run.run_one.Goals as goal
 
 pub returns-in-Err : goal.returns-in-Err
 returns-in-Err g c =
-    let order = read_run_order c.args.order.now in
-    let planned = c.args.planned in
+    let order = read_run_order c.args.asked.order in
+    let planned = c.args.asked.planned in
     let e = until_of order planned.orders in
     let B : ℕ → Type 0 = λ e. Begins order.from (IsBaseOf planned.plan) (option_map (beginning_at order.from planned e) (g.H.Shelf.holds c.args.shelf.now)) (Err c.in-Err.ending) (store g.H.Shelf.holds g.H.Shelf.faults g.H.Shelf.lengths c.args.shelf.now) (store g.H.Shelf.holds g.H.Shelf.faults g.H.Shelf.lengths c.gather_base.new.shelf) in
     ends-unbegun order (One planned) (beginning_at order.from planned e) (run_work order.stop_after planned e) (λ files. refl) (IsBaseOf planned.plan) c.in-Err.ending _ _ _
@@ -27,8 +27,8 @@ returns-in-Err g c =
 
 pub returns-in-Err-open_run : goal.returns-in-Err-open_run
 returns-in-Err-open_run g c =
-    let order = read_run_order c.args.order.now in
-    let planned = c.args.planned in
+    let order = read_run_order c.args.asked.order in
+    let planned = c.args.asked.planned in
     let base = c.in-Ok.base in
     let e = until_of order planned.orders in
     let same = c.until_of-until.ensures.value in
@@ -41,8 +41,8 @@ returns-in-Err-open_run g c =
 
 pub returns : goal.returns
 returns g c =
-    let order = read_run_order c.args.order.now in
-    let planned = c.args.planned in
+    let order = read_run_order c.args.asked.order in
+    let planned = c.args.asked.planned in
     let base = c.in-Ok.base in
     let until = c.until_of-until.result in
     let e = until_of order planned.orders in
