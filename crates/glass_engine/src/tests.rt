@@ -78,31 +78,61 @@ const ORDERS: Orders = Orders {
     spins: true,
 };
 
+/// How far a run goes: to an epoch, by at most so many hand-outs to so many workers.
+#[derive(Clone, Copy)]
+struct Reach {
+    until: u64,
+    takes: u64,
+    workers: u32,
+    ghost in_time: { until ≤ last_epoch },
+    ghost few_takes: { takes ≤ 32000000000 },
+    ghost some_workers: { 1 ≤ workers },
+    ghost few_workers: { workers ≤ 64 },
+}
+
+/// As far as an epoch, by every hand-out.
+fn whole(until: u64, workers: u32) -> Reach
+    requires until { until ≤ last_epoch }
+    requires some_workers { 1 ≤ workers }
+    requires few_workers { workers ≤ 64 }
+    ensures takes { result.takes ≡ 32000000000 }
+{
+    Reach {
+        until,
+        takes: ENDLESS,
+        workers,
+    }
+}
+
 /// A run from a state at one epoch.
 fn begun(
     alloc: Global,
     plan: &Arc<Plan, Global>,
     orders: &Orders,
     stand: Stand,
-    until: u64,
-    takes: u64,
-    workers: u32,
+    reach: &Reach,
     save: SaveKind,
 ) -> Result<Run, NoMemory>
     requires orders { AreRunOrders orders.now }
     requires some { 1 ≤ slots_of (arc_value plan.now) }
     requires stand { StandFits (arc_value plan.now) stand }
-    requires window { stand.epoch ≤ until }
-    requires until { until ≤ last_epoch }
-    requires takes { takes ≤ 32000000000 }
-    requires workers { (1 ≤ workers) × (workers ≤ 64) }
-    requires rows { row_count (arc_value plan.now) orders.now stand.epoch until ≤ most_rows }
-    requires whole { save ≡ saves.Level → takes ≡ 32000000000 }
+    requires window { stand.epoch ≤ reach.now.until }
+    requires rows { row_count (arc_value plan.now) orders.now stand.epoch reach.now.until ≤ most_rows }
+    requires whole { save ≡ saves.Level → reach.now.takes ≡ 32000000000 }
     ensures plan { IfOk result (λ run. run.plan ≡ arc_value plan.now) }
     ensures saves { IfOk result (λ run. run.saves ≡ save) }
 {
     let base = RaggedStand::level(alloc, stand)?;
-    open(alloc, plan, orders, base, until, takes, workers, save)
+    open(
+        alloc,
+        plan,
+        orders,
+        base,
+        reach.until,
+        reach.takes,
+        reach.workers,
+        save,
+    )
 }
 
 /// A hook that adds 1 at the bit of the slot and the epoch, eight slots an epoch.
@@ -127,33 +157,20 @@ fn reported<R: Threads + Wait + Sync, G: Gate + Sync>(
     alloc: Global,
     plan: Plan,
     orders: &Orders,
-    until: u64,
-    takes: u64,
-    workers: u32,
+    reach: &Reach,
 ) -> Result<MemorySink, NoMemory>
-    requires orders { AreLawfulOrders orders.now }
-    requires until { until ≤ last_epoch }
-    requires takes { takes ≤ 32000000000 }
-    requires workers { (1 ≤ workers) × (workers ≤ 64) }
+    requires { AreLawfulOrders orders.now }
 {
     let mut out = MemorySink::new(alloc, 5000, 300, Vec::new(alloc))?;
     // A plan has a slot.
     let _ = plan.slots();
     let stand = Stand::opening(alloc, &plan, orders.start)?;
+    let until = reach.until;
     if stand.epoch > until || check_amount(&plan, orders, stand.epoch, until).is_err() {
         return Ok(out);
     }
     let plan = Arc::new(alloc, plan)?;
-    let run = begun(
-        alloc,
-        &plan,
-        orders,
-        stand,
-        until,
-        takes,
-        workers,
-        SaveKind::Never,
-    )?;
+    let run = begun(alloc, &plan, orders, stand, reach, SaveKind::Never)?;
     let done = drive(rt, run, &plan, 3, gate);
     let _ = write_report(&done, &plan, &mut out);
     Ok(out)
@@ -165,17 +182,12 @@ fn reports<R: Threads + Wait + Sync>(
     alloc: Global,
     plan: Plan,
     orders: &Orders,
-    until: u64,
-    takes: u64,
-    workers: u32,
+    reach: &Reach,
     report: &str,
 ) -> Result<(), Fail>
-    requires orders { AreLawfulOrders orders.now }
-    requires until { until ≤ last_epoch }
-    requires takes { takes ≤ 32000000000 }
-    requires workers { (1 ≤ workers) × (workers ≤ 64) }
+    requires { AreLawfulOrders orders.now }
 {
-    let out = reported(rt, &OpenGate, alloc, plan, orders, until, takes, workers)?;
+    let out = reported(rt, &OpenGate, alloc, plan, orders, reach)?;
     holds(report, out.taken() == report.as_bytes())
 }
 
@@ -183,17 +195,11 @@ fn reports<R: Threads + Wait + Sync>(
 fn two_slots_report<R: Threads + Wait + Sync>(
     rt: &R,
     alloc: Global,
-    until: u64,
-    takes: u64,
-    workers: u32,
+    reach: &Reach,
     report: &str,
-) -> Result<(), Fail>
-    requires until { until ≤ last_epoch }
-    requires takes { takes ≤ 32000000000 }
-    requires workers { (1 ≤ workers) × (workers ≤ 64) }
-{
+) -> Result<(), Fail> {
     let plan = two_slots(alloc)?;
-    reports(rt, alloc, plan, &ORDERS, until, takes, workers, report)
+    reports(rt, alloc, plan, &ORDERS, reach, report)
 }
 
 const ALL_DOWN: &str = "glass 1 size=4 slots=1 samples=1 rule=heat from=0 to=1
@@ -207,7 +213,7 @@ spin,0,0,1,0000000000000000
 fn report_of_all_down(rt: HostRuntime) -> Result<(), Fail> {
     let alloc = rt.alloc();
     let plan = plan_of(alloc, "0,0,0,0,0,0,0\n", "")?;
-    reports(&rt, alloc, plan, &ORDERS, 1, ENDLESS, 2, ALL_DOWN)
+    reports(&rt, alloc, plan, &ORDERS, &whole(1, 2), ALL_DOWN)
 }
 
 const TWO_SLOTS: &str = "glass 1 size=4 slots=2 samples=1 rule=heat from=0 to=2
@@ -226,7 +232,7 @@ spin,0,1,1,ffffffffffffffff
 #[test]
 fn report_of_two_slots_that_swap(rt: HostRuntime) -> Result<(), Fail> {
     for workers in [1, 2, 64] {
-        two_slots_report(&rt, rt.alloc(), 2, ENDLESS, workers, TWO_SLOTS)?;
+        two_slots_report(&rt, rt.alloc(), &whole(2, workers), TWO_SLOTS)?;
     }
     Ok(())
 }
@@ -244,7 +250,7 @@ spin,0,1,1,5a5aa5a55a5aa5a5
 // The spins are those after the last exchange.
 #[test]
 fn report_that_ends_with_a_swap(rt: HostRuntime) -> Result<(), Fail> {
-    two_slots_report(&rt, rt.alloc(), 1, ENDLESS, 2, ENDS_WITH_A_SWAP)
+    two_slots_report(&rt, rt.alloc(), &whole(1, 2), ENDS_WITH_A_SWAP)
 }
 
 const STOPPED_AT_1: &str = "glass 1 size=4 slots=2 samples=1 rule=heat from=0 to=1
@@ -262,8 +268,18 @@ end,0
 #[test]
 fn report_of_a_run_that_stops(rt: HostRuntime) -> Result<(), Fail> {
     for workers in [1, 2] {
-        two_slots_report(&rt, rt.alloc(), 2, 3, workers, STOPPED_AT_1)?;
-        two_slots_report(&rt, rt.alloc(), 2, 1, workers, STOPPED_AT_0)?;
+        let three = Reach {
+            until: 2,
+            takes: 3,
+            workers,
+        };
+        let one = Reach {
+            until: 2,
+            takes: 1,
+            workers,
+        };
+        two_slots_report(&rt, rt.alloc(), &three, STOPPED_AT_1)?;
+        two_slots_report(&rt, rt.alloc(), &one, STOPPED_AT_0)?;
     }
     Ok(())
 }
@@ -290,7 +306,7 @@ fn three_slots_through_two_seats(rt: HostRuntime) -> Result<(), Fail> {
         spins: false,
         ..ORDERS
     };
-    reports(&rt, alloc, plan, &orders, 3, ENDLESS, 2, THREE_SLOTS)
+    reports(&rt, alloc, plan, &orders, &whole(3, 2), THREE_SLOTS)
 }
 
 #[test]
@@ -299,7 +315,7 @@ fn hook_is_entered_once_for_each_slot_and_epoch(rt: HostRuntime) -> Result<(), F
         entered: AtomicU64::new(0),
     };
     let plan = two_slots(rt.alloc())?;
-    reported(&rt, &gate, rt.alloc(), plan, &ORDERS, 2, ENDLESS, 2)?;
+    reported(&rt, &gate, rt.alloc(), plan, &ORDERS, &whole(2, 2))?;
     holds("0x0303", gate.entered.load(Ordering::SeqCst) == 0x0303)
 }
 
@@ -347,7 +363,7 @@ fn two_workers_overlap_in_every_epoch(rt: HostRuntime) -> Result<(), Fail> {
         met: four_counts(),
     };
     let plan = two_slots(rt.alloc())?;
-    reported(&rt, &gate, rt.alloc(), plan, &ORDERS, 4, ENDLESS, 2)?;
+    reported(&rt, &gate, rt.alloc(), plan, &ORDERS, &whole(4, 2))?;
     for met in &gate.met {
         holds("the second came", met.load(Ordering::SeqCst) == 1)?;
     }

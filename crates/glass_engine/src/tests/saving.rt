@@ -1,10 +1,9 @@
 //! The checkpoints that a run places.
 
-ghost use Rattle.std.specs.Prelude.{◌≡◌, ◌≢◌, ◌≤◌};
-ghost use Rattle.spin_model.specs.Limits.{last_epoch};
+ghost use Rattle.std.specs.Prelude.{◌≡◌, ◌≢◌};
 ghost use Rattle.glass_engine.specs.declared.run.SaveKind.TheVariants as saves;
 
-use super::{ENDLESS, ORDERS, begun, holds, two_slots};
+use super::{ORDERS, Reach, begun, holds, two_slots, whole};
 use crate::{SaveKind, drive, save};
 use glass_edges::{Fetched, MemoryShelf, OpenGate, Shelf};
 use plane_sweep::Stand;
@@ -29,13 +28,10 @@ const DIGEST_AT_2: [u8; 32] = [
 fn placed_twice<R: Threads + Wait + Sync>(
     rt: &R,
     alloc: Global,
-    until: u64,
-    takes: u64,
+    reach: &Reach,
     kind: SaveKind,
 ) -> Result<MemoryShelf, Fail>
-    requires until { until ≤ last_epoch }
-    requires takes { takes ≤ 32000000000 }
-    requires whole { kind ≡ saves.Level → takes ≡ 32000000000 }
+    requires whole { kind ≡ saves.Level → reach.now.takes ≡ 32000000000 }
     requires some { kind ≢ saves.Never }
 {
     let mut shelf = MemoryShelf::new(alloc, Vec::new(alloc));
@@ -45,11 +41,12 @@ fn placed_twice<R: Threads + Wait + Sync>(
     // A plan has a slot.
     let _ = plan.slots();
     let stand = Stand::opening(alloc, &plan, ORDERS.start)?;
+    let until = reach.until;
     if stand.epoch > until || check_amount(&plan, &ORDERS, stand.epoch, until).is_err() {
         return Ok(shelf);
     }
     let plan = Arc::new(alloc, plan)?;
-    let run = begun(alloc, &plan, &ORDERS, stand, until, takes, 2, kind)?;
+    let run = begun(alloc, &plan, &ORDERS, stand, reach, kind)?;
     let mut done = drive(rt, run, &plan, 1, &OpenGate);
     let _ = save(&mut done, &plan, &mut shelf, "first");
     let _ = save(&mut done, &plan, &mut shelf, "second");
@@ -69,18 +66,15 @@ pub(super) fn bytes_of(alloc: Global, shelf: &mut MemoryShelf, name: &str) -> Ve
 fn saves<R: Threads + Wait + Sync>(
     rt: &R,
     alloc: Global,
-    until: u64,
-    takes: u64,
+    reach: &Reach,
     kind: SaveKind,
     len: usize,
     last: &[u8],
 ) -> Result<(), Fail>
-    requires until { until ≤ last_epoch }
-    requires takes { takes ≤ 32000000000 }
-    requires whole { kind ≡ saves.Level → takes ≡ 32000000000 }
+    requires whole { kind ≡ saves.Level → reach.now.takes ≡ 32000000000 }
     requires some { kind ≢ saves.Never }
 {
-    let mut shelf = placed_twice(rt, alloc, until, takes, kind)?;
+    let mut shelf = placed_twice(rt, alloc, reach, kind)?;
     let first = bytes_of(alloc, &mut shelf, "first");
     let second = bytes_of(alloc, &mut shelf, "second");
     holds("the length", first.len() == len)?;
@@ -91,17 +85,22 @@ fn saves<R: Threads + Wait + Sync>(
 #[test]
 fn a_second_save_places_the_same_bytes(rt: HostRuntime) -> Result<(), Fail> {
     let last = DIGEST_AT_1.as_slice();
-    saves(&rt, rt.alloc(), 1, ENDLESS, SaveKind::Level, 10688, last)
+    saves(&rt, rt.alloc(), &whole(1, 2), SaveKind::Level, 10688, last)
 }
 
 #[test]
 fn save_at_the_epoch_behind_a_swap(rt: HostRuntime) -> Result<(), Fail> {
     let last = DIGEST_AT_2.as_slice();
-    saves(&rt, rt.alloc(), 2, ENDLESS, SaveKind::Level, 10688, last)
+    saves(&rt, rt.alloc(), &whole(2, 2), SaveKind::Level, 10688, last)
 }
 
 // One slot waits, and its record is kept ahead.
 #[test]
 fn save_of_a_run_that_stops(rt: HostRuntime) -> Result<(), Fail> {
-    saves(&rt, rt.alloc(), 2, 1, SaveKind::Ragged, 10728, b"")
+    let reach = Reach {
+        until: 2,
+        takes: 1,
+        workers: 2,
+    };
+    saves(&rt, rt.alloc(), &reach, SaveKind::Ragged, 10728, b"")
 }
