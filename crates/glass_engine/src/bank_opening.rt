@@ -2,7 +2,7 @@
 
 ghost use Rattle.std.specs.Prelude.{◌≡◌, ◌≤◌, length, map, IfOk};
 ghost use Rattle.std.specs.Arc.{arc_value};
-ghost use Rattle.spin_model.specs.Limits.{most_rows};
+ghost use Rattle.spin_model.specs.Limits.{last_epoch, most_rows};
 ghost use Rattle.plane_sweep.specs.Packed.{StandFits};
 ghost use Rattle.run_plan.specs.Amounts as amounts;
 ghost use Rattle.glass_engine.specs.BankRuns.{bank_run, bank_runs, bank_kind, for_samples, AreBankOrders, AreBankStarts};
@@ -10,7 +10,7 @@ ghost use Rattle.glass_engine.specs.KeptBanks.{saves_of, HasBanksRoom};
 ghost use Rattle.glass_engine.specs.Runs.{AreRunOrders};
 ghost use Rattle.glass_engine.specs.declared.run.SaveKind.TheVariants as saves;
 
-use crate::banks::{BankReach, Banks};
+use crate::banks::Banks;
 use crate::opening::open;
 use crate::run::{Run, SaveKind};
 use glass_edges::NoMemory;
@@ -24,10 +24,10 @@ use std::sync::Arc;
 /// So many hand-outs of a slot stop no run.
 const EVERY_TAKE: u64 = 32000000000;
 
-/// Opens a run over 2 to 4 banks from their states at one epoch: each bank as `open` does, as far as
-/// `reach` says, and the buffer of the one checkpoint of all where it is to be saved. Each bank has its
-/// own plan; the plans differ in their couplings alone. All banks but the last print 64 samples, and
-/// the last what is left.
+/// Opens a run over 2 to 4 banks from their states at one epoch to epoch `until`: each bank as `open`
+/// does, and the buffer of the one checkpoint of all where it is to be saved. Each bank has its own
+/// plan; the plans differ in their couplings alone. All banks but the last print 64 samples, and the
+/// last what is left.
 ///
 /// # Errors
 ///
@@ -37,19 +37,23 @@ pub fn open_banks(
     plans: &[Arc<Plan, Global>],
     orders: &Orders,
     stands: Vec<Stand>,
-    reach: &BankReach,
+    until: u64,
+    workers: u32,
     save: bool,
 ) -> Result<Banks, NoMemory>
     requires orders { AreBankOrders (length plans.now) orders.now }
-    requires starts { AreBankStarts (map arc_value plans.now) stands.items orders.now reach.now.until }
+    requires starts { AreBankStarts (map arc_value plans.now) stands.items orders.now until }
+    requires until { until ≤ last_epoch }
+    requires some_workers { 1 ≤ workers }
+    requires few_workers { workers ≤ 64 }
     ensures { IfOk result (λ banks. banks
-        ≡ bank_runs (map arc_value plans.now) stands.items orders.now reach.now.until (bank_kind save)) }
+        ≡ bank_runs (map arc_value plans.now) stands.items orders.now until (bank_kind save)) }
 {
     // A plan has a slot.
     let _ = plans[0].slots();
     let driven = Vec::with_capacity(alloc, plans.len())?;
     let saving = reserve(alloc, plans, save)?;
-    let runs = open_runs(alloc, plans, orders, stands, reach)?;
+    let runs = open_runs(alloc, plans, orders, stands, until, workers)?;
     Ok(Banks {
         runs,
         driven,
@@ -64,19 +68,23 @@ fn open_runs(
     plans: &[Arc<Plan, Global>],
     orders: &Orders,
     stands: Vec<Stand>,
-    reach: &BankReach,
+    until: u64,
+    workers: u32,
 ) -> Result<Vec<Run>, NoMemory>
     requires orders { AreBankOrders (length plans.now) orders.now }
-    requires starts { AreBankStarts (map arc_value plans.now) stands.items orders.now reach.now.until }
+    requires starts { AreBankStarts (map arc_value plans.now) stands.items orders.now until }
+    requires until { until ≤ last_epoch }
+    requires some_workers { 1 ≤ workers }
+    requires few_workers { workers ≤ 64 }
     ensures { IfOk result (λ runs. runs.items
-        ≡ bank_runs (map arc_value plans.now) stands.items orders.now reach.now.until saves.Never) }
+        ≡ bank_runs (map arc_value plans.now) stands.items orders.now until saves.Never) }
 {
     let mut runs = Vec::with_capacity(alloc, plans.len())?;
     'banks: for stand in stands {
         let bank = runs.len();
         let left = orders.samples - 64 * bank as u32;
         let own = of_samples(orders, left.min(64));
-        runs.push(open_bank(alloc, &plans[bank], &own, stand, reach)?)?;
+        runs.push(open_bank(alloc, &plans[bank], &own, stand, until, workers)?)?;
     }
     Ok(runs)
 }
@@ -87,14 +95,16 @@ fn open_bank(
     plan: &Arc<Plan, Global>,
     orders: &Orders,
     stand: Stand,
-    reach: &BankReach,
+    until: u64,
+    workers: u32,
 ) -> Result<Run, NoMemory>
     requires orders { AreRunOrders orders.now }
     requires stand { StandFits (arc_value plan.now) stand }
-    requires window { stand.epoch ≤ reach.now.until }
-    requires rows { amounts.row_count (arc_value plan.now) orders.now stand.epoch reach.now.until ≤ most_rows }
-    ensures { IfOk result (λ run. run
-        ≡ bank_run (arc_value plan.now) stand orders.now reach.now.until saves.Never) }
+    requires window { stand.epoch ≤ until }
+    requires until { until ≤ last_epoch }
+    requires workers { (1 ≤ workers) × (workers ≤ 64) }
+    requires rows { amounts.row_count (arc_value plan.now) orders.now stand.epoch until ≤ most_rows }
+    ensures { IfOk result (λ run. run ≡ bank_run (arc_value plan.now) stand orders.now until saves.Never) }
 {
     // A plan has a slot.
     let _ = plan.slots();
@@ -104,9 +114,9 @@ fn open_bank(
         plan,
         orders,
         base,
-        reach.until,
+        until,
         EVERY_TAKE,
-        reach.workers,
+        workers,
         SaveKind::Never,
     )
 }

@@ -1,25 +1,10 @@
 //! The runs of several banks of 64 samples, before and after they are driven.
 
-ghost use Rattle.std.specs.Prelude.{◌≤◌};
-ghost use Rattle.spin_model.specs.Limits.{last_epoch};
-
 use crate::done::Done;
 use crate::run::Run;
 use run_checkpoint::Room;
 use run_plan::Orders;
 use std::marker::Model;
-
-/// How far the run of each bank goes, and by how many workers.
-#[derive(Clone, Copy)]
-pub struct BankReach {
-    /// The epoch at which every slot ends, at most 1000000000.
-    pub until: u64,
-    /// 1 to 64.
-    pub workers: u32,
-    ghost in_time: { until ≤ last_epoch },
-    ghost some_workers: { 1 ≤ workers },
-    ghost few_workers: { workers ≤ 64 },
-}
 
 /// A run over several banks that has all its memory. Contracts see the run of each bank.
 #[derive(Drop)]

@@ -25,7 +25,7 @@ pub use bank_driving::drive_banks;
 pub use bank_opening::open_banks;
 pub use bank_report::write_banks;
 pub use bank_saving::save_banks;
-pub use banks::{BankReach, Banks, BanksDone};
+pub use banks::{Banks, BanksDone};
 pub use done::Done;
 pub use driving::drive;
 pub use laws::{

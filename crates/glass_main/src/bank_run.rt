@@ -27,7 +27,7 @@ use crate::refusal::Refusal;
 use crate::run::until_of;
 use crate::run_words::RunOrder;
 use glass_edges::{Gate, NoMemory, Shelf, Sink};
-use glass_engine::{BankReach, banks_checkpoint_is_serial, banks_report_is_serial, open_banks};
+use glass_engine::{banks_checkpoint_is_serial, banks_report_is_serial, open_banks};
 use plain_list::Items;
 use plane_sweep::Stand;
 use run_plan::{Orders, PlanRefused, check_amount};
@@ -97,11 +97,7 @@ fn open_run(
     }
     let save = is_saved(order);
     let stands = stands.into_vec();
-    let reach = BankReach {
-        until,
-        workers: order.workers,
-    };
-    match open_banks(alloc, &plans, &orders, stands, &reach, save) {
+    match open_banks(alloc, &plans, &orders, stands, until, order.workers, save) {
         Ok(banks) => Ok(OpenedBanks { plans, banks }),
         Err(NoMemory) => Err(Ending::NoMemory),
     }

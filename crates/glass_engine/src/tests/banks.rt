@@ -11,7 +11,7 @@ ghost use Rattle.glass_engine.specs.declared.run.SaveKind.TheVariants as saves;
 
 use super::saving::bytes_of;
 use super::{UP, holds, plan_of};
-use crate::{BankReach, Banks, drive_banks, open_banks, save_banks, write_banks};
+use crate::{Banks, drive_banks, open_banks, save_banks, write_banks};
 use glass_edges::{MemoryShelf, MemorySink, NoMemory, OpenGate};
 use plane_sweep::Stand;
 use run_plan::Orders;
@@ -74,8 +74,7 @@ fn opened(
     ensures plans { IfOk result (λ banks. map arc_value plans.now ≡ plans_of banks) }
     ensures saves { IfOk result (λ banks. All (λ (run : RunView). run.saves ≢ saves.Never) banks) }
 {
-    let reach = BankReach { until: 1, workers };
-    open_banks(alloc, plans, &ORDERS, stands, &reach, true)
+    open_banks(alloc, plans, &ORDERS, stands, 1, workers, true)
 }
 
 /// Drives it, and puts its report and, twice, its checkpoint.

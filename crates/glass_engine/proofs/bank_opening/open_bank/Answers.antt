@@ -21,5 +21,5 @@ pub open-requires-clause-rows : goal.open-requires-clause-rows
 open-requires-clause-rows c =
     let some : 0 < length c.args.stand.slots = omega (arith, c.requires.stand.slots, ap (λ (p : Plan). slots_of p) c.deref.ensures, c.slots.ensures.lawful.rules.some) in
     let at = ap (λ (r : RaggedStand). floor_of (positions_of r)) c.in_ok-base.ensures.level ∙ (level-floor c.args.stand some).0 in
-    let R : ℕ → Type 0 = λ e. row_count (arc_value c.args.plan.now) c.args.orders.now e c.args.reach.now.until ≤ 4194304 in
+    let R : ℕ → Type 0 = λ e. row_count (arc_value c.args.plan.now) c.args.orders.now e c.args.until ≤ 4194304 in
     subst R (sym at) c.requires.rows

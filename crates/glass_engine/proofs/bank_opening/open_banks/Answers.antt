@@ -25,10 +25,10 @@ invariant_of-result c =
     let some : 0 < starts.slots = omega (arith, lawful.rules.some, slots, same) in
     let are = c.in_ok-runs.ensures in
     let A : List RunView → Type 0 = λ rs. AreBankRuns orders rs in
-    let long = ap length are ∙ runs-long starts.epoch all c.args.stands.items orders c.args.reach.now.until saves.Never starts.fit in
+    let long = ap length are ∙ runs-long starts.epoch all c.args.stands.items orders c.args.until saves.Never starts.fit in
     record {
-      runs = subst A (sym are) (runs-keep all c.args.stands.items orders c.args.reach.now.until saves.Never starts (subst (λ n. AreBankOrders n orders) count c.requires.orders) some c.args.reach.now.in_time);
-      saving = subst (λ ps. HasBanksRoom ps c.in_ok-saving.saving) (sym (ap (map (λ (r : RunView). r.plan)) are ∙ runs-plans starts.epoch all c.args.stands.items orders c.args.reach.now.until saves.Never starts.fit)) c.in_ok-saving.ensures.room;
+      runs = subst A (sym are) (runs-keep all c.args.stands.items orders c.args.until saves.Never starts (subst (λ n. AreBankOrders n orders) count c.requires.orders) some c.requires.until);
+      saving = subst (λ ps. HasBanksRoom ps c.in_ok-saving.saving) (sym (ap (map (λ (r : RunView). r.plan)) are ∙ runs-plans starts.epoch all c.args.stands.items orders c.args.until saves.Never starts.fit)) c.in_ok-saving.ensures.room;
       driven = c.in_ok-driven.ensures.items;
       room = omega (arith, long, count, c.in_ok-driven.ensures.capacity);
     }
@@ -36,4 +36,4 @@ invariant_of-result c =
 pub returns : goal.returns
 returns c =
     ap₂ (λ k rs. map (saved_as k) rs) c.in_ok-saving.ensures.kind c.in_ok-runs.ensures
-    ∙ runs-saved (map arc_value c.args.plans.now) c.args.stands.items c.args.orders.now c.args.reach.now.until saves.Never (bank_kind c.args.save)
+    ∙ runs-saved (map arc_value c.args.plans.now) c.args.stands.items c.args.orders.now c.args.until saves.Never (bank_kind c.args.save)

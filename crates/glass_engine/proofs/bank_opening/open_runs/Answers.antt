@@ -19,7 +19,7 @@ behind c =
 -- there is a plan for it
 within : (c : After-len-bank) → length c.banks.yielded < length c.args.plans.now
 within c =
-    next-within arc_value c.args.plans.now c.args.stands.items c.args.orders.now c.args.reach.now.until c.requires.starts c.banks.yielded (into_iter_items c.next.new.self) c.in-Some.stand (behind c)
+    next-within arc_value c.args.plans.now c.args.stands.items c.args.orders.now c.args.until c.requires.starts c.banks.yielded (into_iter_items c.next.new.self) c.in-Some.stand (behind c)
 
 -- as many runs are open as states came before it
 number : (c : After-len-bank) → c.len-bank.result ≡ length c.banks.yielded
@@ -69,21 +69,21 @@ open_bank-requires-clause-orders c =
 pub open_bank-requires-clause-stand : goal.open_bank-requires-clause-stand
 open_bank-requires-clause-stand c =
     let at = goal.at.open_bank-requires-clause-stand c in
-    (next-fits arc_value c.args.plans.now c.args.stands.items c.args.orders.now c.args.reach.now.until c.requires.starts c.banks.yielded (into_iter_items c.next.new.self) c.in-Some.stand (behind at.After-len-bank) c.index-plans-bank.result (plan at.After-index-plans-bank)).0
+    (next-fits arc_value c.args.plans.now c.args.stands.items c.args.orders.now c.args.until c.requires.starts c.banks.yielded (into_iter_items c.next.new.self) c.in-Some.stand (behind at.After-len-bank) c.index-plans-bank.result (plan at.After-index-plans-bank)).0
 
 pub open_bank-requires-clause-window : goal.open_bank-requires-clause-window
 open_bank-requires-clause-window c =
     let at = goal.at.open_bank-requires-clause-window c in
-    let fits = next-fits arc_value c.args.plans.now c.args.stands.items c.args.orders.now c.args.reach.now.until c.requires.starts c.banks.yielded (into_iter_items c.next.new.self) c.in-Some.stand (behind at.After-len-bank) c.index-plans-bank.result (plan at.After-index-plans-bank) in
+    let fits = next-fits arc_value c.args.plans.now c.args.stands.items c.args.orders.now c.args.until c.requires.starts c.banks.yielded (into_iter_items c.next.new.self) c.in-Some.stand (behind at.After-len-bank) c.index-plans-bank.result (plan at.After-index-plans-bank) in
     omega (arith, fits.1, c.requires.starts.in_time)
 
 pub open_bank-requires-clause-rows : goal.open_bank-requires-clause-rows
 open_bank-requires-clause-rows c =
     let at = goal.at.open_bank-requires-clause-rows c in
-    let R : Orders → Type 0 = λ o. row_count (arc_value c.index-plans-bank.result) o c.in-Some.stand.epoch c.args.reach.now.until ≤ 4194304 in
+    let R : Orders → Type 0 = λ o. row_count (arc_value c.index-plans-bank.result) o c.in-Some.stand.epoch c.args.until ≤ 4194304 in
     let less : min (c.args.orders.now.samples - 64 * length c.banks.yielded) 64 ≤ c.args.orders.now.samples = omega arith in
     subst R (sym (own at.After-of_samples-own))
-    (next-rows arc_value c.args.plans.now c.args.stands.items c.args.orders.now c.args.reach.now.until c.requires.starts c.banks.yielded (into_iter_items c.next.new.self) c.in-Some.stand (behind at.After-len-bank) c.index-plans-bank.result (plan at.After-index-plans-bank) _ less)
+    (next-rows arc_value c.args.plans.now c.args.stands.items c.args.orders.now c.args.until c.requires.starts c.banks.yielded (into_iter_items c.next.new.self) c.in-Some.stand (behind at.After-len-bank) c.index-plans-bank.result (plan at.After-index-plans-bank) _ less)
 
 pub banks-preserved : goal.banks-preserved
 banks-preserved c =
@@ -95,17 +95,17 @@ banks-preserved c =
     let orders = c.args.orders.now in
     let plans = map arc_value c.args.plans.now in
     let steps : into_iter_items c.banks.stand-iterator ≡ x ∷ rest = c.in-Some.ensures.steps.0 in
-    let run : c.in_ok-open_bank.field-0 ≡ bank_run (arc_value p) x (for_samples (min (orders.samples - 64 * length yielded) 64) orders) c.args.reach.now.until saves.Never =
-    c.in_ok-open_bank.ensures ∙ ap (λ (o : Orders). bank_run (arc_value p) x o c.args.reach.now.until saves.Never) (own at.After-of_samples-own) in
-    let so_far = ap (λ xs. c.banks.runs.items ++ bank_runs (drop (length yielded) plans) xs (for_samples (orders.samples - 64 * length yielded) orders) c.args.reach.now.until saves.Never) (sym steps) ∙ c.banks.invariant.runs in
+    let run : c.in_ok-open_bank.field-0 ≡ bank_run (arc_value p) x (for_samples (min (orders.samples - 64 * length yielded) 64) orders) c.args.until saves.Never =
+    c.in_ok-open_bank.ensures ∙ ap (λ (o : Orders). bank_run (arc_value p) x o c.args.until saves.Never) (own at.After-of_samples-own) in
+    let so_far = ap (λ xs. c.banks.runs.items ++ bank_runs (drop (length yielded) plans) xs (for_samples (orders.samples - 64 * length yielded) orders) c.args.until saves.Never) (sym steps) ∙ c.banks.invariant.runs in
     let pushed = c.in_ok-push.ensures.items in
-    let later = bank_runs (drop (length (yielded ++ x ∷ [])) plans) rest (for_samples (orders.samples - 64 * length (yielded ++ x ∷ [])) orders) c.args.reach.now.until saves.Never in
+    let later = bank_runs (drop (length (yielded ++ x ∷ [])) plans) rest (for_samples (orders.samples - 64 * length (yielded ++ x ∷ [])) orders) c.args.until saves.Never in
     record {
       steps = append_assoc yielded (x ∷ []) rest ∙ ap (λ xs. yielded ++ xs) (sym steps) ∙ c.banks.invariant.steps;
       left = let short = ap length steps in let was = c.banks.invariant.left in let gone = c.in-Some.ensures.steps.1 in omega arith;
       count = ap length pushed ∙ length-append c.banks.runs.items _ ∙ ap (λ k. k + 1) c.banks.invariant.count ∙ sym (length-append yielded (x ∷ []));
       runs = ap (λ rs. rs ++ later) pushed
-          ∙ runs-step arc_value c.args.plans.now c.args.stands.items orders c.args.reach.now.until c.requires.starts yielded rest x (behind at.After-len-bank) p (plan at.After-index-plans-bank) saves.Never c.banks.runs.items _ c.in_ok-open_bank.field-0 run so_far;
+          ∙ runs-step arc_value c.args.plans.now c.args.stands.items orders c.args.until c.requires.starts yielded rest x (behind at.After-len-bank) p (plan at.After-index-plans-bank) saves.Never c.banks.runs.items _ c.in_ok-open_bank.field-0 run so_far;
     }
 
 pub returns : goal.returns
@@ -113,5 +113,5 @@ returns c =
     let at = c.banks in
     let none = c.in-None.ensures.steps in
     let empty : into_iter_items at.stand-iterator ≡ [] = nothing-left _ (sym at.invariant.left ∙ none.0) in
-    runs-end (drop (length at.yielded) (map arc_value c.args.plans.now)) (into_iter_items at.stand-iterator) (for_samples (c.args.orders.now.samples - 64 * length at.yielded) c.args.orders.now) c.args.reach.now.until saves.Never at.runs.items _ empty at.invariant.runs
-    ∙ ap (λ xs. bank_runs (map arc_value c.args.plans.now) xs c.args.orders.now c.args.reach.now.until saves.Never) c.into_iter-stand-iterator.ensures.into_iter_gives.0
+    runs-end (drop (length at.yielded) (map arc_value c.args.plans.now)) (into_iter_items at.stand-iterator) (for_samples (c.args.orders.now.samples - 64 * length at.yielded) c.args.orders.now) c.args.until saves.Never at.runs.items _ empty at.invariant.runs
+    ∙ ap (λ xs. bank_runs (map arc_value c.args.plans.now) xs c.args.orders.now c.args.until saves.Never) c.into_iter-stand-iterator.ensures.into_iter_gives.0

@@ -11,6 +11,6 @@ invariant-banks l = record {
   left : into_iter_len l.stand-iterator ≡ length (into_iter_items l.stand-iterator);
   count : length l.runs.items ≡ length l.yielded;
   runs : l.runs.items ++ bank_runs (drop (length l.yielded) (map arc_value l.plans)) (into_iter_items l.stand-iterator)
-      (for_samples (l.orders.samples - 64 * length l.yielded) l.orders) l.reach.until saves.Never
-      ≡ bank_runs (map arc_value l.plans) (into_iter_items l.initial.stand-iterator) l.orders l.reach.until saves.Never;
+      (for_samples (l.orders.samples - 64 * length l.yielded) l.orders) l.until saves.Never
+      ≡ bank_runs (map arc_value l.plans) (into_iter_items l.initial.stand-iterator) l.orders l.until saves.Never;
 }
