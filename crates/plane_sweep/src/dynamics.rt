@@ -15,6 +15,8 @@ pub struct Dynamics<'a> {
 pub struct HalfPlane<'a> {
     pub couplings: &'a Couplings,
     pub rule: &'a SlotRule,
+    /// 0 or 1.
     pub colour: u32,
+    /// From 0, below the lattice's size.
     pub z: u32,
 }
