@@ -1,5 +1,5 @@
 -- The couplings of 64 disorder samples on one lattice: a word of 64 bits for each bond, bit b set where J of sample b is -1.
-use Rattle.std.specs.Prelude.{◌≡◌, ◌≢◌, ℕ, ◌+◌, ◌*◌, ◌/◌, ◌%◌, ◌^◌, ◌<◌, List, length, slice_index, All}
+use Rattle.std.specs.Prelude.{◌≡◌, ℕ, ◌+◌, ◌*◌, ◌/◌, ◌%◌, ◌^◌, ◌<◌, List, length, slice_index, All}
 use Rattle.spin_model.specs.Words.{is_set}
 use Rattle.spin_model.specs.Lattice.{volume, bond_count, compact, IsLawfulSize}
 use Rattle.spin_model.specs.Couplings.{Bonds}
@@ -28,10 +28,6 @@ words_on l words = record { size = l; words = words }
 -- each of the 64 samples has at each bond the coupling that is given for the sample and the bond
 abbrev pub HasBonds : CouplingsView → (ℕ → Bonds) → Type 0
 HasBonds couplings bonds = (b n : ℕ) → b < 64 → n < bond_count couplings.size → bonds_of couplings b n ≡ bonds b n
-
--- every sample but this one has the couplings that it had
-abbrev pub KeepsOthers : ℕ → CouplingsView → CouplingsView → Type 0
-KeepsOthers sample before after = (b n : ℕ) → b < 64 → n < bond_count before.size → b ≢ sample → bonds_of after b n ≡ bonds_of before b n
 
 -- a lawful size, and as many words of 64 bits as there are bonds
 pub record AreCouplings (couplings : CouplingsView) : Type 0 where

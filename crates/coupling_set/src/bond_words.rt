@@ -2,13 +2,12 @@
 //! plane of a colour and direction stands in one piece, and behind it a cache line is free.
 
 ghost use Rattle.std.specs.Prelude.{◌≡◌, ◌≢◌, ℕ, ◌+◌, ◌*◌, ◌<◌, ◌≤◌, length};
-ghost use Rattle.coupling_set.specs.CouplingWords.{bonds_of, place_of, KeepsOthers};
+ghost use Rattle.coupling_set.specs.CouplingWords.{bonds_of, place_of};
 ghost use Rattle.coupling_set.specs.KeptWords.{free_words, head_words, kept_place, kept_count, kept_on, plane_number};
 ghost use Rattle.spin_model.specs.Lattice.{volume, bond_count, half_plane, IsLawfulSize};
 ghost use Rattle.spin_model.specs.Words.{is_set};
 
 use lattice_geometry::Lattice;
-use multispin_word::with_bit;
 
 /// The words that are free behind each plane: a cache line of 64 bytes. At sizes 32 and 64 a plane
 /// is a multiple of a page, so without them all planes would begin in one set of the first cache,
@@ -71,24 +70,4 @@ pub(crate) fn write_word(words: &mut [u64], lattice: &Lattice, bond: u32, word: 
         → bonds_of (kept_on lattice.now words.new) b n ≡ bonds_of (kept_on lattice.now words.old) b n }
 {
     words[place(lattice, bond / 3, bond % 3)] = word;
-}
-
-/// Writes one coupling of one sample: `negative` where J is -1.
-pub(crate) fn write_bond(
-    words: &mut [u64],
-    lattice: &Lattice,
-    bond: u32,
-    sample: u32,
-    negative: bool,
-)
-    requires sized { length words.old ≡ kept_count lattice.now }
-    requires sample { sample < 64 }
-    requires bond { bond < bond_count lattice.now }
-    ensures written { bonds_of (kept_on lattice.now words.new) sample bond ≡ negative }
-    ensures bonds { (n : ℕ) → n < bond_count lattice.now → n ≢ bond
-        → bonds_of (kept_on lattice.now words.new) sample n ≡ bonds_of (kept_on lattice.now words.old) sample n }
-    ensures others { KeepsOthers sample (kept_on lattice.now words.old) (kept_on lattice.now words.new) }
-{
-    let place = place(lattice, bond / 3, bond % 3);
-    words[place] = with_bit(words[place], sample, negative);
 }

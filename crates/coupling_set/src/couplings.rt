@@ -94,7 +94,7 @@ impl Couplings {
         ensures bonds { IfOk result (λ couplings. HasBonds couplings (λ b. random seed (first + b))) }
     {
         let mut words = vec![in alloc; 0u64; word_count(&lattice)]?;
-        draw_samples(words.as_mut_slice(), &lattice, seed, first);
+        draw_samples(alloc, words.as_mut_slice(), &lattice, seed, first)?;
         Ok(Couplings::of(lattice, words))
     }
 

@@ -1,16 +1,22 @@
-//! Random couplings, sample by sample.
+//! Random couplings: a row of sites at a time, in all samples.
 
-ghost use Rattle.std.specs.Prelude.{◌≡◌, ℕ, ◌+◌, ◌*◌, ◌^◌, ◌<◌, ◌≤◌, length, slice_index};
-ghost use Rattle.coupling_set.specs.CouplingWords.{bonds_of, HasBonds, KeepsOthers};
+ghost use Rattle.std.specs.Prelude.{◌≡◌, ◌≢◌, ℕ, ◌+◌, ◌*◌, ◌^◌, ◌<◌, ◌≤◌, [], IfOk, OnOk, length, slice_index, slice_index_or};
+ghost use Rattle.coupling_set.specs.CouplingWords.{bonds_of, HasBonds};
 ghost use Rattle.coupling_set.specs.KeptWords.{kept_count, kept_on};
 ghost use Rattle.spin_model.specs.Couplings.{random};
 ghost use Rattle.spin_model.specs.Lattice.{bond_count, IsLawfulSize};
-ghost use Rattle.spin_model.specs.Stream.{draw};
+ghost use Rattle.spin_model.specs.Seeding.{coupling_words};
+ghost use Rattle.spin_model.specs.Steps.{table};
+ghost use Rattle.spin_model.specs.Stream.{advanced, draw};
 ghost use Rattle.spin_model.specs.Words.{is_set};
 
-use crate::bond_words::write_bond;
+use crate::bond_words::write_word;
+use glass_edges::NoMemory;
 use lattice_geometry::Lattice;
+use multispin_word::with_bit;
+use plain_list::Items;
 use pr_generator::Wheel;
+use std::alloc::Global;
 
 /// The kind of label of the generators of couplings.
 const COUPLINGS: u32 = 3;
@@ -19,69 +25,112 @@ const COUPLINGS: u32 = 3;
 const ROW: usize = 192;
 
 /// Draws the couplings of 64 samples, of which the first has this number.
-pub(crate) fn draw_samples(words: &mut [u64], lattice: &Lattice, seed: u64, first: u32)
+pub(crate) fn draw_samples(
+    alloc: Global,
+    words: &mut [u64],
+    lattice: &Lattice,
+    seed: u64,
+    first: u32,
+) -> Result<(), NoMemory>
     requires sized { length words.old ≡ kept_count lattice.now }
     requires first { first + 64 ≤ 2 ^ 32 }
-    ensures { HasBonds (kept_on lattice.now words.new) (λ b. random seed (first + b)) }
+    ensures { OnOk result (HasBonds (kept_on lattice.now words.new) (λ b. random seed (first + b))) }
 {
+    let mut wheels = seeded_wheels(alloc, seed, first)?;
     let mut draws = [0u32; ROW];
-    draw_samples_with(words, lattice, seed, first, &mut draws);
+    let mut row = [0u64; ROW];
+    let count = 3 * lattice.size() as usize;
+    draw_rows(
+        words,
+        lattice,
+        &mut wheels,
+        &mut draws[..count],
+        &mut row[..count],
+    );
+    Ok(())
 }
 
-// The same, with a buffer for the draws of a row.
-fn draw_samples_with(words: &mut [u64], lattice: &Lattice, seed: u64, first: u32, draws: &mut [u32])
-    requires sized { length words.old ≡ kept_count lattice.now }
-    requires first { first + 64 ≤ 2 ^ 32 }
-    requires room { length draws.old ≡ ROW }
-    ensures { HasBonds (kept_on lattice.now words.new) (λ b. random seed (first + b)) }
+// The generators of 64 samples.
+fn seeded_wheels(alloc: Global, seed: u64, first: u32) -> Result<Items<Wheel>, NoMemory>
+    requires { first + 64 ≤ 2 ^ 32 }
+    ensures { IfOk result (λ wheels. wheels ≡ table (λ b. coupling_words seed (first + b)) 64) }
 {
-    let row = &mut draws[..3 * lattice.size() as usize];
+    let mut wheels = Vec::with_capacity(alloc, 64)?;
     'samples: for b in 0..64u32 {
-        let wheel = Wheel::seeded(seed, COUPLINGS, first + b, 0, 0);
-        draw_sample(words, lattice, wheel, b, row);
+        wheels.push(Wheel::seeded(seed, COUPLINGS, first + b, 0, 0))?;
     }
+    Ok(Items::of(wheels))
 }
 
-// The couplings of one sample by its generator, row by row: one draw a bond.
-fn draw_sample(words: &mut [u64], lattice: &Lattice, mut wheel: Wheel, sample: u32, row: &mut [u32])
+// The couplings of each sample by its generator, one draw a bond.
+fn draw_rows(
+    words: &mut [u64],
+    lattice: &Lattice,
+    wheels: &mut Items<Wheel>,
+    draws: &mut [u32],
+    row: &mut [u64],
+)
     requires sized { length words.old ≡ kept_count lattice.now }
-    requires sample { sample < 64 }
-    requires room { length row.old ≡ 3 * lattice.now }
-    ensures drawn { (n : ℕ) → n < bond_count lattice.now
-        → bonds_of (kept_on lattice.now words.new) sample n ≡ is_set (draw wheel n) 31 }
-    ensures others { KeepsOthers sample (kept_on lattice.now words.old) (kept_on lattice.now words.new) }
+    requires samples { length wheels.old ≡ 64 }
+    requires draws { length draws.old ≡ 3 * lattice.now }
+    requires row { length row.old ≡ 3 * lattice.now }
+    ensures { HasBonds (kept_on lattice.now words.new)
+        (λ b n. is_set (draw (slice_index_or wheels.old b []) n) 31) }
 {
     let size = lattice.size();
     'rows: for r in 0..size * size {
-        wheel.fill(row);
-        write_bonds(words, lattice, row, 3 * size * r, sample);
+        next_row(wheels, draws, row);
+        write_row(words, lattice, row, 3 * size * r);
     }
 }
 
-// The couplings of one sample at the bonds from a number on, each by its draw.
-fn write_bonds(words: &mut [u64], lattice: &Lattice, draws: &[u32], start: u32, sample: u32)
-    requires sized { length words.old ≡ kept_count lattice.now }
-    requires sample { sample < 64 }
-    requires lawful { IsLawfulSize lattice.now }
-    requires bonds { start + length draws.now ≤ bond_count lattice.now }
-    ensures drawn { (k : ℕ) → k < length draws.now
-        → bonds_of (kept_on lattice.now words.new) sample (start + k) ≡ is_set (slice_index draws.now k) 31 }
-    ensures before { (n : ℕ) → n < start
-        → bonds_of (kept_on lattice.now words.new) sample n ≡ bonds_of (kept_on lattice.now words.old) sample n }
-    ensures others { KeepsOthers sample (kept_on lattice.now words.old) (kept_on lattice.now words.new) }
+// The words of the next bonds, by the next draws of each sample's generator.
+fn next_row(wheels: &mut Items<Wheel>, draws: &mut [u32], row: &mut [u64])
+    requires samples { length wheels.old ≡ 64 }
+    requires room { length row.old ≡ length draws.old }
+    ensures samples { length wheels.new ≡ 64 }
+    ensures moved { (b : ℕ) → b < 64 → slice_index_or wheels.new b []
+        ≡ advanced (slice_index_or wheels.old b []) (length draws.old) }
+    ensures bits { (b k : ℕ) → b < 64 → k < length draws.old → is_set (slice_index row.new k) b
+        ≡ is_set (draw (slice_index_or wheels.old b []) k) 31 }
 {
-    'bonds: for k in 0..draws.len() {
-        write_bond(
-            words,
-            lattice,
-            start + k as u32,
-            sample,
-            is_negative(draws[k]),
-        );
+    'samples: for b in 0..64u32 {
+        wheels.at_mut(b as usize).fill(draws);
+        set_sample(row, draws, b);
+    }
+}
+
+// The bits of one sample, each by its draw. A loop without a call, so that it goes by vectors.
+fn set_sample(row: &mut [u64], draws: &[u32], sample: u32)
+    requires room { length row.old ≡ length draws.now }
+    requires sample { sample < 64 }
+    ensures bits { (k : ℕ) → k < length draws.now
+        → is_set (slice_index row.new k) sample ≡ is_set (slice_index draws.now k) 31 }
+    ensures others { (b k : ℕ) → b < 64 → b ≢ sample → k < length draws.now
+        → is_set (slice_index row.new k) b ≡ is_set (slice_index row.old k) b }
+{
+    'bonds: for k in 0..row.len() {
+        row[k] = with_bit(row[k], sample, is_negative(draws[k]));
+    }
+}
+
+// Writes the words of the bonds from a number on.
+fn write_row(words: &mut [u64], lattice: &Lattice, row: &[u64], start: u32)
+    requires sized { length words.old ≡ kept_count lattice.now }
+    requires lawful { IsLawfulSize lattice.now }
+    requires bonds { start + length row.now ≤ bond_count lattice.now }
+    ensures written { (b k : ℕ) → k < length row.now
+        → bonds_of (kept_on lattice.now words.new) b (start + k) ≡ is_set (slice_index row.now k) b }
+    ensures before { (b n : ℕ) → n < start
+        → bonds_of (kept_on lattice.now words.new) b n ≡ bonds_of (kept_on lattice.now words.old) b n }
+{
+    'bonds: for k in 0..row.len() {
+        write_word(words, lattice, start + k as u32, row[k]);
     }
 }
 
 // Whether a draw makes J -1: by its top bit.
+#[inline]
 fn is_negative(draw: u32) -> bool
     ensures { result ≡ is_set draw 31 }
 {
