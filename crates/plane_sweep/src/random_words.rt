@@ -51,25 +51,28 @@ fn words_by(
         ≡ is_set (slice_index draws.now (2 * (site_of lattice.now colour z k % (lattice.now * lattice.now)) + b / 32)) (b % 32)) }
 {
     let size = lattice.size();
-    let half_plane = size * (size / 2);
-    let mut words = Vec::with_capacity(alloc, half_plane as usize)?;
-    'places: for k in 0..half_plane {
-        words.push(word_by(lattice, draws, colour, z, k))?;
+    let half = size / 2;
+    let mut words = Vec::with_capacity(alloc, (size * half) as usize)?;
+    'rows: for y in 0..size {
+        'columns: for column in 0..half {
+            words.push(word_by(lattice, draws, colour, z, y, column))?;
+        }
     }
     Ok(Items::of(words))
 }
 
-fn word_by(lattice: &Lattice, draws: &[u32], colour: u32, z: u32, k: u32) -> u64
+// The word of one site of row `y`: of the two sites of a column the one that has the colour.
+#[inline]
+fn word_by(lattice: &Lattice, draws: &[u32], colour: u32, z: u32, y: u32, column: u32) -> u64
     requires draws { length draws.now ≡ 2 * (lattice.now * lattice.now) }
     requires colour { colour < 2 }
     requires plane { z < lattice.now }
-    requires place { k < half_plane lattice.now }
+    requires row { y < lattice.now }
+    requires column { column < lattice.now / 2 }
     ensures { (b : ℕ) → b < 64 → is_set result b
-        ≡ is_set (slice_index draws.now (2 * (site_of lattice.now colour z k % (lattice.now * lattice.now)) + b / 32)) (b % 32) }
+        ≡ is_set (slice_index draws.now (2 * (site_of lattice.now colour z (y * (lattice.now / 2) + column) % (lattice.now * lattice.now)) + b / 32)) (b % 32) }
 {
-    let size = lattice.size();
-    let half_plane = size * (size / 2);
-    let site = lattice.from_compact(colour * (size * half_plane) + z * half_plane + k);
-    let first = 2 * (site % (size * size)) as usize;
+    let x = 2 * column + (colour + y + z) % 2;
+    let first = 2 * (y * lattice.size() + x) as usize;
     joined(draws[first], draws[first + 1])
 }
