@@ -16,6 +16,15 @@ use threshold_table::SlotRule;
 /// The greatest number of sites of one colour in a plane.
 const PLANE: usize = 2048;
 
+/// What a half sweep depends on: the lattice, its bonds, the spin rule and the colour swept.
+#[derive(Drop)]
+struct HalfSweep<'a, B> {
+    lattice: &'a Lattice,
+    bonds: &'a B,
+    rule: &'a SlotRule,
+    colour: u32,
+}
+
 /// The half sweep of a colour: its sites in rising order, one draw a site.
 pub(crate) fn half_sweep_by<B: Bonds>(
     replica: &mut PlainCopy,
@@ -37,107 +46,82 @@ pub(crate) fn half_sweep_by<B: Bonds>(
     ensures label { replica.new.replica ≡ replica.old.replica }
 {
     let mut draws = [0u32; PLANE];
-    half_sweep_with(replica, lattice, bonds, rule, colour, &mut draws);
+    let sweep = HalfSweep {
+        lattice,
+        bonds,
+        rule,
+        colour,
+    };
+    half_sweep_with(replica, &sweep, &mut draws);
 }
 
 // The same, with a buffer for the draws of a plane.
-fn half_sweep_with<B: Bonds>(
-    replica: &mut PlainCopy,
-    lattice: &Lattice,
-    bonds: &B,
-    rule: &SlotRule,
-    colour: u32,
-    draws: &mut [u32],
-)
-    requires size { B.size bonds.now ≡ lattice.now }
-    requires spins { length replica.old.spins ≡ volume lattice.now }
-    requires wheels { length replica.old.wheels ≡ 2 * lattice.now }
-    requires colour { colour < 2 }
+fn half_sweep_with<B: Bonds>(replica: &mut PlainCopy, sweep: &HalfSweep<B>, draws: &mut [u32])
+    requires size { B.size sweep.now.bonds.now ≡ sweep.now.lattice.now }
+    requires spins { length replica.old.spins ≡ volume sweep.now.lattice.now }
+    requires wheels { length replica.old.wheels ≡ 2 * sweep.now.lattice.now }
+    requires colour { sweep.now.colour < 2 }
     requires room { length draws.old ≡ PLANE }
     ensures swept { configuration_of replica.new ≡ model.half_sweep
-        (dynamics_with lattice.now rule.now (B.negative bonds.now))
-        colour
+        (dynamics_with sweep.now.lattice.now sweep.now.rule.now (B.negative sweep.now.bonds.now))
+        sweep.now.colour
         (configuration_of replica.old) }
     ensures spins { length replica.new.spins ≡ length replica.old.spins }
     ensures wheels { length replica.new.wheels ≡ length replica.old.wheels }
     ensures label { replica.new.replica ≡ replica.old.replica }
 {
-    let size = lattice.size();
+    let size = sweep.lattice.size();
     let count = (size * (size / 2)) as usize;
     let plane_draws = &mut draws[..count];
     'planes: for z in 0..size {
         // Each site of the colour has a draw, used or not, so that all samples can share it.
         replica
             .wheels
-            .at_mut((colour * size + z) as usize)
+            .at_mut((sweep.colour * size + z) as usize)
             .fill(plane_draws);
-        visit_plane(
-            lattice,
-            bonds,
-            rule,
-            replica.spins.as_mut_slice(),
-            plane_draws,
-            colour,
-            z,
-        );
+        visit_plane(replica.spins.as_mut_slice(), sweep, plane_draws, z);
     }
 }
 
 // The sites of plane z in rising order.
-fn visit_plane<B: Bonds>(
-    lattice: &Lattice,
-    bonds: &B,
-    rule: &SlotRule,
-    spins: &mut [bool],
-    draws: &[u32],
-    colour: u32,
-    z: u32,
-)
-    requires size { B.size bonds.now ≡ lattice.now }
-    requires spins { length spins.old ≡ volume lattice.now }
-    requires draws { length draws.now ≡ half_plane lattice.now }
-    requires plane { z < lattice.now }
+fn visit_plane<B: Bonds>(spins: &mut [bool], sweep: &HalfSweep<B>, draws: &[u32], z: u32)
+    requires size { B.size sweep.now.bonds.now ≡ sweep.now.lattice.now }
+    requires spins { length spins.old ≡ volume sweep.now.lattice.now }
+    requires draws { length draws.now ≡ half_plane sweep.now.lattice.now }
+    requires plane { z < sweep.now.lattice.now }
     ensures { spins.new ≡ steps
         (model.visit
-        (dynamics_with lattice.now rule.now (B.negative bonds.now))
-        (λ i. slice_index draws.now (place_in_plane lattice.now i))
-        colour)
-        (z * (lattice.now * lattice.now))
-        (lattice.now * lattice.now)
+        (dynamics_with sweep.now.lattice.now sweep.now.rule.now (B.negative sweep.now.bonds.now))
+        (λ i. slice_index draws.now (place_in_plane sweep.now.lattice.now i))
+        sweep.now.colour)
+        (z * (sweep.now.lattice.now * sweep.now.lattice.now))
+        (sweep.now.lattice.now * sweep.now.lattice.now)
         spins.old }
 {
-    let size = lattice.size();
+    let size = sweep.lattice.size();
     let plane = size * size;
     'sites: for k in 0..plane {
-        visit(lattice, bonds, rule, spins, draws, colour, z * plane + k);
+        visit(spins, sweep, draws, z * plane + k);
     }
 }
 
 // The new spin of one site, where it has the colour.
 #[tactic(auto, unfolding(crate::specs::Sweep::visit))]
-fn visit<B: Bonds>(
-    lattice: &Lattice,
-    bonds: &B,
-    rule: &SlotRule,
-    spins: &mut [bool],
-    draws: &[u32],
-    colour: u32,
-    site: u32,
-)
-    requires size { B.size bonds.now ≡ lattice.now }
-    requires spins { length spins.old ≡ volume lattice.now }
-    requires draws { length draws.now ≡ half_plane lattice.now }
-    requires site { site < volume lattice.now }
+fn visit<B: Bonds>(spins: &mut [bool], sweep: &HalfSweep<B>, draws: &[u32], site: u32)
+    requires size { B.size sweep.now.bonds.now ≡ sweep.now.lattice.now }
+    requires spins { length spins.old ≡ volume sweep.now.lattice.now }
+    requires draws { length draws.now ≡ half_plane sweep.now.lattice.now }
+    requires site { site < volume sweep.now.lattice.now }
     ensures { spins.new ≡ model.visit
-        (dynamics_with lattice.now rule.now (B.negative bonds.now))
-        (λ i. slice_index draws.now (place_in_plane lattice.now i))
-        colour
+        (dynamics_with sweep.now.lattice.now sweep.now.rule.now (B.negative sweep.now.bonds.now))
+        (λ i. slice_index draws.now (place_in_plane sweep.now.lattice.now i))
+        sweep.now.colour
         site
         spins.old }
 {
-    if lattice.colour(site) == colour {
-        let draw = draws[place(lattice, site) as usize];
-        spins[site as usize] = new_spin(lattice, bonds, rule, spins, draw, site);
+    if sweep.lattice.colour(site) == sweep.colour {
+        let draw = draws[place(sweep.lattice, site) as usize];
+        spins[site as usize] = new_spin(sweep.lattice, sweep.bonds, sweep.rule, spins, draw, site);
     }
 }
 

@@ -6,8 +6,8 @@ use Rattle.scalar_rule.proofs.planes.half_sweep_with.Given as goal
 
 abbrev pub invariant-planes : goal.invariant-planes
 invariant-planes g l = record {
-  spins : l.replica.spins ≡ steps (visit (dynamics_with l.lattice l.rule (g.B.Bonds.negative l.bonds)) (site_draw l.lattice l.fn.replica.wheels) l.colour) 0 (l.z * (l.lattice * l.lattice)) l.fn.replica.spins;
-  words : l.replica.wheels ≡ steps (plane_drawn l.lattice l.colour) 0 l.z l.fn.replica.wheels;
+  spins : l.replica.spins ≡ steps (visit (dynamics_with l.sweep.lattice.now l.sweep.rule.now (g.B.Bonds.negative l.sweep.bonds.now)) (site_draw l.sweep.lattice.now l.fn.replica.wheels) l.sweep.colour) 0 (l.z * (l.sweep.lattice.now * l.sweep.lattice.now)) l.fn.replica.spins;
+  words : l.replica.wheels ≡ steps (plane_drawn l.sweep.lattice.now l.sweep.colour) 0 l.z l.fn.replica.wheels;
   label : l.replica.replica ≡ l.fn.replica.replica;
   sites : length l.replica.spins ≡ length l.fn.replica.spins;
   lists : length l.replica.wheels ≡ length l.fn.replica.wheels;

@@ -7,4 +7,4 @@ use Rattle.scalar_rule.specs.Sweep.{visit}
 use Rattle.scalar_rule.proofs.planes.visit_plane.Given as goal
 
 abbrev pub invariant-sites : goal.invariant-sites
-invariant-sites g l = l.spins ≡ steps (visit (dynamics_with l.lattice l.rule (g.B.Bonds.negative l.bonds)) (λ i. slice_index l.draws (place_in_plane l.lattice i)) l.colour) (l.z * (l.lattice * l.lattice)) l.k l.fn.spins
+invariant-sites g l = l.spins ≡ steps (visit (dynamics_with l.sweep.lattice.now l.sweep.rule.now (g.B.Bonds.negative l.sweep.bonds.now)) (λ i. slice_index l.draws (place_in_plane l.sweep.lattice.now i)) l.sweep.colour) (l.z * (l.sweep.lattice.now * l.sweep.lattice.now)) l.k l.fn.spins
