@@ -4,7 +4,7 @@ use mathlib.Core.Logic.{dite}
 use mathlib.Core.Option.{some, some-injective, some-ne-none}
 use native.Mathlib.Decide.{ℕ_discrete}
 use lib.ListN.{get_elem?}
-use Rattle.turn_cell.specs.Sums.{total, sum_below, numbers_from, is_at, times, without, AreInWork, is_in_work}
+use Rattle.turn_cell.specs.Sums.{total, numbers_from, is_at, times, without, AreInWork, is_in_work}
 
 module _ {A : Type 0} (g : A → ℕ) where
   pub total-append : (l m : List A) → total g (l ++ m) ≡ total g l + total g m
@@ -35,18 +35,6 @@ length-numbers_from a (suc n) = ap suc (length-numbers_from (a + 1) n)
 pub total-one : {A : Type 0} (l : List A) → total (λ _. 1) l ≡ length l
 total-one [] = refl
 total-one (x ∷ xs) = omega (arith, total-one xs)
-
-pub sum_below-one : (n : ℕ) → sum_below (λ _. 1) n ≡ n
-sum_below-one zero = refl
-sum_below-one (suc n) = omega (arith, sum_below-one n)
-
-numbers-snoc : (h : ℕ → ℕ) (a n : ℕ) → total h (numbers_from a (suc n)) ≡ total h (numbers_from a n) + h (a + n)
-numbers-snoc h a zero = let e : a + 0 ≡ a = omega arith in omega (arith, ap h e)
-numbers-snoc h a (suc n) = let e : a + 1 + n ≡ a + suc n = omega arith in omega (arith, numbers-snoc h (a + 1) n, ap h e)
-
-pub numbers-sum_below : (h : ℕ → ℕ) (n : ℕ) → total h (numbers_from 0 n) ≡ sum_below h n
-numbers-sum_below h zero = refl
-numbers-sum_below h (suc n) = let e : 0 + n ≡ n = omega arith in omega (arith, numbers-snoc h 0 n, numbers-sum_below h n, ap h e)
 
 -- items
 pub at_same : (p : ℕ) (x : ℕ × ℕ) → x.0 ≡ p → is_at p x ≡ 1

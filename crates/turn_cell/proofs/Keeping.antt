@@ -6,11 +6,11 @@ use prog.Atomic.{either}
 use Rattle.atomic_table.specs.Table.{State, Me, step, Act, keeps, takes, gives, Valid, carried_after, homes_after, put_back, rest, stepped, opening, Allows}
 use Rattle.atomic_table.proofs.Lists.{set_here, set_else, exchanged}
 use Rattle.turn_cell.specs.declared.view.View.{View}
-use Rattle.turn_cell.specs.Sums.{total, sum_below, times, AreInWork, is_in_work}
+use Rattle.turn_cell.specs.Sums.{total, numbers_from, times, AreInWork, is_in_work}
 use Rattle.turn_cell.specs.Progress.{ArePhased, AreAtHome, NoneIsInWork, AtMost, first_view}
 use Rattle.turn_cell.specs.AtomicSteps.{after_turn, after_refusal, after_return, Tries, GivesBack}
 use Rattle.turn_cell.specs.LockRule.{HasView, IsBased, Fits, HasHolder, LockRule}
-use Rattle.turn_cell.proofs.Adding.{total-set, length-numbers_from, numbers-sum_below, out_no}
+use Rattle.turn_cell.proofs.Adding.{total-set, length-numbers_from, out_no}
 use Rattle.turn_cell.proofs.Views.{in_range, other_views, each_view, only_view, at_most_itself}
 use Rattle.std.proofs.lemmas.Bool.{false_from_ne_true}
 use Rattle.std.proofs.lemmas.Option.{same_Some}
@@ -55,7 +55,7 @@ module _ {T O : Type 0} (origin : T → O) (marks : T → List ℕ) where
     work = λ i v e. only_view (λ (v : View O). AreInWork ws v.out) first tt i v e;
     items = λ p. sym (out_no (get_or ws p 0) (calm p));
     seen = λ i v e. only_view (λ (v : View O). AtMost v.seen ws) first (omega arith, λ k. omega arith) i v e;
-    numbers = λ h. omega (arith, numbers-sum_below h n);
+    numbers = λ h. omega arith;
   }
 
   pub opens : (value key : T) (ws words : List ℕ) (slots : List (Option T)) (n : ℕ) → 0 < n → key ≡ value → words ≡ 0 ∷ ws
@@ -96,7 +96,7 @@ module _ {T O : Type 0} (origin : T → O) (marks : T → List ℕ) where
         work = each_view (λ _ (u : View O). AreInWork r.words u.out) s.views id w r.work (subst (AreInWork r.words) (sym same.4) (r.work id v me));
         items = λ p. same_sum (λ (u : View O). times p u.out) s.views id v w (is_in_work (get_or r.words p 0)) me (ap (times p) same.4) (r.items p);
         seen = each_view (λ _ (u : View O). AtMost u.seen r.words) s.views id w r.seen seen;
-        numbers = λ h. same_sum (λ (u : View O). total h u.numbers) s.views id v w (sum_below h r.all) me (ap (total h) same.2) (r.numbers h);
+        numbers = λ h. same_sum (λ (u : View O). total h u.numbers) s.views id v w (total h (numbers_from 0 r.all)) me (ap (total h) same.2) (r.numbers h);
       }
 
   -- what a step may do to the turn: it becomes k, by the seat id

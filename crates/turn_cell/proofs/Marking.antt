@@ -6,7 +6,7 @@ use native.Mathlib.Decide.{ℕ_discrete}
 use Rattle.atomic_table.specs.Table.{State, Me, step, keeps, stepped, Allows}
 use Rattle.atomic_table.proofs.Lists.{set_here}
 use Rattle.turn_cell.specs.declared.view.View.{View}
-use Rattle.turn_cell.specs.Sums.{total, sum_below, times, without, AreInWork, is_in_work}
+use Rattle.turn_cell.specs.Sums.{total, numbers_from, times, without, AreInWork, is_in_work}
 use Rattle.turn_cell.specs.Progress.{AtMost}
 use Rattle.turn_cell.specs.AtomicSteps.{after_store, IsLawfulStore, IsStored, Stores}
 use Rattle.turn_cell.specs.LockRule.{HasView, IsBased, LockRule}
@@ -31,7 +31,7 @@ module _ {T O : Type 0} (origin : T → O) (marks : T → List ℕ) where
       → HasView s id v → 0 < length v.numbers → v.holding ≡ true → p < length r.words → get_or r.words p 0 ≤ new → new % 4 < 3
       → Moved s r id v p new out
       → Rule (stepped s (p + 1) new id c (after_store v p new out) keeps)
-  stores s r id v p new out c me some_number holds within numbers_from phase moved =
+  stores s r id v p new out c me some_number holds within no_less phase moved =
       let w : View O = after_store v p new out in
       let ws : List ℕ = set r.words p new in
       let base = awake origin marks s r id v me some_number in
@@ -70,8 +70,8 @@ module _ {T O : Type 0} (origin : T → O) (marks : T → List ℕ) where
             (λ e. subst (λ (k : ℕ). total (λ (u : View O). times k u.out) (set s.views id w) ≡ is_in_work (get_or ws k 0)) (sym e)
             (omega (arith, total-set (λ (u : View O). times p u.out) s.views id v w me, r.items p, moved.2, ap is_in_work (get_or-set_same r.words p new 0 within))))
             (λ ne. omega (arith, total-set (λ (u : View O). times q u.out) s.views id v w me, r.items q, moved.3 q ne, ap is_in_work (get_or-set_other r.words p q new 0 ne)));
-        seen = each_view (λ _ (u : View O). AtMost u.seen ws) s.views id w (λ j u e. at_most_set u.seen r.words p new (r.seen j u e) within numbers_from) (at_most_set v.seen r.words p new (r.seen id v me) within numbers_from);
-        numbers = λ f. same_sum (λ (u : View O). total f u.numbers) s.views id v w (sum_below f r.all) me refl (r.numbers f);
+        seen = each_view (λ _ (u : View O). AtMost u.seen ws) s.views id w (λ j u e. at_most_set u.seen r.words p new (r.seen j u e) within no_less) (at_most_set v.seen r.words p new (r.seen id v me) within no_less);
+        numbers = λ f. same_sum (λ (u : View O). total f u.numbers) s.views id v w (total f (numbers_from 0 r.all)) me refl (r.numbers f);
       }
 
   -- where the word isn't in work, no seat has an item of the place

@@ -7,11 +7,11 @@ use lib.ListN.{get_elem?}
 use Rattle.atomic_table.specs.Table.{State, Splits, Joins}
 use Rattle.atomic_table.proofs.Lists.{set_here, set_else, at_longer, at_snoc}
 use Rattle.turn_cell.specs.declared.view.View.{View}
-use Rattle.turn_cell.specs.Sums.{total, times, AreInWork}
+use Rattle.turn_cell.specs.Sums.{total, numbers_from, times, AreInWork}
 use Rattle.turn_cell.specs.Progress.{AtMost, NoneIsInWork, spent_view}
 use Rattle.turn_cell.specs.AtomicSteps.{first_of, rest_of, kept_part, given_part, after_join}
 use Rattle.turn_cell.specs.LockRule.{HasView, HasHolder, IsBased, LockRule}
-use Rattle.turn_cell.proofs.Adding.{out_yes, total-append, total-set, terms_le, total-one, sum_below-one}
+use Rattle.turn_cell.proofs.Adding.{out_yes, total-append, total-set, terms_le, total-one, length-numbers_from}
 use Rattle.turn_cell.proofs.Views.{in_range, each_view, with_last, greatest_most}
 use Rattle.turn_cell.proofs.Keeping.{awake}
 
@@ -145,7 +145,7 @@ module _ {T O : Type 0} (origin : T → O) (marks : T → List ℕ) where
   alone s r id v me some_number whole j u ne e =
       let base = awake origin marks s r id v me some_number in
       let g : View O → ℕ = λ x. total (λ _. 1) x.numbers in
-      ⊎_elim (λ is. is) (λ t. absurd (omega (arith, t.2, base.1, whole, terms_le g s.views id j v u ne me e, r.numbers (λ _. 1), sum_below-one r.all, total-one v.numbers, total-one u.numbers))) (r.bases j u e)
+      ⊎_elim (λ is. is) (λ t. absurd (omega (arith, t.2, base.1, whole, terms_le g s.views id j v u ne me e, r.numbers (λ _. 1), total-one (numbers_from 0 r.all), length-numbers_from 0 r.all, total-one v.numbers, total-one u.numbers))) (r.bases j u e)
 
   -- the end, for a seat that stands for all numbers, doesn't hold the lock and has no work
   pub closes : (s : State (Option T) (View O)) → Rule s → (id : ℕ) (v : View O) → HasView s id v → 0 < length v.numbers

@@ -37,7 +37,7 @@ pub at_most_itself : (xs : List ℕ) → AtMost xs xs
 at_most_itself xs = (omega arith, λ i. omega arith)
 
 pub at_most_set : (xs ys : List ℕ) (p new : ℕ) → AtMost xs ys → p < length ys → get_or ys p 0 ≤ new → AtMost xs (set ys p new)
-at_most_set xs ys p new h within numbers_from = (
+at_most_set xs ys p new h within no_less = (
   omega (arith, length-set ys p new, h.0),
   (λ i. dite (ℕ_discrete i p)
       (λ e. subst (λ (k : ℕ). get_or xs k 0 ≤ get_or (set ys p new) k 0) (sym e) (omega (arith, h.1 p, get_or-set_same ys p new 0 within)))

@@ -6,7 +6,7 @@ use native.Mathlib.Decide.{ℕ_discrete}
 use lib.ListN.{get_elem?}
 use Rattle.atomic_table.specs.Table.{State}
 use Rattle.turn_cell.specs.declared.view.View.{View}
-use Rattle.turn_cell.specs.Sums.{total, sum_below, is_at, AreInWork}
+use Rattle.turn_cell.specs.Sums.{total, numbers_from, is_at, AreInWork}
 use Rattle.turn_cell.specs.LockRule.{LockRule}
 use Rattle.turn_cell.specs.Laws.{word_at, ItemsAreInWork, WorkHasOneSeat, NumbersHaveOneSeat}
 use Rattle.turn_cell.proofs.Adding.{term_le, at_same, at_other, out_yes}
@@ -100,18 +100,18 @@ is_number-other n m ne = ap (λ b. cond b 1 0) (ne_eqb m n ne)
 is_number-one : (n m : ℕ) → is_number n m ≡ 1 → m ≡ n
 is_number-one n m one = dite (ℕ_discrete m n) (λ e. e) (λ ne. absurd (omega (arith, is_number-other n m ne)))
 
-sum_below-none : (n k : ℕ) → k ≤ n → sum_below (is_number n) k ≡ 0
-sum_below-none n zero le = refl
-sum_below-none n (suc k) le = omega (arith, sum_below-none n k (omega arith), is_number-other n k (λ e. absurd (omega arith)))
+numbers-none : (n a k : ℕ) → n < a → total (is_number n) (numbers_from a k) ≡ 0
+numbers-none n a zero behind = refl
+numbers-none n a (suc k) behind = omega (arith, is_number-other n a (λ e. absurd (omega arith)), numbers-none n (a + 1) k (omega arith))
 
-not_last : (n k : ℕ) → k ≢ n → n < suc k → n < k
-not_last n k ne less = omega arith
+not_first : (n a : ℕ) → a ≢ n → a ≤ n → a + 1 ≤ n
+not_first n a ne from = omega arith
 
-sum_below-number : (n k : ℕ) → n < k → sum_below (is_number n) k ≡ 1
-sum_below-number n zero less = absurd (omega arith)
-sum_below-number n (suc k) less = dite (ℕ_discrete k n)
-    (λ e. omega (arith, sum_below-none n k (omega arith), is_number-same n k e))
-    (λ ne. omega (arith, sum_below-number n k (not_last n k ne less), is_number-other n k ne))
+numbers-one : (n a k : ℕ) → a ≤ n → n < a + k → total (is_number n) (numbers_from a k) ≡ 1
+numbers-one n a zero from within = absurd (omega arith)
+numbers-one n a (suc k) from within = dite (ℕ_discrete a n)
+    (λ e. omega (arith, is_number-same n a e, numbers-none n (a + 1) k (omega arith)))
+    (λ ne. omega (arith, is_number-other n a ne, numbers-one n (a + 1) k (not_first n a ne from) (omega arith)))
 
 -- an item in work has its word
 work-at : (words : List ℕ) (out : List (ℕ × ℕ)) (k : ℕ) (x : ℕ × ℕ) → AreInWork words out → get_elem? out k ≡ some x
@@ -143,6 +143,6 @@ module _ {T O : Type 0} (origin : T → O) (marks : T → List ℕ) where
 
   pub numbers-one_seat : NumbersHaveOneSeat origin marks
   numbers-one_seat s r number within =
-      let t = one-entry (λ (v : View O). v.numbers) (is_number number) s.views (r.numbers (is_number number) ∙ sum_below-number number r.all within) in
+      let t = one-entry (λ (v : View O). v.numbers) (is_number number) s.views (r.numbers (is_number number) ∙ numbers-one number 0 r.all (omega arith) (omega arith)) in
       let there = subst (λ (n : ℕ). get_elem? t.view.numbers t.place ≡ some n) (is_number-one number t.term t.one) t.there in
       (t.seat, t.place, (t.view, t.has, there), λ j l h. t.alone j l h.0 number h.1 h.2 (is_number-same number number refl))

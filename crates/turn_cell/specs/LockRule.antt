@@ -4,7 +4,7 @@ use Rattle.std.specs.Prelude.{◌≡◌, ◌≢◌, ℕ, ◌<◌, ◌⊎◌, tru
 use mathlib.Core.Option.{some}
 use lib.ListN.{get_elem?}
 use Rattle.atomic_table.specs.Table.{State}
-use Rattle.turn_cell.specs.Sums.{total, sum_below, times, AreInWork, is_in_work}
+use Rattle.turn_cell.specs.Sums.{total, numbers_from, times, AreInWork, is_in_work}
 use Rattle.turn_cell.specs.Progress.{ArePhased, AtMost, spent_view}
 use Rattle.turn_cell.specs.declared.view.View.{View}
 
@@ -61,4 +61,4 @@ module _ {T O : Type 0} (origin : T → O) (marks : T → List ℕ) where
     pub seen : (i : ℕ) (v : View O) → HasView s i v → AtMost v.seen words
     -- seat numbers: over all seats they are those below `all`, each once, since they have the same
     -- sum under every weight
-    pub numbers : (weight : ℕ → ℕ) → total (λ v. total weight v.numbers) s.views ≡ sum_below weight all
+    pub numbers : (weight : ℕ → ℕ) → total (λ v. total weight v.numbers) s.views ≡ total weight (numbers_from 0 all)

@@ -6,11 +6,6 @@ abbrev pub total : {A : Type 0} → (A → ℕ) → List A → ℕ
 total f [] = 0
 total f (x ∷ xs) = f x + total f xs
 
--- f 0 + .. + f (n - 1)
-abbrev pub sum_below : (ℕ → ℕ) → ℕ → ℕ
-sum_below f zero = 0
-sum_below f (suc n) = sum_below f n + f n
-
 -- n numbers from a on
 abbrev pub numbers_from : ℕ → ℕ → List ℕ
 numbers_from a zero = []
