@@ -3,7 +3,7 @@
 
 pub use energy::unsatisfied;
 pub use last_sweep::sweep_and_count;
-pub use overlap::agreeing;
+pub use overlap::{agreeing, words_of};
 pub use tally::Tally;
 
 mod bonds;

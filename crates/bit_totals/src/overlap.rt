@@ -56,9 +56,10 @@ fn count_by(a: &Replica, b: &Replica, ones: &[u64]) -> Tally
     tally
 }
 
-/// The words of one plane.
+/// The words of one plane of a replica, a word for each of its sites, in order of y, then x. The planes
+/// of colour 0 come first, then those of colour 1.
 #[inline]
-pub(crate) fn words_of(replica: &Replica, plane: u32) -> &[u64]
+pub fn words_of(replica: &Replica, plane: u32) -> &[u64]
     requires { plane < length replica.now.planes }
     ensures { result.now ≡ (plane_at replica.now.planes plane).words }
 {

@@ -5,15 +5,15 @@ ghost use Rattle.bit_totals.specs.Tallies.{tallied};
 ghost use Rattle.multispin_word.specs.Planes.{is_set, number};
 ghost use Rattle.overlap_lines.specs.Counted.{line_from};
 ghost use Rattle.overlap_lines.specs.Overlaps as model;
-ghost use Rattle.plane_sweep.specs.Packed.{plane_at, spins_of, FitsDuo};
+ghost use Rattle.plane_sweep.specs.Packed.{spins_of, FitsDuo};
 ghost use Rattle.scalar_rule.specs.Neighbours.{agree};
 ghost use Rattle.spin_model.specs.Lattice.{bond_count, half_plane, volume, IsLawfulSize};
 
 use crate::shifting::{Shift, plane_on, turn_plane};
-use bit_totals::Tally;
+use bit_totals::{Tally, words_of};
 use lattice_geometry::Lattice;
 use multispin_word::Planes;
-use plane_sweep::{Duo, Replica};
+use plane_sweep::Duo;
 
 /// The most words of a plane.
 const PLANE: usize = 2048;
@@ -167,13 +167,4 @@ fn overlap(first: u64, second: u64) -> u64
     ensures { (b : ℕ) → b < 64 → is_set result b ≡ agree (is_set first b) (is_set second b) }
 {
     !first ^ second
-}
-
-// The words of one plane.
-#[inline]
-fn words_of(replica: &Replica, plane: u32) -> &[u64]
-    requires { plane < length replica.now.planes }
-    ensures { result.now ≡ (plane_at replica.now.planes plane).words }
-{
-    replica.planes.at(plane as usize).words.as_slice()
 }
