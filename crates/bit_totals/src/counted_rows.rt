@@ -261,11 +261,11 @@ fn sweep_eight<const SIZE: usize, const HEAT: bool, const EVEN: bool>(
         → tallied counts.new b + pair_count own.new lent.now.around first.now second.now b k
         ≡ tallied counts.old b + pair_count own.new lent.now.around first.now second.now b (k + 8) }
 {
-    let a = sweep_and_count::<SIZE, HEAT, EVEN, 0>(own, lent, first, k);
-    let b = sweep_and_count::<SIZE, HEAT, EVEN, 1>(own, lent, first, k + 4);
+    let a = sweep_and_count_four::<SIZE, HEAT, EVEN, 0>(own, lent, first, k);
+    let b = sweep_and_count_four::<SIZE, HEAT, EVEN, 1>(own, lent, first, k + 4);
     let front = add_counts(counts, &a, &b);
-    let c = sweep_and_count::<SIZE, HEAT, EVEN, 2>(own, lent, second, k);
-    let d = sweep_and_count::<SIZE, HEAT, EVEN, 3>(own, lent, second, k + 4);
+    let c = sweep_and_count_four::<SIZE, HEAT, EVEN, 2>(own, lent, second, k);
+    let d = sweep_and_count_four::<SIZE, HEAT, EVEN, 3>(own, lent, second, k + 4);
     let back = add_counts(counts, &c, &d);
     add_carries(counts, front, back);
 }
@@ -291,8 +291,8 @@ fn sweep_four_of_both<const SIZE: usize, const HEAT: bool, const EVEN: bool>(
         → tallied counts.new b + pair_count own.new lent.now.around first.now second.now b k
         ≡ tallied counts.old b + pair_count own.new lent.now.around first.now second.now b (k + 4) }
 {
-    let a = sweep_and_count::<SIZE, HEAT, EVEN, 4>(own, lent, first, k);
-    let b = sweep_and_count::<SIZE, HEAT, EVEN, 5>(own, lent, second, k);
+    let a = sweep_and_count_four::<SIZE, HEAT, EVEN, 4>(own, lent, first, k);
+    let b = sweep_and_count_four::<SIZE, HEAT, EVEN, 5>(own, lent, second, k);
     let last = add_counts(counts, &a, &b);
     add_last_carries(counts, last);
 }
@@ -301,7 +301,7 @@ fn sweep_four_of_both<const SIZE: usize, const HEAT: bool, const EVEN: bool>(
 // unsatisfied. Each call has a copy of its own, since no hint brings so much code to where one function is
 // called more than once.
 #[inline(always)]
-fn sweep_and_count<const SIZE: usize, const HEAT: bool, const EVEN: bool, const PART: usize>(
+fn sweep_and_count_four<const SIZE: usize, const HEAT: bool, const EVEN: bool, const PART: usize>(
     own: &mut [u64],
     lent: &Lent,
     row: &Row,

@@ -3,7 +3,7 @@ use Rattle.std.proofs.Common.{arith}
 use Rattle.local_rule.specs.SiteBits.{lane_words}
 use Rattle.plane_sweep.proofs.RowSweeps.{row-four}
 use Rattle.bit_totals.proofs.RowCounts.{four-seen}
-use Rattle.bit_totals.proofs.counted_rows.sweep_and_count.Goals as goal
+use Rattle.bit_totals.proofs.counted_rows.sweep_and_count_four.Goals as goal
 
 pub returns-clause-swept : goal.returns-clause-swept
 returns-clause-swept g c =
