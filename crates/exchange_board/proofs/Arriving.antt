@@ -18,7 +18,7 @@ use Rattle.exchange_board.specs.declared.totals.Totals.{Totals}
 use Rattle.exchange_board.specs.declared.board.Slot.{Slot}
 use Rattle.exchange_board.specs.declared.board.Board.TheInside as board
 use Rattle.exchange_board.specs.declared.job.Swept.TheInside as swept
-use Rattle.exchange_board.specs.Totals.{AreTotals}
+use Rattle.exchange_board.specs.Totals.{AreSums, AreTotals}
 use Rattle.exchange_board.specs.Views.{Stage, BoardView, JobView, place_at, out_at}
 use Rattle.exchange_board.specs.Content.{plan_of, slots_in, starts, started, floor_in, rule_record}
 use Rattle.exchange_board.specs.Machine.{epochs, phases, numbers, begun, recorded, taken, met}
@@ -62,9 +62,9 @@ pub record Known (b : board.Inside) (s : swept.Inside) (plan : Plan) : Type 0 wh
   pub from : floor_in (arc_value b.origin) ≤ s.epoch
   pub fits : FitsDuo (plan_of (arc_value b.origin)).size s.duo
   pub right : (i : ℕ) → i < 64 → part_slot (plan_of (arc_value b.origin)).size i s.duo ≡ arrived (plan_of (arc_value b.origin)) (starts (arc_value b.origin) i) s.epoch s.slot
-  pub totals : AreTotals (plan_of (arc_value b.origin)) s.duo s.totals
+  pub sums : AreSums (plan_of (arc_value b.origin)) s.duo s.sums
   pub fits_plan : FitsDuo plan.size s.duo
-  pub totals_plan : AreTotals plan s.duo s.totals
+  pub sums_plan : AreSums plan s.duo s.sums
 
 pub known-of : (b : board.Inside) (s : swept.Inside) (plan : Plan) → Coming b s plan → Known b s plan
 known-of b s plan c =
@@ -78,12 +78,12 @@ known-of b s plan c =
     let L : Origin → Type 0 = λ x. started x s.slot ≤ 4 * s.epoch + 1 in
     let R : Origin → Type 0 = λ x. (i : ℕ) → i < 64 → part_slot (plan_of x).size i s.duo ≡ arrived (plan_of x) (starts x i) s.epoch s.slot in
     let F : Origin → Type 0 = λ x. FitsDuo (plan_of x).size s.duo in
-    let T : Origin → Type 0 = λ x. AreTotals (plan_of x) s.duo s.totals in
+    let T : Origin → Type 0 = λ x. AreSums (plan_of x) s.duo s.sums in
     let later = subst L c.same c.swept.later in
     let fits = subst F c.same c.swept.fits in
-    let totals = subst T c.same c.swept.totals in
+    let sums = subst T c.same c.swept.sums in
     let G : Plan → Type 0 = λ p. FitsDuo p.size s.duo in
-    let U : Plan → Type 0 = λ p. AreTotals p s.duo s.totals in
+    let U : Plan → Type 0 = λ p. AreSums p s.duo s.sums in
     record {
       known = known;
       in_range = in_range;
@@ -94,9 +94,9 @@ known-of b s plan c =
       from = floor-before o s.slot s.epoch c.keeps.lawful in_range later;
       fits = fits;
       right = subst R c.same c.swept.right;
-      totals = totals;
+      sums = sums;
       fits_plan = subst G (sym c.plan_is) fits;
-      totals_plan = subst U (sym c.plan_is) totals;
+      sums_plan = subst U (sym c.plan_is) sums;
     }
 
 -- the records that a hand-back writes
@@ -181,15 +181,15 @@ alone-keeps b s plan rs c written alone =
           (moved-recorded (epochs ps) (phases ps) E' P' t e (e + 1) 0 moved f.epoch f.phase done_is) (value-is b s plan c f) c.keeps.rows;
     })
 
-pub wait-keeps : (b : board.Inside) (s : swept.Inside) (plan : Plan) (rs : List Record) → Coming b s plan → Written b s plan rs
+pub wait-keeps : (b : board.Inside) (s : swept.Inside) (plan : Plan) (rs : List Record) (totals : Totals) → Coming b s plan → Written b s plan rs → AreTotals plan s.duo totals
     → has_partner (length (places_of b)) s.slot s.epoch ≡ true → (phases (places_of b) (partner s.slot s.epoch) ≡ 2 → epochs (places_of b) (partner s.slot s.epoch) ≢ s.epoch)
-    → KeepsBoard (one b s.slot (home_of s s.epoch (Some s.totals)) rs b.left)
-wait-keeps b s plan rs c written has unmet =
+    → KeepsBoard (one b s.slot (home_of s s.epoch (Some totals)) rs b.left)
+wait-keeps b s plan rs totals c written counted has unmet =
     let o : Origin = arc_value b.origin in
     let ps : List Stage = places_of b in
     let t : ℕ = s.slot in
     let e : ℕ = s.epoch in
-    let x : Slot = home_of s e (Some s.totals) in
+    let x : Slot = home_of s e (Some totals) in
     let f = known-of b s plan c in
     let long : length ps ≡ slots_in o = places-long b c.keeps in
     let has_here : has_partner (slots_in o) t e ≡ true = subst (λ m. has_partner m t e ≡ true) long has in
@@ -201,8 +201,9 @@ wait-keeps b s plan rs c written has unmet =
     let E' : ℕ → ℕ = epochs qs in
     let P' : ℕ → ℕ = phases qs in
     let moved_there : OneMoved t (epochs ps t) 2 (epochs ps) (phases ps) E' P' = subst (λ m. OneMoved t m 2 (epochs ps) (phases ps) E' P') (sym f.epoch) moved in
+    let U : Plan → Type 0 = λ p. AreTotals p s.duo totals in
     let T : Totals → Type 0 = λ z. AreTotals (plan_of o) s.duo z in
-    let home : KeepsSlot o t x = record { same = c.same; fits = f.fits; right = f.right; totals = λ sums is. let z : s.totals ≡ sums = (let w : Some s.totals ≡ Some sums = is in cc) in subst T z f.totals } in
+    let home : KeepsSlot o t x = record { same = c.same; fits = f.fits; right = f.right; totals = λ kept is. let z : totals ≡ kept = (let w : Some totals ≡ Some kept = is in cc) in subst T z (subst U c.plan_is counted) } in
     let done_is : recorded (4 * e + 2) ≡ e + 1 = omega arith in
     one-keeps b t x rs b.left c.keeps (record {
       known = f.known;

@@ -224,11 +224,13 @@ job-made b t s h keeps known read is_ready some =
     let at : epochs (places_of b) t ≡ s.epoch = ap (λ (p : Stage). p.epoch) (place-read b t s known read) in
     let later : started o t ≤ 4 * s.epoch + 1 = omega (arith, keeps.ruled.since t in_range) in
     let K : Origin → Type 0 = λ x. t < slots_in x in
+    let E : Origin → Type 0 = λ x. 1 ≤ x.window.every in
     let L : Origin → Type 0 = λ x. started x t ≤ 4 * s.epoch + 1 in
     let F : Origin → Type 0 = λ x. FitsDuo (plan_of x).size h.duo in
     let R : Origin → Type 0 = λ x. (i : ℕ) → i < 64 → part_slot (plan_of x).size i h.duo ≡ ready (plan_of x) (starts x i) s.epoch t in
     record {
       known = subst K (sym r.same) in_range;
+      every = subst E (sym r.same) keeps.lawful.base.some_every;
       later = subst L (sym r.same) later;
       fits = subst F (sym r.same) r.fits;
       right = subst R (sym r.same) r.right;

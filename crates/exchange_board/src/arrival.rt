@@ -10,6 +10,7 @@ ghost use Rattle.exchange_board.specs.Views.{place_at, out_at, ready_at, arrived
 use crate::board::{Board, Home, Slot};
 use crate::job::Swept;
 use crate::rows::{SlotEpoch, record_slot};
+use crate::totals::totals_of;
 use crate::trading::{PlanPair, Side, meet};
 use scalar_rule::Plan;
 
@@ -26,11 +27,21 @@ pub enum Arrival {
 
 // Whether a slot is the colder one of its pair at an epoch.
 fn is_colder(slot: u32, epoch: u64) -> bool
-    requires few { slot < 32 }
-    requires short { epoch < last_epoch }
     ensures { result ≡ has_turn slot epoch }
 {
-    (slot as u64 + epoch) % 2 == 0
+    slot as u64 % 2 == epoch % 2
+}
+
+/// Whether a slot has a partner at an epoch.
+pub(crate) fn has_partner(slot: u32, epoch: u64, slots: u32) -> bool
+    requires { slot < slots }
+    ensures { result ≡ has_partner slots slot epoch }
+{
+    if is_colder(slot, epoch) {
+        slot + 1 < slots
+    } else {
+        slot > 0
+    }
 }
 
 // The colder slot of a pair.
@@ -118,10 +129,10 @@ impl Board {
             epoch,
             share,
             duo,
-            totals,
+            sums,
         } = swept;
         let at = SlotEpoch { slot, epoch };
-        record_slot(&mut self.records, &duo, &totals, plan, &self.origin, at);
+        record_slot(&mut self.records, &duo, &sums, plan, &self.origin, at);
         *self.slots.at_mut(slot as usize) = Slot {
             epoch: epoch + 1,
             home: Some(Home {
@@ -146,10 +157,11 @@ impl Board {
             epoch,
             share,
             duo,
-            totals,
+            sums,
         } = swept;
         let at = SlotEpoch { slot, epoch };
-        record_slot(&mut self.records, &duo, &totals, plan, &self.origin, at);
+        record_slot(&mut self.records, &duo, &sums, plan, &self.origin, at);
+        let totals = totals_of(&duo, &sums, plan);
         *self.slots.at_mut(slot as usize) = Slot {
             epoch,
             home: Some(Home {
@@ -175,10 +187,11 @@ impl Board {
             epoch,
             share,
             mut duo,
-            totals,
+            sums,
         } = swept;
         let at = SlotEpoch { slot, epoch };
-        record_slot(&mut self.records, &duo, &totals, plan, &self.origin, at);
+        record_slot(&mut self.records, &duo, &sums, plan, &self.origin, at);
+        let totals = totals_of(&duo, &sums, plan);
         let is_low = is_colder(slot, epoch);
         let pair = colder(slot, other, is_low);
         let wheels = self.pairs.at_mut(pair as usize);

@@ -15,7 +15,7 @@ use crate::board::{Board, Home, Slot};
 use crate::origin::{Origin, Window};
 use crate::room::Room;
 use crate::rows::rows_of;
-use crate::totals::totals_of;
+use crate::totals::count_totals;
 use glass_edges::NoMemory;
 use plain_list::Items;
 use plane_sweep::{Duo, Place, RaggedStand, Replica, Stand, cell_at, deepest, has_record};
@@ -108,7 +108,7 @@ fn opened_slot(share: Arc<Origin, Global>, plan: &Plan, place: Place, duo: Duo) 
     ensures home { IsSomeAnd result.home (Begins (arc_value share) place duo) }
 {
     let totals = if place.arrived {
-        Some(totals_of(&duo, plan))
+        Some(count_totals(&duo, plan))
     } else {
         None
     };

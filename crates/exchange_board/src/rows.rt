@@ -7,10 +7,10 @@ ghost use Rattle.scalar_rule.specs.Epoch as model;
 ghost use Rattle.scalar_rule.specs.Records as rule;
 ghost use Rattle.exchange_board.specs.Content.{slots_in, floor_in, row_total, IsLawfulOrigin};
 ghost use Rattle.exchange_board.specs.Meeting.{AreRowsOf, RowsAfter, RecordsAfter};
-ghost use Rattle.exchange_board.specs.Totals.{AreTotals};
+ghost use Rattle.exchange_board.specs.Totals.{AreSums};
 
 use crate::origin::Origin;
-use crate::totals::{Totals, record_of};
+use crate::totals::{Sums, agreeing_of, record_of, totals_of};
 use plain_list::Items;
 use plane_sweep::Duo;
 use scalar_rule::{Plan, Record};
@@ -38,8 +38,8 @@ impl Rows {
     }
 }
 
-// Whether an epoch is recorded: the last of each `every`.
-fn is_recorded(epoch: u64, every: u64) -> bool
+/// Whether an epoch is recorded: the last of each `every`.
+pub(crate) fn is_recorded(epoch: u64, every: u64) -> bool
     requires { 1 ≤ every }
     ensures { result ≡ rule.is_recorded every epoch }
 {
@@ -67,9 +67,9 @@ pub(crate) fn rows_of(origin: &Origin, slot: u32, epoch: u64) -> Rows
 }
 
 // The record of a slot in each printed sample, where its epoch is recorded.
-fn write_rows(records: &mut Items<Record>, duo: &Duo, totals: &Totals, plan: &Plan, rows: &Rows)
+fn write_rows(records: &mut Items<Record>, duo: &Duo, sums: &Sums, plan: &Plan, rows: &Rows)
     requires duo { FitsDuo plan.now.size duo.now }
-    requires totals { AreTotals plan.now duo.now totals.now }
+    requires sums { AreSums plan.now duo.now sums.now }
     requires samples { rows.now.samples ≤ 64 }
     requires slot { rows.now.slot < rows.now.slots }
     requires few { length records.old ≤ most_rows }
@@ -77,8 +77,10 @@ fn write_rows(records: &mut Items<Record>, duo: &Duo, totals: &Totals, plan: &Pl
     ensures { RowsAfter rows.now (λ i. model.record_of plan.now i (part_slot plan.now.size i duo.now)) records.old records.new }
 {
     if rows.is_recorded {
+        let totals = totals_of(duo, sums, plan);
+        let agreeing = agreeing_of(duo, sums, plan);
         'samples: for i in 0..rows.samples {
-            *records.at_mut(rows.place(i)) = record_of(duo, totals, plan, i);
+            *records.at_mut(rows.place(i)) = record_of(duo, &totals, &agreeing, plan, i);
         }
     }
 }
@@ -94,7 +96,7 @@ pub(crate) struct SlotEpoch {
 pub(crate) fn record_slot(
     records: &mut Items<Record>,
     duo: &Duo,
-    totals: &Totals,
+    sums: &Sums,
     plan: &Plan,
     origin: &Origin,
     at: SlotEpoch,
@@ -104,10 +106,10 @@ pub(crate) fn record_slot(
     requires from { floor_in origin.now ≤ at.epoch }
     requires below { at.epoch < origin.now.window.until }
     requires duo { FitsDuo plan.now.size duo.now }
-    requires totals { AreTotals plan.now duo.now totals.now }
+    requires sums { AreSums plan.now duo.now sums.now }
     requires sized { length records.old ≡ row_total origin.now }
     ensures { RecordsAfter origin.now at.slot at.epoch (λ i. model.record_of plan.now i (part_slot plan.now.size i duo.now)) records.old records.new }
 {
     let rows = rows_of(origin, at.slot, at.epoch);
-    write_rows(records, duo, totals, plan, &rows);
+    write_rows(records, duo, sums, plan, &rows);
 }

@@ -1,7 +1,7 @@
 //! The sweeps of an epoch in all 64 samples, and the sums after them.
 
-ghost use Rattle.std.specs.Prelude.{◌≡◌, ℕ, ◌<◌, ◌≤◌};
-ghost use Rattle.exchange_board.specs.Totals.{AreTotals};
+ghost use Rattle.std.specs.Prelude.{◌≡◌, ℕ, ◌<◌, ◌≤◌, IfSome};
+ghost use Rattle.exchange_board.specs.Totals.{AreSums, AreTotals, CountsAgreeing};
 ghost use Rattle.plane_sweep.specs.Packed.{part_copy, part_slot, FitsDuo, FitsReplica};
 ghost use Rattle.scalar_rule.specs.Epoch as model;
 ghost use Rattle.scalar_rule.specs.Plan.{slots_of};
@@ -12,17 +12,32 @@ use plane_sweep::{Duo, sweep_duo_often};
 use scalar_rule::{Plan, Record, excess};
 use std::thread::Threads;
 
-/// The sums of a slot after its sweeps, as twenty bit planes of 64 samples: the unsatisfied bonds of
-/// both replicas, 0 to 3V for V sites, and the sites at which they agree, 0 to V.
+/// The unsatisfied bonds of both replicas of a slot in 64 samples, as twenty bit planes: 0 to 3V for V
+/// sites. Its exchange asks for them.
 #[derive(Drop)]
 pub struct Totals {
     pub first: Planes<20>,
     pub second: Planes<20>,
-    pub agreeing: Planes<20>,
 }
 
-/// The sums of a slot.
-pub(crate) fn totals_of(duo: &Duo, plan: &Plan) -> Totals
+/// What is summed of a slot after its sweeps: its totals, and the sites at which its replicas agree, 0
+/// to V for V sites, each where it was asked for.
+#[derive(Drop)]
+pub struct Sums {
+    pub totals: Option<Totals>,
+    pub agreeing: Option<Planes<20>>,
+}
+
+/// Which sums an epoch asks for. What is missing is counted when it is needed, so a slip here would
+/// cost time alone.
+#[derive(Clone, Copy)]
+pub(crate) struct Asked {
+    pub(crate) totals: bool,
+    pub(crate) agreeing: bool,
+}
+
+/// The totals of a slot, counted now.
+pub(crate) fn count_totals(duo: &Duo, plan: &Plan) -> Totals
     requires { FitsDuo plan.now.size duo.now }
     ensures { AreTotals plan.now duo.now result }
 {
@@ -30,12 +45,88 @@ pub(crate) fn totals_of(duo: &Duo, plan: &Plan) -> Totals
     Totals {
         first: unsatisfied(&duo.first, plan),
         second: unsatisfied(&duo.second, plan),
-        agreeing: agreeing(&duo.first, &duo.second),
     }
 }
 
-/// The sweeps of an epoch of both replicas of a slot, and their sums.
+/// The totals of a slot: as they were summed, or else counted now.
+pub(crate) fn totals_of(duo: &Duo, sums: &Sums, plan: &Plan) -> Totals
+    requires duo { FitsDuo plan.now.size duo.now }
+    requires sums { AreSums plan.now duo.now sums.now }
+    ensures { AreTotals plan.now duo.now result }
+{
+    match &sums.totals {
+        Some(counted) => Totals {
+            first: Planes {
+                words: counted.first.words,
+            },
+            second: Planes {
+                words: counted.second.words,
+            },
+        },
+        None => count_totals(duo, plan),
+    }
+}
+
+/// The sites at which the replicas of a slot agree: as they were summed, or else counted now.
+pub(crate) fn agreeing_of(duo: &Duo, sums: &Sums, plan: &Plan) -> Planes<20>
+    requires duo { FitsDuo plan.now.size duo.now }
+    requires sums { AreSums plan.now duo.now sums.now }
+    ensures { CountsAgreeing plan.now.size duo.now result.words }
+{
+    let _ = plan.lattice();
+    match &sums.agreeing {
+        Some(counted) => Planes {
+            words: counted.words,
+        },
+        None => agreeing(&duo.first, &duo.second),
+    }
+}
+
+// The sites at which the replicas agree, where they are asked for.
+fn agreeing_if(is_asked: bool, duo: &Duo, plan: &Plan) -> Option<Planes<20>>
+    requires { FitsDuo plan.now.size duo.now }
+    ensures { IfSome result (λ sum. CountsAgreeing plan.now.size duo.now sum.words) }
+{
+    let _ = plan.lattice();
+    if is_asked {
+        Some(agreeing(&duo.first, &duo.second))
+    } else {
+        None
+    }
+}
+
+/// The sweeps of an epoch of both replicas of a slot, and the sums that are asked for.
 pub(crate) fn sweep_and_sum<R: Threads + Sync>(
+    rt: &R,
+    duo: &mut Duo,
+    plan: &Plan,
+    slot: u32,
+    pieces: u32,
+    asked: Asked,
+) -> Sums
+    requires duo { FitsDuo plan.now.size duo.old }
+    requires slot { slot < slots_of plan.now }
+    requires some_pieces { 1 ≤ pieces }
+    requires few_pieces { pieces ≤ 16 }
+    ensures swept { (b : ℕ) → b < 64 → part_slot plan.now.size b duo.new
+        ≡ model.swept_slot plan.now b slot (part_slot plan.now.size b duo.old) }
+    ensures fits { FitsDuo plan.now.size duo.new }
+    ensures sums { AreSums plan.now duo.new result }
+{
+    let totals = if asked.totals {
+        Some(sweep_and_total(rt, duo, plan, slot, pieces))
+    } else {
+        sweep_slot(rt, duo, plan, slot, pieces);
+        None
+    };
+    Sums {
+        totals,
+        agreeing: agreeing_if(asked.agreeing, duo, plan),
+    }
+}
+
+// The same with the totals alone.
+fn sweep_and_total<R: Threads + Sync>(
     rt: &R,
     duo: &mut Duo,
     plan: &Plan,
@@ -54,16 +145,16 @@ pub(crate) fn sweep_and_sum<R: Threads + Sync>(
     let size = plan.lattice().size();
     // Where `sweep_and_count` has code of its own, and the two replicas don't go in turn.
     if pieces == 1 && size % 8 == 0 && size < 48 {
-        sum_in_last_sweep(rt, duo, plan, slot)
+        total_in_last_sweep(rt, duo, plan, slot)
     } else {
         sweep_slot(rt, duo, plan, slot, pieces);
-        totals_of(duo, plan)
+        count_totals(duo, plan)
     }
 }
 
 // The same in one piece: the last sweep counts the bonds.
 #[tactic(auto, unfolding(scalar_rule::specs::Epoch::swept_slot))]
-fn sum_in_last_sweep<R: Threads + Sync>(rt: &R, duo: &mut Duo, plan: &Plan, slot: u32) -> Totals
+fn total_in_last_sweep<R: Threads + Sync>(rt: &R, duo: &mut Duo, plan: &Plan, slot: u32) -> Totals
     requires duo { FitsDuo plan.now.size duo.old }
     requires slot { slot < slots_of plan.now }
     ensures swept { (b : ℕ) → b < 64 → part_slot plan.now.size b duo.new
@@ -76,12 +167,7 @@ fn sum_in_last_sweep<R: Threads + Sync>(rt: &R, duo: &mut Duo, plan: &Plan, slot
     sweep_duo_often(rt, duo, plan, slot, 1, before);
     let first = sweep_and_count(&mut duo.first, plan, slot);
     let second = sweep_and_count(&mut duo.second, plan, slot);
-    let agreeing = agreeing(&duo.first, &duo.second);
-    Totals {
-        first,
-        second,
-        agreeing,
-    }
+    Totals { first, second }
 }
 
 // The sweeps of an epoch of both replicas of a slot.
@@ -99,10 +185,17 @@ fn sweep_slot<R: Threads + Sync>(rt: &R, duo: &mut Duo, plan: &Plan, slot: u32, 
     sweep_duo_often(rt, duo, plan, slot, pieces, count);
 }
 
-/// What is measured of a slot in one sample.
-pub(crate) fn record_of(duo: &Duo, totals: &Totals, plan: &Plan, sample: u32) -> Record
+/// What is measured of a slot in one sample, by its sums and the sites at which its replicas agree.
+pub(crate) fn record_of(
+    duo: &Duo,
+    totals: &Totals,
+    agreeing: &Planes<20>,
+    plan: &Plan,
+    sample: u32,
+) -> Record
     requires duo { FitsDuo plan.now.size duo.now }
     requires totals { AreTotals plan.now duo.now totals.now }
+    requires agreeing { CountsAgreeing plan.now.size duo.now agreeing.now.words }
     requires sample { sample < 64 }
     ensures { result ≡ model.record_of plan.now sample (part_slot plan.now.size sample duo.now) }
 {
@@ -110,7 +203,7 @@ pub(crate) fn record_of(duo: &Duo, totals: &Totals, plan: &Plan, sample: u32) ->
     Record {
         first_energy: excess(totals.first.number_at(sample), 3 * sites),
         second_energy: excess(totals.second.number_at(sample), 3 * sites),
-        overlap: excess(totals.agreeing.number_at(sample), sites),
+        overlap: excess(agreeing.number_at(sample), sites),
         first_replica: duo.first.labels[sample as usize],
         second_replica: duo.second.labels[sample as usize],
     }
