@@ -1,5 +1,5 @@
 -- Each bond has one end of each colour: the six bonds of each site of one colour are all bonds.
-use Rattle.std.proofs.Common.{inl, inr, ◌≡◌, ℕ, zero, suc, ◌+◌, ◌*◌, ◌/◌, ◌%◌, ◌<◌, ◌≤◌, ◌==◌, Bool, true, false, not, cond, List, refl, ap, sym, ◌∙◌, arith}
+use Rattle.std.proofs.Common.{inl, inr, ◌≡◌, ℕ, zero, suc, ◌+◌, ◌*◌, ◌/◌, ◌%◌, ◌^◌, ◌<◌, ◌≤◌, ◌==◌, Bool, true, false, not, cond, List, refl, ap, sym, ◌∙◌, arith}
 use Rattle.std.proofs.Math.Nat.{mul_assoc}
 use Rattle.std.proofs.lemmas.Bool.{cases_eq}
 use Rattle.std.proofs.lemmas.List.Sums.{count_by-le-length}
@@ -9,6 +9,8 @@ use Rattle.spin_model.specs.Lattice.{IsLawfulSize, volume, bond, bond_count, for
 use Rattle.spin_model.specs.Words.{one_if}
 use Rattle.spin_model.proofs.Colours.{colour-backward}
 use Rattle.spin_model.proofs.CompactOrder.{in_plane}
+use Rattle.spin_model.proofs.Counts.{count-most}
+use Rattle.spin_model.proofs.Sites.{volume-bound}
 use Rattle.scalar_rule.specs.Neighbours.{spin, coupled, agree, ahead, behind, pull, neighbours}
 use Rattle.scalar_rule.specs.Positions.{sum_below}
 use Rattle.scalar_rule.specs.Sums.{is_unsatisfied, unsatisfied}
@@ -234,3 +236,11 @@ from-le l bonds spins c n =
 pub from-none : (l : ℕ) (bonds : Bonds) (spins : List Bool) (c : ℕ) → unsatisfied_from l bonds spins c 0 ≡ 0
 unfolding unsatisfied_from sum_below
 from-none l bonds spins c = refl
+
+-- a count of the bonds of all sites of colour 0 is U, and far below what twenty bits hold
+pub counted-all : (l : ℕ) (bonds : Bonds) (spins : List Bool) (n : ℕ) → IsLawfulSize l → n ≡ unsatisfied_from l bonds spins 0 (l * half_plane l)
+    → (n ≡ unsatisfied l bonds spins) × (n ≤ bond_count l) × (n < 2 ^ 20)
+counted-all l bonds spins n lawful counted =
+    let is = counted ∙ all-bonds l bonds spins 0 lawful (omega arith) in
+    let most = count-most (is_unsatisfied l bonds spins) (bond_count l) in
+    (is, omega (arith, is, most), omega (arith, is, most, volume-bound l lawful))

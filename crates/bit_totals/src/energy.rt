@@ -7,7 +7,7 @@ ghost use Rattle.bit_totals.specs.RowBonds.{plane_count};
 ghost use Rattle.bit_totals.specs.Tallies.{tallied};
 ghost use Rattle.coupling_set.specs.CouplingWords.{bonds_of};
 ghost use Rattle.multispin_word.specs.Planes.{number};
-ghost use Rattle.plane_sweep.specs.Packed.{spins_of, FitsPlane, FitsReplica};
+ghost use Rattle.plane_sweep.specs.Packed.{spins_of, FitsDuo, FitsPlane, FitsReplica};
 ghost use Rattle.scalar_rule.specs.Sums as model;
 ghost use Rattle.spin_model.specs.Lattice.{bond_count, half_plane, IsLawfulSize};
 
@@ -16,7 +16,7 @@ use crate::overlap::words_of;
 use crate::tally::Tally;
 use coupling_set::Couplings;
 use multispin_word::Planes;
-use plane_sweep::{Plane, Replica, first_row, lend, row_behind};
+use plane_sweep::{Duo, Plane, Replica, first_row, lend, row_behind};
 use scalar_rule::Plan;
 
 /// U of each disorder sample: the number of bonds with J s s' = -1, of 3V. Takes no memory.
@@ -30,6 +30,23 @@ pub fn unsatisfied(replica: &Replica, plan: &Plan) -> Planes<20>
     count_planes(replica, plan).total()
 }
 
+/// The same of both replicas of a slot, plane by plane in turn: a plane's couplings are then read from
+/// afar once for both. Takes no memory.
+pub fn unsatisfied_duo(duo: &Duo, plan: &Plan) -> (Planes<20>, Planes<20>)
+    requires { FitsDuo plan.now.size duo.now }
+    ensures first { (b : ℕ) → b < 64 → number result.0.words b
+        ≡ model.unsatisfied plan.now.size (bonds_of plan.now.couplings b)
+        (spins_of plan.now.size b duo.now.first.planes) }
+    ensures second { (b : ℕ) → b < 64 → number result.1.words b
+        ≡ model.unsatisfied plan.now.size (bonds_of plan.now.couplings b)
+        (spins_of plan.now.size b duo.now.second.planes) }
+    ensures within { (b : ℕ) → b < 64
+        → (number result.0.words b ≤ bond_count plan.now.size) × (number result.1.words b ≤ bond_count plan.now.size) }
+{
+    let (first, second) = count_both(duo, plan);
+    (first.total(), second.total())
+}
+
 // The same, not yet in planes: the bonds of all sites of colour 0.
 fn count_planes(replica: &Replica, plan: &Plan) -> Tally
     requires fits { FitsReplica plan.now.size replica.now }
@@ -39,20 +56,53 @@ fn count_planes(replica: &Replica, plan: &Plan) -> Tally
     ensures lawful { IsLawfulSize plan.now.size }
 {
     let size = plan.lattice().size();
-    let other = &replica.planes.as_slice()[size as usize..];
-    let couplings = plan.couplings();
     let mut tally = Tally::none();
     'planes: for z in 0..size {
-        let plane = ColourPlane {
-            own: words_of(replica, z),
-            other,
-            couplings,
-            colour: 0,
-            z,
-        };
-        count_plane(&mut tally.rows, &plane);
+        add_plane(&mut tally, replica, plan, z);
     }
     tally
+}
+
+fn count_both(duo: &Duo, plan: &Plan) -> (Tally, Tally)
+    requires fits { FitsDuo plan.now.size duo.now }
+    ensures first { (b : ℕ) → b < 64 → tallied result.0.rows b
+        ≡ unsatisfied_from plan.now.size (bonds_of plan.now.couplings b)
+        (spins_of plan.now.size b duo.now.first.planes) 0 (plan.now.size * half_plane plan.now.size) }
+    ensures second { (b : ℕ) → b < 64 → tallied result.1.rows b
+        ≡ unsatisfied_from plan.now.size (bonds_of plan.now.couplings b)
+        (spins_of plan.now.size b duo.now.second.planes) 0 (plan.now.size * half_plane plan.now.size) }
+    ensures lawful { IsLawfulSize plan.now.size }
+{
+    let size = plan.lattice().size();
+    let mut first = Tally::none();
+    let mut second = Tally::none();
+    'planes: for z in 0..size {
+        add_plane(&mut first, &duo.first, plan, z);
+        add_plane(&mut second, &duo.second, plan, z);
+    }
+    (first, second)
+}
+
+// Adds the bonds of the sites of colour 0 in plane z to those of the planes before it.
+fn add_plane(tally: &mut Tally, replica: &Replica, plan: &Plan, z: u32)
+    requires fits { FitsReplica plan.now.size replica.now }
+    requires plane { z < plan.now.size }
+    requires counted { (b : ℕ) → b < 64 → tallied tally.old.rows b
+        ≡ unsatisfied_from plan.now.size (bonds_of plan.now.couplings b)
+        (spins_of plan.now.size b replica.now.planes) 0 (z * half_plane plan.now.size) }
+    ensures { (b : ℕ) → b < 64 → tallied tally.new.rows b
+        ≡ unsatisfied_from plan.now.size (bonds_of plan.now.couplings b)
+        (spins_of plan.now.size b replica.now.planes) 0 ((z + 1) * half_plane plan.now.size) }
+{
+    let size = plan.lattice().size();
+    let plane = ColourPlane {
+        own: words_of(replica, z),
+        other: &replica.planes.as_slice()[size as usize..],
+        couplings: plan.couplings(),
+        colour: 0,
+        z,
+    };
+    count_plane(&mut tally.rows, &plane);
 }
 
 /// Plane z of a colour, and what the bonds of its sites depend on.

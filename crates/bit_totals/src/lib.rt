@@ -1,7 +1,7 @@
 //! The energy and the overlap of 64 disorder samples: their unsatisfied bonds and agreeing sites.
 #![tactic(auto)]
 
-pub use energy::unsatisfied;
+pub use energy::{unsatisfied, unsatisfied_duo};
 pub use last_sweep::sweep_and_count;
 pub use overlap::{agreeing, words_of};
 pub use tally::Tally;

@@ -6,7 +6,7 @@ ghost use Rattle.plane_sweep.specs.Packed.{part_copy, part_slot, FitsDuo, FitsRe
 ghost use Rattle.scalar_rule.specs.Epoch as model;
 ghost use Rattle.scalar_rule.specs.Plan.{slots_of};
 
-use bit_totals::{agreeing, sweep_and_count, unsatisfied};
+use bit_totals::{agreeing, sweep_and_count, unsatisfied_duo};
 use multispin_word::Planes;
 use plane_sweep::{Duo, sweep_duo_often};
 use scalar_rule::{Plan, Record, excess};
@@ -41,11 +41,8 @@ pub(crate) fn count_totals(duo: &Duo, plan: &Plan) -> Totals
     requires { FitsDuo plan.now.size duo.now }
     ensures { AreTotals plan.now duo.now result }
 {
-    let _ = plan.lattice();
-    Totals {
-        first: unsatisfied(&duo.first, plan),
-        second: unsatisfied(&duo.second, plan),
-    }
+    let (first, second) = unsatisfied_duo(duo, plan);
+    Totals { first, second }
 }
 
 /// The totals of a slot: as they were summed, or else counted now.

@@ -1,32 +1,21 @@
--- The bonds of the sites of colour 0 are all bonds, of which there are at most 786432.
-use Rattle.std.proofs.Common.{◌∙◌, arith}
+-- The bonds of the sites of colour 0 are all bonds.
+use Rattle.std.proofs.Common.{◌∙◌}
 use Rattle.coupling_set.specs.CouplingWords.{bonds_of}
 use Rattle.plane_sweep.specs.Packed.{spins_of}
-use Rattle.scalar_rule.specs.Sums.{is_unsatisfied}
-use Rattle.spin_model.specs.Lattice.{bond_count}
-use Rattle.spin_model.proofs.Sites.{volume-bound}
-use Rattle.spin_model.proofs.Counts.{count-most}
-use Rattle.bit_totals.proofs.ColourBonds.{all-bonds}
+use Rattle.bit_totals.proofs.ColourBonds.{counted-all}
 use Rattle.bit_totals.proofs.energy.unsatisfied.Goals as goal
 
 pub total-requires : goal.total-requires
 total-requires c = λ b h.
     let l = c.args.plan.now.size in
-    let bonds = bonds_of c.args.plan.now.couplings b in
-    let spins = spins_of l b c.args.replica.now.planes in
-    let lawful = c.count_planes.ensures.lawful in
-    omega (arith, c.count_planes.ensures.counted b h, all-bonds l bonds spins 0 lawful (omega arith), count-most (is_unsatisfied l bonds spins) (bond_count l), volume-bound l lawful)
+    (counted-all l (bonds_of c.args.plan.now.couplings b) (spins_of l b c.args.replica.now.planes) _ c.count_planes.ensures.lawful (c.count_planes.ensures.counted b h)).2
 
 pub returns-clause-value : goal.returns-clause-value
 returns-clause-value c = λ b h.
     let l = c.args.plan.now.size in
-    let bonds = bonds_of c.args.plan.now.couplings b in
-    let spins = spins_of l b c.args.replica.now.planes in
-    c.total.ensures b h ∙ c.count_planes.ensures.counted b h ∙ all-bonds l bonds spins 0 c.count_planes.ensures.lawful (omega arith)
+    (counted-all l (bonds_of c.args.plan.now.couplings b) (spins_of l b c.args.replica.now.planes) _ c.count_planes.ensures.lawful (c.total.ensures b h ∙ c.count_planes.ensures.counted b h)).0
 
 pub returns-clause-within : goal.returns-clause-within
 returns-clause-within c = λ b h.
     let l = c.args.plan.now.size in
-    let bonds = bonds_of c.args.plan.now.couplings b in
-    let spins = spins_of l b c.args.replica.now.planes in
-    omega (arith, c.total.ensures b h, c.count_planes.ensures.counted b h, all-bonds l bonds spins 0 c.count_planes.ensures.lawful (omega arith), count-most (is_unsatisfied l bonds spins) (bond_count l))
+    (counted-all l (bonds_of c.args.plan.now.couplings b) (spins_of l b c.args.replica.now.planes) _ c.count_planes.ensures.lawful (c.total.ensures b h ∙ c.count_planes.ensures.counted b h)).1
