@@ -10,7 +10,7 @@ ghost use Rattle.exchange_board.specs.Meeting.{AreRowsOf, RowsAfter, RecordsAfte
 ghost use Rattle.exchange_board.specs.Totals.{AreSums};
 
 use crate::origin::Origin;
-use crate::totals::{Sums, agreeing_of, record_of, totals_of};
+use crate::totals::{Sums, measure, record_of};
 use plain_list::Items;
 use plane_sweep::Duo;
 use scalar_rule::{Plan, Record};
@@ -77,10 +77,9 @@ fn write_rows(records: &mut Items<Record>, duo: &Duo, sums: &Sums, plan: &Plan, 
     ensures { RowsAfter rows.now (λ i. model.record_of plan.now i (part_slot plan.now.size i duo.now)) records.old records.new }
 {
     if rows.is_recorded {
-        let totals = totals_of(duo, sums, plan);
-        let agreeing = agreeing_of(duo, sums, plan);
+        let measured = measure(duo, sums, plan);
         'samples: for i in 0..rows.samples {
-            *records.at_mut(rows.place(i)) = record_of(duo, &totals, &agreeing, plan, i);
+            *records.at_mut(rows.place(i)) = record_of(duo, &measured, plan, i);
         }
     }
 }

@@ -1,7 +1,8 @@
 //! The sweeps of an epoch in all 64 samples, and the sums after them.
 
-ghost use Rattle.std.specs.Prelude.{◌≡◌, ℕ, ◌<◌, ◌≤◌, IfSome};
-ghost use Rattle.exchange_board.specs.Totals.{AreSums, AreTotals, CountsAgreeing};
+ghost use Rattle.std.specs.Prelude.{◌≡◌, ℕ, ◌<◌, ◌≤◌, IfSome, slice_index};
+ghost use Rattle.exchange_board.specs.Totals.{AreSums, AreTotals, CountsAgreeing, Measures};
+ghost use Rattle.multispin_word.specs.Planes.{number};
 ghost use Rattle.plane_sweep.specs.Packed.{part_copy, part_slot, FitsDuo, FitsReplica};
 ghost use Rattle.scalar_rule.specs.Epoch as model;
 ghost use Rattle.scalar_rule.specs.Plan.{slots_of};
@@ -182,26 +183,53 @@ fn sweep_slot<R: Threads + Sync>(rt: &R, duo: &mut Duo, plan: &Plan, slot: u32, 
     sweep_duo_often(rt, duo, plan, slot, pieces, count);
 }
 
-/// What is measured of a slot in one sample, by its sums and the sites at which its replicas agree.
-pub(crate) fn record_of(
-    duo: &Duo,
-    totals: &Totals,
-    agreeing: &Planes<20>,
-    plan: &Plan,
-    sample: u32,
-) -> Record
+/// The sums of a slot as numbers, sample by sample, for its records: the unsatisfied bonds of both
+/// replicas, and the sites at which they agree.
+#[derive(Drop)]
+pub struct Measured {
+    pub first: [u32; 64],
+    pub second: [u32; 64],
+    pub agreeing: [u32; 64],
+}
+
+/// The sums of a slot as numbers.
+pub(crate) fn measure(duo: &Duo, sums: &Sums, plan: &Plan) -> Measured
     requires duo { FitsDuo plan.now.size duo.now }
-    requires totals { AreTotals plan.now duo.now totals.now }
-    requires agreeing { CountsAgreeing plan.now.size duo.now agreeing.now.words }
+    requires sums { AreSums plan.now duo.now sums.now }
+    ensures { Measures plan.now duo.now result }
+{
+    let totals = totals_of(duo, sums, plan);
+    let agreeing = agreeing_of(duo, sums, plan);
+    Measured {
+        first: numbers(&totals.first),
+        second: numbers(&totals.second),
+        agreeing: numbers(&agreeing),
+    }
+}
+
+// The numbers of 64 samples.
+fn numbers(planes: &Planes<20>) -> [u32; 64]
+    ensures { (b : ℕ) → b < 64 → slice_index result b ≡ number planes.now.words b }
+{
+    let mut all = [0u32; 64];
+    planes.to_numbers(&mut all);
+    all
+}
+
+/// What is measured of a slot in one sample.
+pub(crate) fn record_of(duo: &Duo, measured: &Measured, plan: &Plan, sample: u32) -> Record
+    requires duo { FitsDuo plan.now.size duo.now }
+    requires measured { Measures plan.now duo.now measured.now }
     requires sample { sample < 64 }
     ensures { result ≡ model.record_of plan.now sample (part_slot plan.now.size sample duo.now) }
 {
     let sites = plan.lattice().sites();
+    let sample = sample as usize;
     Record {
-        first_energy: excess(totals.first.number_at(sample), 3 * sites),
-        second_energy: excess(totals.second.number_at(sample), 3 * sites),
-        overlap: excess(agreeing.number_at(sample), sites),
-        first_replica: duo.first.labels[sample as usize],
-        second_replica: duo.second.labels[sample as usize],
+        first_energy: excess(measured.first[sample], 3 * sites),
+        second_energy: excess(measured.second[sample], 3 * sites),
+        overlap: excess(measured.agreeing[sample], sites),
+        first_replica: duo.first.labels[sample],
+        second_replica: duo.second.labels[sample],
     }
 }

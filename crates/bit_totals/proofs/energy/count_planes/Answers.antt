@@ -15,4 +15,3 @@ planes-init c = λ b h.
     let spins = spins_of l b c.args.replica.now.planes in
     let none : 0 * half_plane l ≡ 0 = zero-mul (half_plane l) in
     c.none-tally.ensures b ∙ sym (ap (unsatisfied_from l bonds spins 0) none ∙ from-none l bonds spins 0)
-
