@@ -10,9 +10,8 @@ epoch and with 1, and prints what part of its processor time each of these takes
 
   start     a run of no epoch
   sweeps    by twice as many sweeps an epoch
-  totals    what the other four leave
-  exchange  by runs of one temperature, eight times as long, in which nothing is exchanged
-  report    records and rows: by runs in which no epoch is recorded
+  report    records, rows and the overlaps in them: by runs in which no epoch is recorded
+  exchange  what the other three leave: the sums of bonds, which the exchange asks for, and the exchange
 
   --cpu CPU   x86-64-v2 (as if left out) or x86-64-v3
   --passes N  epochs, 500 if left out
@@ -30,7 +29,6 @@ size=16
 rule=metropolis
 # shellcheck disable=SC2086
 make_tables shares_8 "$rule" $temperatures
-make_tables shares_1 "$rule" 1.1
 
 never=1000000000
 for n in 1 10; do
@@ -38,10 +36,8 @@ for n in 1 10; do
     tables=shares_8 epochs=$passes write_run "share_whole_$n"
     tables=shares_8 epochs=$passes sweeps=$((2 * n)) write_run "share_more_$n"
     tables=shares_8 epochs=$passes every=$never write_run "share_silent_$n"
-    tables=shares_1 epochs=$((8 * passes)) every=$never write_run "share_alone_$n"
 done
 tables=shares_8 epochs=0 sweeps=1 write_run share_start
-tables=shares_1 epochs=0 sweeps=1 write_run share_start_alone
 
 for _ in $(seq "$turns"); do
     for file in "$build"/share_*.toml; do
@@ -57,9 +53,8 @@ done | awk -v cpu="$cpu" '
             start = least["start"]
             sweep = least["more_" sweeps] - whole
             report = whole - least["silent_" sweeps]
-            exchange = (least["silent_" sweeps] - start) - (least["alone_" sweeps] - least["start_alone"])
-            printf "%s, %d sweeps an epoch: %.0f ms; start %.1f %%, sweeps %.1f %%, totals %.1f %%, exchange %.1f %%, report %.1f %%\n",
+            printf "%s, %d sweeps an epoch: %.0f ms; start %.1f %%, sweeps %.1f %%, exchange %.1f %%, report %.1f %%\n",
                 cpu, sweeps, whole, 100 * start / whole, 100 * sweep / whole,
-                100 * (whole - start - sweep - report - exchange) / whole, 100 * exchange / whole, 100 * report / whole
+                100 * (whole - start - sweep - report) / whole, 100 * report / whole
         }
     }'
