@@ -2,6 +2,9 @@
 //! number of passes it prints one line and does no work.
 #![tactic(auto)]
 
+ghost use Rattle.bit_totals.specs.Counted.{HaveOneSize};
+ghost use Rattle.plane_sweep.specs.Packed.{FitsReplica};
+
 mod inputs;
 
 use anyhow::Result;
@@ -9,6 +12,8 @@ use bit_totals::{agreeing, unsatisfied};
 use coupling_set::Couplings;
 use lattice_geometry::Lattice;
 use multispin_word::Planes;
+use plane_sweep::Replica;
+use scalar_rule::Plan;
 use std::env;
 use std::time::Instant;
 
@@ -21,33 +26,48 @@ fn all_planes(total: &Planes<20>) -> u64 {
     all
 }
 
-/// Prints for each function the least nanoseconds of a pass and the planes that it left.
+/// Prints the least nanoseconds of a pass of `unsatisfied` and the planes that it left.
+fn time_unsatisfied(rt: &HostRuntime, replica: &Replica, plan: &Plan, passes: u32) -> Result<()>
+    requires { FitsReplica plan.now.size replica.now }
+{
+    let mut total = Planes::zero();
+    let mut least = u128::MAX;
+    for _ in 0..passes {
+        let start = Instant::now(rt)?;
+        total = unsatisfied(replica, plan);
+        least = least.min(start.elapsed(rt)?.as_nanos());
+    }
+    println!(rt; "unsatisfied {least} {}", all_planes(&total))?;
+    Ok(())
+}
+
+/// The same of `agreeing`.
+fn time_agreeing(rt: &HostRuntime, a: &Replica, b: &Replica, passes: u32) -> Result<()>
+    requires { HaveOneSize a.now b.now }
+{
+    let mut total = Planes::zero();
+    let mut least = u128::MAX;
+    for _ in 0..passes {
+        let start = Instant::now(rt)?;
+        total = agreeing(a, b);
+        least = least.min(start.elapsed(rt)?.as_nanos());
+    }
+    println!(rt; "agreeing {least} {}", all_planes(&total))?;
+    Ok(())
+}
+
+/// Times both functions on random words.
 fn measure(rt: &HostRuntime, lattice: Lattice, passes: u32) -> Result<()> {
     let alloc = rt.alloc();
+    let _ = lattice.size();
     let plan = inputs::plan_of(alloc, lattice, Couplings::plus(alloc, lattice)?)?;
     let mut state = 88172645463325252;
     let first = inputs::random_words(alloc, &lattice, &mut state)?;
     let second = inputs::random_words(alloc, &lattice, &mut state)?;
     let a = inputs::replica_of(alloc, &lattice, first.as_slice())?;
     let b = inputs::replica_of(alloc, &lattice, second.as_slice())?;
-
-    let mut total = Planes::zero();
-    let mut least = u128::MAX;
-    for _ in 0..passes {
-        let start = Instant::now(rt)?;
-        total = unsatisfied(&a, &plan);
-        least = least.min(start.elapsed(rt)?.as_nanos());
-    }
-    println!(rt; "unsatisfied {least} {}", all_planes(&total))?;
-
-    let mut least = u128::MAX;
-    for _ in 0..passes {
-        let start = Instant::now(rt)?;
-        total = agreeing(&a, &b);
-        least = least.min(start.elapsed(rt)?.as_nanos());
-    }
-    println!(rt; "agreeing {least} {}", all_planes(&total))?;
-    Ok(())
+    time_unsatisfied(rt, &a, &plan, passes)?;
+    time_agreeing(rt, &a, &b, passes)
 }
 
 fn main(rt: HostRuntime) -> Result<()> {
