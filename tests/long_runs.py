@@ -246,6 +246,8 @@ def main(words: List[str]) -> int:
         return 0
     seed = int(words.pop(words.index("--seed") + 1)) if "--seed" in words else 1
     words = [word for word in words if word != "--seed"]
+    # A shell that starts this in the background has Ctrl-C ignored, and a driver that is begun so leaves it at that.
+    signal.signal(signal.SIGINT, signal.default_int_handler)
     program, start, failed = program_of(words), time.monotonic(), 0
     with tempfile.TemporaryDirectory() as room:
         run = OneRun(program, Path(room))
