@@ -1,7 +1,7 @@
 //! A small number of each of 64 samples, in bit planes.
 
-ghost use Rattle.std.specs.Prelude.{◌≡◌, ℕ, ◌*◌, ◌^◌, ◌<◌, ◌≤◌, ◌==◌, false, slice_index};
-ghost use Rattle.multispin_word.specs.Planes.{number, one_if};
+ghost use Rattle.std.specs.Prelude.{◌≡◌, ℕ, ◌+◌, ◌*◌, ◌^◌, ◌<◌, ◌≤◌, ◌==◌, false, slice_index};
+ghost use Rattle.multispin_word.specs.Planes.{number, is_set, one_if};
 
 use crate::word::{bit, with_bit};
 
@@ -56,9 +56,28 @@ impl<const W: usize> Planes<W> {
         requires { W ≤ 20 }
         ensures { (b : ℕ) → b < 64 → slice_index out.new b ≡ number self.now.words b }
     {
-        'samples: for b in 0..64 {
-            out[b] = self.number_at(b as u32);
+        *out = [0u32; 64];
+        // A plane that no sample has set is passed over: the high ones of a small lattice are none's.
+        'planes: for w in 0..W {
+            let word = self.words[w];
+            if word != 0 {
+                add_worths(out, word, w);
+            }
         }
+    }
+}
+
+/// Adds a plane's worth to the number of each sample that has it set. Goes plane by plane, not sample
+/// by sample, so that several samples fit a vector.
+#[inline]
+fn add_worths(out: &mut [u32; 64], word: u64, plane: usize)
+    requires plane { plane < 20 }
+    requires room { (b : ℕ) → b < 64 → slice_index out.old b < 2 ^ plane }
+    ensures { (b : ℕ) → b < 64
+        → slice_index out.new b ≡ slice_index out.old b + 2 ^ plane * one_if (is_set word b) }
+{
+    'samples: for b in 0..64 {
+        out[b] += worth(bit(word, b as u32), plane);
     }
 }
 
