@@ -237,10 +237,18 @@ pub from-none : (l : ℕ) (bonds : Bonds) (spins : List Bool) (c : ℕ) → unsa
 unfolding unsatisfied_from sum_below
 from-none l bonds spins c = refl
 
--- a count of the bonds of all sites of colour 0 is U, and far below what twenty bits hold
-pub counted-all : (l : ℕ) (bonds : Bonds) (spins : List Bool) (n : ℕ) → IsLawfulSize l → n ≡ unsatisfied_from l bonds spins 0 (l * half_plane l)
+-- a count of the bonds of all sites of a colour is U, and far below what twenty bits hold
+counted-of : (l : ℕ) (bonds : Bonds) (spins : List Bool) (c n : ℕ) → IsLawfulSize l → c < 2 → n ≡ unsatisfied_from l bonds spins c (l * half_plane l)
     → (n ≡ unsatisfied l bonds spins) × (n ≤ bond_count l) × (n < 2 ^ 20)
-counted-all l bonds spins n lawful counted =
-    let is = counted ∙ all-bonds l bonds spins 0 lawful (omega arith) in
+counted-of l bonds spins c n lawful chosen counted =
+    let is = counted ∙ all-bonds l bonds spins c lawful chosen in
     let most = count-most (is_unsatisfied l bonds spins) (bond_count l) in
     (is, omega (arith, is, most), omega (arith, is, most, volume-bound l lawful))
+
+pub counted-all : (l : ℕ) (bonds : Bonds) (spins : List Bool) (n : ℕ) → IsLawfulSize l → n ≡ unsatisfied_from l bonds spins 0 (l * half_plane l)
+    → (n ≡ unsatisfied l bonds spins) × (n ≤ bond_count l) × (n < 2 ^ 20)
+counted-all l bonds spins n lawful counted = counted-of l bonds spins 0 n lawful (omega arith) counted
+
+pub counted-behind : (l : ℕ) (bonds : Bonds) (spins : List Bool) (n : ℕ) → IsLawfulSize l → n ≡ unsatisfied_from l bonds spins 1 (l * half_plane l)
+    → (n ≡ unsatisfied l bonds spins) × (n ≤ bond_count l) × (n < 2 ^ 20)
+counted-behind l bonds spins n lawful counted = counted-of l bonds spins 1 n lawful (omega arith) counted

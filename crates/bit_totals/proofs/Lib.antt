@@ -7,3 +7,4 @@ pub mod RowCounts
 pub mod PlaneBonds
 pub mod SweptPairs
 pub mod LastSweep
+pub mod DuoCounts

@@ -44,6 +44,11 @@ unfoldable pub planes_count : CouplingsView → List Plane → ℕ → List Plan
 planes_count couplings other c own b n =
     sum_below (λ z. plane_count couplings other c z (plane_at own z).words b (half_plane couplings.size)) n
 
+-- and those of the n planes of colour 1 from plane 1 on
+unfoldable pub behind_count : CouplingsView → List Plane → List Plane → ℕ → ℕ → ℕ
+behind_count couplings other own b n =
+    sum_below (λ k. plane_count couplings other 1 (1 + k) (plane_at own (1 + k)).words b (half_plane couplings.size)) n
+
 -- what the words of a count add up to in sample b
 abbrev pub counted_lanes : BondCounts → ℕ → ℕ
 counted_lanes counts b = set_lanes counts.ones b + set_lanes counts.more_ones b + 2 * (set_lanes counts.twos b + set_lanes counts.more_twos b)

@@ -86,6 +86,9 @@ fn sweep_words_counted(
         24 => sweep_sized::<24>(counts, own, other, sites, draws),
         32 => sweep_sized::<32>(counts, own, other, sites, draws),
         40 => sweep_sized::<40>(counts, own, other, sites, draws),
+        48 => sweep_sized::<48>(counts, own, other, sites, draws),
+        56 => sweep_sized::<56>(counts, own, other, sites, draws),
+        64 => sweep_sized::<64>(counts, own, other, sites, draws),
         _ => sweep_then_count(counts, own, other, sites, draws),
     }
 }

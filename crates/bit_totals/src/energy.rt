@@ -30,8 +30,9 @@ pub fn unsatisfied(replica: &Replica, plan: &Plan) -> Planes<20>
     count_planes(replica, plan).total()
 }
 
-/// The same of both replicas of a slot, plane by plane in turn: a plane's couplings are then read from
-/// afar once for both. Takes no memory.
+/// U of each disorder sample, the number of bonds with J s s' = -1, of 3V, in each of both replicas of a
+/// slot: plane by plane in turn, so that a plane's couplings are read from afar once for both. Takes no
+/// memory.
 pub fn unsatisfied_duo(duo: &Duo, plan: &Plan) -> (Planes<20>, Planes<20>)
     requires { FitsDuo plan.now.size duo.now }
     ensures first { (b : ℕ) → b < 64 → number result.0.words b

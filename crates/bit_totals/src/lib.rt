@@ -1,6 +1,7 @@
 //! The energy and the overlap of 64 disorder samples: their unsatisfied bonds and agreeing sites.
 #![tactic(auto)]
 
+pub use duo_sweep::sweep_duo_and_count;
 pub use energy::{unsatisfied, unsatisfied_duo};
 pub use last_sweep::sweep_and_count;
 pub use overlap::{agreeing, words_of};
@@ -8,6 +9,7 @@ pub use tally::Tally;
 
 mod bonds;
 mod counted_rows;
+mod duo_sweep;
 mod energy;
 mod lanes;
 mod last_sweep;

@@ -1,11 +1,11 @@
 //! Sums at the greatest size, and against the scalar calls at a size whose rows are shorter than a
-//! vector; a sweep that counts against a sweep and a count.
+//! vector; a sweep that counts against a sweep and a count; sums of both replicas against those of each.
 
 ghost use Rattle.std.specs.Prelude.{◌≡◌, ◌<◌, length, IfOk, vec_len};
 ghost use Rattle.plane_sweep.specs.Packed.{FitsPlane, FitsReplica, StandFits};
 ghost use Rattle.spin_model.specs.Lattice.{volume, half_plane};
 
-use crate::{agreeing, sweep_and_count, unsatisfied};
+use crate::{agreeing, sweep_and_count, sweep_duo_and_count, unsatisfied, unsatisfied_duo};
 use coupling_set::Couplings;
 use lattice_geometry::Lattice;
 use multispin_word::{Planes, bit};
@@ -194,18 +194,54 @@ fn sweep_then_count<R: Threads + Sync>(rt: &R, stand: &mut Stand, plan: &Plan) -
     unsatisfied(replica, plan)
 }
 
+// A sweep of both replicas, and U of each after it, by one call.
+fn counted_duo_sweep(stand: &mut Stand, plan: &Plan) -> (Planes<20>, Planes<20>)
+    requires { StandFits plan.now stand.old }
+{
+    let _ = plan.slots();
+    sweep_duo_and_count(stand.slots.at_mut(0), plan, 0)
+}
+
+// The same replica by replica.
+fn sweep_then_count_each<R: Threads + Sync>(
+    rt: &R,
+    stand: &mut Stand,
+    plan: &Plan,
+) -> (Planes<20>, Planes<20>)
+    requires { StandFits plan.now stand.old }
+{
+    let _ = plan.slots();
+    let duo = stand.slots.at_mut(0);
+    sweep(rt, &mut duo.first, plan, 0, 1);
+    sweep(rt, &mut duo.second, plan, 0, 1);
+    (
+        unsatisfied(&duo.first, plan),
+        unsatisfied(&duo.second, plan),
+    )
+}
+
+// U of both replicas as they stand, by one call.
+fn counted_duo(stand: &Stand, plan: &Plan) -> (Planes<20>, Planes<20>)
+    requires { StandFits plan.now stand.now }
+{
+    let _ = plan.slots();
+    unsatisfied_duo(stand.slots.at(0), plan)
+}
+
+fn same_totals(a: &(Planes<20>, Planes<20>), b: &(Planes<20>, Planes<20>)) -> bool {
+    a.0.words == b.0.words && a.1.words == b.1.words
+}
+
 fn same_words(a: &Stand, b: &Stand) -> bool {
     let (Some(a), Some(b)) = (a.slots.as_slice().first(), b.slots.as_slice().first()) else {
         return false;
     };
+    same_planes(&a.first, &b.first) && same_planes(&a.second, &b.second)
+}
+
+fn same_planes(a: &Replica, b: &Replica) -> bool {
     let mut same = true;
-    for (here, there) in a
-        .first
-        .planes
-        .as_slice()
-        .iter()
-        .zip(b.first.planes.as_slice())
-    {
+    for (here, there) in a.planes.as_slice().iter().zip(b.planes.as_slice()) {
         same = same && here.words.as_slice() == there.words.as_slice();
     }
     same
@@ -229,6 +265,25 @@ fn a_sweep_that_counts_equals_a_sweep_and_a_count(rt: HostRuntime) -> Result<(),
                     "sample {sample}"
                 );
             }
+        }
+    }
+    Ok(())
+}
+
+#[test]
+fn sums_of_both_replicas_are_those_of_each(rt: HostRuntime) -> Result<(), Fail> {
+    let alloc = rt.alloc();
+    for size in [6, 8, 48] {
+        for kind in [RuleKind::Heat, RuleKind::Metropolis] {
+            let plan = random_plan(alloc, Lattice::of(size)?, kind)?;
+            let mut together = Stand::opening(alloc, &plan, Start::Random)?;
+            let mut apart = Stand::opening(alloc, &plan, Start::Random)?;
+            let counted = counted_duo_sweep(&mut together, &plan);
+            let energies = sweep_then_count_each(&rt, &mut apart, &plan);
+            let same = same_words(&together, &apart)
+                && same_totals(&counted, &energies)
+                && same_totals(&counted_duo(&apart, &plan), &energies);
+            assert!(rt; same, "size {size}");
         }
     }
     Ok(())

@@ -24,7 +24,7 @@ pub record IsSameAround (l z : ℕ) (other other' : List Plane) : Type 0 where
   pub above : plane_at other (next l z) ≡ plane_at other' (next l z)
   pub below : plane_at other (previous l z) ≡ plane_at other' (previous l z)
 
-pulls-around : (couplings : CouplingsView) (c z y k : ℕ) (other other' : List Plane) → IsSameAround couplings.size z other other' → pulls couplings other c z y k ≡ pulls couplings other' c z y k
+pub pulls-around : (couplings : CouplingsView) (c z y k : ℕ) (other other' : List Plane) → IsSameAround couplings.size z other other' → pulls couplings other c z y k ≡ pulls couplings other' c z y k
 unfolding pulls
 pulls-around couplings c z y k other other' same = rw (same.here, same.above, same.below) refl
 

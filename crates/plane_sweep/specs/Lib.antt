@@ -6,9 +6,10 @@ pub mod StartingStates
 pub mod Laws
 pub mod Sharing
 pub mod Beginnings
--- what the steps inside say, of a stored sample and of both replicas: for proofs alone
+-- what the steps inside say, of a stored sample: for proofs alone
 pub mod Storing
+-- what a plane's rows and their neighbours are, and a step of the sweep of both replicas, which the calls for other
+-- crates' kernels say too
 pub mod DuoSweep
--- what a plane's rows and their neighbours are, which the calls for other crates' kernels say too
 pub mod Neighbourhood
 pub mod PlaneSweep

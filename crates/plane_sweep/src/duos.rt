@@ -131,8 +131,10 @@ fn sweep_following(
     sweep_behind(first, second, dynamics, draws, 0);
 }
 
-// Plane z of colour 0 in both replicas.
-fn sweep_ahead(
+/// Sweeps plane `z` of colour 0 in both replicas of a slot, a row of the one and a row of the other by
+/// turns. Each list has the 2L planes of a replica, those of colour 0 ahead; `draws` is the room for a
+/// draw for each site of both planes.
+pub fn sweep_ahead(
     first: &mut [Plane],
     second: &mut [Plane],
     dynamics: &Dynamics,

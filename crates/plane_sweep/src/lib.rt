@@ -23,7 +23,7 @@ mod tests;
 mod uneven;
 
 pub use cells::{Cell, cell_at, deepest, has_record, shallowest};
-pub use duos::sweep_duo_often;
+pub use duos::{sweep_ahead, sweep_duo_often};
 pub use dynamics::{Dynamics, HalfPlane};
 pub use lanes::{pulls_of_four, update_four};
 pub use laws::{
@@ -34,5 +34,5 @@ pub use replica::{Duo, Plane, Replica};
 pub use rows::{Row, first_row, is_in_order, kind_of, pulls_of, row_behind, sweep_words};
 pub use stand::{PairWheels, Stand};
 pub use surroundings::{Surroundings, lend};
-pub use sweeping::{sweep, sweep_often, sweep_plane};
+pub use sweeping::{LEAST_FORKED, sweep, sweep_often, sweep_plane};
 pub use uneven::{Place, RaggedStand, record_in_range};

@@ -17,8 +17,9 @@ use std::thread;
 use std::thread::Threads;
 use threshold_table::SlotRule;
 
-/// The least size whose planes are swept by threads: a smaller lattice is done sooner than they start.
-pub(crate) const LEAST_FORKED: usize = 48;
+/// The least size whose planes are cut in pieces, which threads sweep: a smaller lattice is done sooner than
+/// they start.
+pub const LEAST_FORKED: usize = 48;
 
 /// A sweep of one replica of a temperature slot, in all 64 samples at once: the half sweep of colour
 /// 0, then that of colour 1, which sees the new spins of colour 0. The planes of a colour are cut into
