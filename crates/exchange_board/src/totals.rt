@@ -5,11 +5,13 @@ ghost use Rattle.exchange_board.specs.Totals.{AreSums, AreTotals, CountsAgreeing
 ghost use Rattle.multispin_word.specs.Planes.{number};
 ghost use Rattle.plane_sweep.specs.Packed.{part_copy, part_slot, FitsDuo, FitsReplica};
 ghost use Rattle.scalar_rule.specs.Epoch as model;
-ghost use Rattle.scalar_rule.specs.Plan.{slots_of};
+ghost use Rattle.scalar_rule.specs.Plan.{dynamics_of, slots_of};
+ghost use Rattle.scalar_rule.specs.Replica.{configuration_of, with_configuration};
+ghost use Rattle.scalar_rule.specs.Sweep.{sweep};
 
-use bit_totals::{agreeing, sweep_and_count, unsatisfied_duo};
+use bit_totals::{agreeing, sweep_and_count, sweep_duo_and_count, unsatisfied_duo};
 use multispin_word::Planes;
-use plane_sweep::{Duo, sweep_duo_often};
+use plane_sweep::{Duo, LEAST_FORKED, sweep_duo_often};
 use scalar_rule::{Plan, Record, excess};
 use std::thread::Threads;
 
@@ -140,9 +142,9 @@ fn sweep_and_total<R: Threads + Sync>(
     ensures fits { FitsDuo plan.now.size duo.new }
     ensures totals { AreTotals plan.now duo.new result }
 {
-    let size = plan.lattice().size();
-    // Where `sweep_and_count` has code of its own, and the two replicas don't go in turn.
-    if pieces == 1 && size % 8 == 0 && size < 48 {
+    let size = plan.lattice().size() as usize;
+    // Where a sweep that counts has code of its own, and no planes are cut in pieces.
+    if size % 8 == 0 && (size < LEAST_FORKED || pieces == 1) {
         total_in_last_sweep(rt, duo, plan, slot)
     } else {
         sweep_slot(rt, duo, plan, slot, pieces);
@@ -150,7 +152,7 @@ fn sweep_and_total<R: Threads + Sync>(
     }
 }
 
-// The same in one piece: the last sweep counts the bonds.
+// The same in one run of planes: the last sweep counts the bonds.
 #[tactic(auto, unfolding(scalar_rule::specs::Epoch::swept_slot))]
 fn total_in_last_sweep<R: Threads + Sync>(rt: &R, duo: &mut Duo, plan: &Plan, slot: u32) -> Totals
     requires duo { FitsDuo plan.now.size duo.old }
@@ -163,9 +165,31 @@ fn total_in_last_sweep<R: Threads + Sync>(rt: &R, duo: &mut Duo, plan: &Plan, sl
     let _ = plan.lattice();
     let before = plan.sweeps() - 1;
     sweep_duo_often(rt, duo, plan, slot, 1, before);
-    let first = sweep_and_count(&mut duo.first, plan, slot);
-    let second = sweep_and_count(&mut duo.second, plan, slot);
-    Totals { first, second }
+    sweep_counting(duo, plan, slot)
+}
+
+// A sweep of both replicas that counts their bonds: of a large lattice in turn, since both read the same
+// couplings.
+fn sweep_counting(duo: &mut Duo, plan: &Plan, slot: u32) -> Totals
+    requires duo { FitsDuo plan.now.size duo.old }
+    requires slot { slot < slots_of plan.now }
+    ensures first { (b : ℕ) → b < 64 → part_copy plan.now.size b duo.new.first
+        ≡ with_configuration (part_copy plan.now.size b duo.old.first)
+        (sweep (dynamics_of plan.now b slot) (configuration_of (part_copy plan.now.size b duo.old.first))) }
+    ensures second { (b : ℕ) → b < 64 → part_copy plan.now.size b duo.new.second
+        ≡ with_configuration (part_copy plan.now.size b duo.old.second)
+        (sweep (dynamics_of plan.now b slot) (configuration_of (part_copy plan.now.size b duo.old.second))) }
+    ensures fits { FitsDuo plan.now.size duo.new }
+    ensures totals { AreTotals plan.now duo.new result }
+{
+    if (plan.lattice().size() as usize) < LEAST_FORKED {
+        let first = sweep_and_count(&mut duo.first, plan, slot);
+        let second = sweep_and_count(&mut duo.second, plan, slot);
+        Totals { first, second }
+    } else {
+        let (first, second) = sweep_duo_and_count(duo, plan, slot);
+        Totals { first, second }
+    }
 }
 
 // The sweeps of an epoch of both replicas of a slot.
