@@ -105,11 +105,11 @@ parts-joined bytes m z t behind p =
 -- ---- bytes and bits
 
 -- a byte of a sample that the file has
-byte_at-held : (l : ℕ) (bytes : List ℕ) (b k : ℕ) → b < samples_in bytes → byte_at l bytes b k ≡ get_or bytes (16 + b * sample_bytes l + k) 0
+pub byte_at-held : (l : ℕ) (bytes : List ℕ) (b k : ℕ) → b < samples_in bytes → byte_at l bytes b k ≡ get_or bytes (16 + b * sample_bytes l + k) 0
 unfolding byte_at
 byte_at-held l bytes b k held = rw (lt-ltb b (samples_in bytes) held) refl
 
-byte_at-absent : (l : ℕ) (bytes : List ℕ) (b k : ℕ) → samples_in bytes ≤ b → byte_at l bytes b k ≡ 0
+pub byte_at-absent : (l : ℕ) (bytes : List ℕ) (b k : ℕ) → samples_in bytes ≤ b → byte_at l bytes b k ≡ 0
 unfolding byte_at
 byte_at-absent l bytes b k absent = rw (le-ltb b (samples_in bytes) absent) refl
 
