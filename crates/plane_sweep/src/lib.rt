@@ -18,8 +18,6 @@ mod stand;
 mod storing;
 mod surroundings;
 mod sweeping;
-#[cfg(test)]
-mod tests;
 mod uneven;
 
 pub use cells::{Cell, cell_at, deepest, has_record, shallowest};
