@@ -13,8 +13,6 @@ mod opening;
 mod origin;
 mod room;
 mod rows;
-#[cfg(test)]
-mod tests;
 mod totals;
 mod trading;
 

@@ -4,11 +4,11 @@ ghost use Rattle.std.specs.Prelude.{◌≡◌, ◌<◌, ◌≤◌, IfOk};
 ghost use Rattle.std.specs.Arc.{arc_value};
 ghost use Rattle.scalar_rule.specs.Plan.{slots_of};
 
-use super::boards::{
-    Order, Pause, bring, count, end_of, finish, holds, job_of, opening, pause_of, record,
-    three_slots, two_slots,
+use crate::boards::{
+    Order, Pause, bring, end_of, finish, holds, job_of, opening, pause_of, record, three_slots,
+    two_slots,
 };
-use crate::{Arrival, Board, Job, Window};
+use exchange_board::{Arrival, Board, Job, Window};
 use scalar_rule::{Plan, Record, Start};
 use std::alloc::Global;
 use std::process::Abort;
@@ -164,7 +164,7 @@ fn last_slot<R: Abort + Threads + Sync>(rt: &R, board: &mut Board, plan: &Plan, 
     ensures { board.new.origin ≡ board.old.origin }
 {
     comes_back(rt, board, plan, last, Arrival::Alone);
-    assert!(rt; count(board) == 3);
+    assert!(rt; board.slots() == 3);
     let first_two = board.progress(0) == 10 && board.progress(1) == 6;
     holds(rt, "the progress", 0, first_two && board.progress(2) == 4);
     let again = next_is(rt, board, 2, 1);
@@ -247,8 +247,8 @@ fn in_work<R: Abort + Threads + Sync>(rt: &R, board: Board, plan: &Plan, jobs: (
 fn ends_with(board: Board, plan: &Plan, rows: &[Record], epoch: u64) -> Result<(), Fail>
     requires { plan.now ≡ arc_value board.origin.plan }
 {
-    let (stand, records) = end_of(board, plan)?;
-    if records.as_slice() == rows && stand.epoch == epoch {
+    let end = end_of(board, plan)?;
+    if end.records() == rows && end.stand().epoch == epoch {
         return Ok(());
     }
     Err("other records or another epoch".into())

@@ -6,9 +6,9 @@ ghost use Rattle.plane_sweep.specs.Packed.{StandFits};
 ghost use Rattle.scalar_rule.specs.Plan.{slots_of};
 ghost use Rattle.scalar_rule.specs.Shape.{Fits};
 
-use super::boards::{Order, end_of, finish, holds, opening, random_slots, record};
-use super::sameness::{same_sample, same_stand};
-use crate::{Board, Window};
+use crate::boards::{Order, end_of, finish, holds, opening, random_slots, record};
+use crate::sameness::{same_sample, same_stand};
+use exchange_board::{Board, Ended, Window};
 use plane_sweep::Stand;
 use scalar_rule::{Plan, Record, Sample, Start};
 use std::alloc::Global;
@@ -38,24 +38,11 @@ fn has_rows(records: &[Record], place: usize, rows: &[Record]) -> bool
     place + 3 <= records.len() && &records[place..place + 3] == rows
 }
 
-// The state and the records that a board ends with.
-#[derive(Clone, Copy)]
-struct Outcome<'a> {
-    end: &'a Stand,
-    records: &'a [Record],
-}
-
 // Whether a sample alone goes to the state and the records of a board at epoch 4, where epochs 1 and
 // 3 of all samples are recorded.
-fn agrees(
-    alloc: Global,
-    plan: &Plan,
-    start: &Stand,
-    outcome: &Outcome,
-    bit: u32,
-) -> Result<bool, Fail>
+fn agrees(alloc: Global, plan: &Plan, start: &Stand, end: &Ended, bit: u32) -> Result<bool, Fail>
     requires start { StandFits plan.now start.now }
-    requires end { StandFits plan.now outcome.now.end.now }
+    requires end { StandFits plan.now end.now.stand }
     requires bit { bit < 64 }
 {
     let mut sample = start.sample(alloc, plan, bit)?;
@@ -64,10 +51,10 @@ fn agrees(
     }
     let mut rows = vec![in alloc; record(0, 0); plan.slots() as usize]?;
     two_epochs(&mut sample, plan, rows.as_mut_slice());
-    let early = has_rows(outcome.records, bit as usize * 3, rows.as_slice());
+    let early = has_rows(end.records(), bit as usize * 3, rows.as_slice());
     two_epochs(&mut sample, plan, rows.as_mut_slice());
-    let late = has_rows(outcome.records, (64 + bit) as usize * 3, rows.as_slice());
-    let part = outcome.end.sample(alloc, plan, bit)?;
+    let late = has_rows(end.records(), (64 + bit) as usize * 3, rows.as_slice());
+    let part = end.stand().sample(alloc, plan, bit)?;
     Ok(early && late && same_sample(&part, &sample))
 }
 
@@ -78,11 +65,11 @@ fn worked<R: Abort + Threads + Sync>(
     plan: &Arc<Plan, Global>,
     start: &Stand,
     order: Order,
-) -> Result<(Stand, Vec<Record>), Fail>
+) -> Result<Ended, Fail>
     requires slots { slots_of (arc_value plan.now) ≡ 3 }
     requires start { StandFits (arc_value plan.now) start.now }
     requires begun { start.now.epoch ≡ 0 }
-    ensures { IfOk result (λ end. StandFits (arc_value plan.now) end.0) }
+    ensures { IfOk result (λ end. StandFits (arc_value plan.now) end.stand) }
 {
     let window = Window {
         until: 4,
@@ -101,15 +88,15 @@ fn order_agrees<R: Abort + Threads + Sync>(
     alloc: Global,
     plan: &Arc<Plan, Global>,
     start: &Stand,
-    outcome: &Outcome,
+    end: &Ended,
     order: Order,
 ) -> Result<(), Fail>
     requires slots { slots_of (arc_value plan.now) ≡ 3 }
     requires start { StandFits (arc_value plan.now) start.now }
     requires begun { start.now.epoch ≡ 0 }
 {
-    let (other, rows) = worked(rt, alloc, plan, start, order)?;
-    let same = same_stand(outcome.end, &other) && rows.as_slice() == outcome.records;
+    let other = worked(rt, alloc, plan, start, order)?;
+    let same = same_stand(end.stand(), other.stand()) && other.records() == end.records();
     holds(rt, "another order ends otherwise", 0, same);
     Ok(())
 }
@@ -120,13 +107,13 @@ fn samples_agree<R: Abort>(
     alloc: Global,
     plan: &Plan,
     start: &Stand,
-    outcome: &Outcome,
+    end: &Ended,
 ) -> Result<(), Fail>
     requires start { StandFits plan.now start.now }
-    requires end { StandFits plan.now outcome.now.end.now }
+    requires end { StandFits plan.now end.now.stand }
 {
     for bit in 0..64 {
-        let same = agrees(alloc, plan, start, outcome, bit)?;
+        let same = agrees(alloc, plan, start, end, bit)?;
         holds(rt, "a sample alone ends otherwise:", bit as u64, same);
     }
     Ok(())
@@ -139,16 +126,12 @@ fn orders_agree<R: Abort + Threads + Sync>(
 ) -> Result<(), Fail> {
     let plan = random_slots(alloc, 6, kind)?;
     let start = opening(alloc, &plan, Start::Random)?;
-    let (end, records) = worked(rt, alloc, &plan, &start, Order::OneByOne)?;
-    let outcome = Outcome {
-        end: &end,
-        records: records.as_slice(),
-    };
+    let end = worked(rt, alloc, &plan, &start, Order::OneByOne)?;
     for order in [Order::FirstBackFirst, Order::LastBackFirst] {
-        order_agrees(rt, alloc, &plan, &start, &outcome, order)?;
+        order_agrees(rt, alloc, &plan, &start, &end, order)?;
     }
-    holds(rt, "384 records", 0, records.len() == 384);
-    samples_agree(rt, alloc, &plan, &start, &outcome)
+    holds(rt, "384 records", 0, end.records().len() == 384);
+    samples_agree(rt, alloc, &plan, &start, &end)
 }
 
 #[test]

@@ -1,13 +1,13 @@
 //! Plans, boards, and ways to work on them.
 
-ghost use Rattle.std.specs.Prelude.{◌≡◌, ◌+◌, ◌*◌, ◌<◌, ◌≤◌, length, IfOk};
+ghost use Rattle.std.specs.Prelude.{◌≡◌, ◌+◌, ◌*◌, ◌<◌, ◌≤◌, IfOk};
 ghost use Rattle.std.specs.Arc.{arc_value};
 ghost use Rattle.exchange_board.specs.declared.board.Next.TheVariants as nexts;
 ghost use Rattle.plane_sweep.specs.Packed.{StandFits};
 ghost use Rattle.scalar_rule.specs.Plan.{slots_of};
 
-use crate::{Arrival, Board, Ended, Job, Next};
 use coupling_set::Couplings;
+use exchange_board::{Arrival, Board, Ended, Job, Next};
 use lattice_geometry::Lattice;
 use plane_sweep::Stand;
 use scalar_rule::{Plan, Record, Start};
@@ -190,13 +190,6 @@ pub(super) fn job_of<R: Abort>(rt: &R, next: Next) -> Job
     }
 }
 
-// The number of slots.
-pub(super) fn count(board: &Board) -> u32
-    ensures { result ≡ length board.now.places }
-{
-    board.slots.len() as u32
-}
-
 // A slot is swept and handed back.
 pub(super) fn bring<R: Abort + Threads + Sync>(
     rt: &R,
@@ -209,7 +202,7 @@ pub(super) fn bring<R: Abort + Threads + Sync>(
     ensures { board.new.origin ≡ board.old.origin }
 {
     let (slot, epoch) = (job.slot(), job.epoch());
-    assert!(rt; slot < count(board));
+    assert!(rt; slot < board.slots());
     assert!(rt; epoch < 1000);
     assert!(rt; board.progress(slot) == 4 * epoch + 1);
     let swept = job.sweep(rt, plan, 1);
@@ -311,20 +304,13 @@ pub(super) fn finish<R: Abort + Threads + Sync>(
     holds(rt, "a board is not finished", 0, pause == Pause::Finished);
 }
 
-// The state of a board at its end, and its records.
-pub(super) fn end_of(board: Board, plan: &Plan) -> Result<(Stand, Vec<Record>), Fail>
+// What a board ends with.
+pub(super) fn end_of(board: Board, plan: &Plan) -> Result<Ended, Fail>
     requires { plan.now ≡ arc_value board.origin.plan }
-    ensures { IfOk result (λ end. StandFits plan.now end.0) }
+    ensures { IfOk result (λ end. StandFits plan.now end.stand) }
 {
     match board.into_stand() {
-        Ok(ended) => {
-            let Ended {
-                origin: _,
-                stand,
-                records,
-            } = ended;
-            Ok((stand, records.into_vec()))
-        }
+        Ok(end) => Ok(end),
         Err(_) => Err("not at its end".into()),
     }
 }

@@ -7,9 +7,9 @@ ghost use Rattle.plane_sweep.specs.Uneven.{positions_of, RaggedStandFits};
 ghost use Rattle.scalar_rule.specs.Plan.{slots_of};
 ghost use Rattle.scalar_rule.specs.Positions.{deepest_of};
 
-use super::boards::{Order, Pause, end_of, finish, holds, opening, random_slots, work};
-use super::sameness::same_stand;
-use crate::{Board, RaggedEnded, Window};
+use crate::boards::{Order, Pause, end_of, finish, holds, opening, random_slots, work};
+use crate::sameness::same_stand;
+use exchange_board::{Board, Ended, RaggedEnded, Window};
 use plane_sweep::{RaggedStand, Stand};
 use scalar_rule::{Plan, Record, Start};
 use std::alloc::Global;
@@ -73,7 +73,7 @@ fn resumed<R: Abort + Threads + Sync>(
     alloc: Global,
     plan: &Arc<Plan, Global>,
     base: RaggedStand,
-) -> Result<(Stand, Vec<Record>), Fail>
+) -> Result<Ended, Fail>
     requires slots { slots_of (arc_value plan.now) ≡ 3 }
     requires fits { RaggedStandFits (arc_value plan.now) 3 2 base }
     requires reach { deepest_of (positions_of base) ≤ 4 }
@@ -89,7 +89,7 @@ fn goes_on<R: Abort + Threads + Sync>(
     alloc: Global,
     plan: &Arc<Plan, Global>,
     start: &Stand,
-    whole: &(Stand, Vec<Record>),
+    whole: &Ended,
     takes: u64,
 ) -> Result<(), Fail>
     requires slots { slots_of (arc_value plan.now) ≡ 3 }
@@ -98,10 +98,9 @@ fn goes_on<R: Abort + Threads + Sync>(
     requires takes { takes ≤ 1000 }
 {
     let stop = stopped(rt, alloc, plan, start, takes)?;
-    let (stand, rest) = resumed(rt, alloc, plan, stop.stand().copy(alloc)?)?;
-    let (end, all) = whole;
-    let same = same_stand(&stand, end);
-    let joined = are_joined(all.as_slice(), stop.records(), rest.as_slice());
+    let end = resumed(rt, alloc, plan, stop.stand().copy(alloc)?)?;
+    let same = same_stand(end.stand(), whole.stand());
+    let joined = are_joined(whole.records(), stop.records(), end.records());
     holds(rt, "the end after hand-outs:", takes, same && joined);
     Ok(())
 }
@@ -112,7 +111,7 @@ fn unstopped<R: Abort + Threads + Sync>(
     alloc: Global,
     plan: &Arc<Plan, Global>,
     start: &Stand,
-) -> Result<(Stand, Vec<Record>), Fail>
+) -> Result<Ended, Fail>
     requires slots { slots_of (arc_value plan.now) ≡ 3 }
     requires start { StandFits (arc_value plan.now) start.now }
     requires begun { start.now.epoch ≡ 0 }
@@ -128,7 +127,7 @@ fn a_stopped_board_goes_on_as_one_that_was_not_stopped(rt: HostRuntime) -> Resul
     let plan = random_slots(alloc, 4, RuleKind::Heat)?;
     let start = opening(alloc, &plan, Start::Random)?;
     let whole = unstopped(&rt, alloc, &plan, &start)?;
-    holds(&rt, "18 records", 0, whole.1.len() == 18);
+    holds(&rt, "18 records", 0, whole.records().len() == 18);
     for takes in 0..14 {
         goes_on(&rt, alloc, &plan, &start, &whole, takes)?;
     }
