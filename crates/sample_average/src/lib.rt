@@ -27,6 +27,3 @@ pub use refused::ReportRefused;
 pub use row::Row;
 pub use sums::Sums;
 pub use text::write_averages;
-
-#[cfg(test)]
-mod tests;
