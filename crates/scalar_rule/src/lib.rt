@@ -15,8 +15,6 @@ mod sample;
 mod spin_rule;
 mod sums;
 mod sweeps;
-#[cfg(test)]
-mod tests;
 
 pub use bonds::{Bonds, Ferromagnet};
 pub use exchange::is_swapped;

@@ -1,6 +1,6 @@
 use Rattle.std.proofs.Common.{◌≡◌}
 use Rattle.scalar_rule.specs.Shape.{Fits}
-use Rattle.scalar_rule.proofs.tests.run.Given as goal
+use Rattle.scalar_rule_tests.proofs.runs.run.Given as goal
 
 abbrev pub invariant-epochs : goal.invariant-epochs
 invariant-epochs l = record {

@@ -4,32 +4,19 @@ ghost use Rattle.std.specs.Prelude.{◌≡◌, ◌<◌, length};
 ghost use Rattle.scalar_rule.specs.Plan.{slots_of};
 ghost use Rattle.scalar_rule.specs.Shape.{Fits};
 
-use crate::{PlainCopy, Plan, Record, Sample, Start};
-use coupling_set::Couplings;
-use lattice_geometry::Lattice;
-use pr_generator::Wheel;
+use crate::comparing::same;
+use crate::plans::{DOWN, plan_of};
+use scalar_rule::{Plan, Record, Sample, Start};
 use std::alloc::Global;
 use std::process::Abort;
 use std::test::Fail;
-use threshold_table::{RuleKind, read_rule, read_swap};
-
-// Heat bath that makes every spin -1, as a record of a rule table.
-const DOWN: &str = "0,0,0,0,0,0,0\n";
+use threshold_table::RuleKind;
 
 // Heat bath that keeps every spin +1.
 const UP: &str = "0,0,0,0,0,0,4294967296\n";
 
 // Heat bath against the field: every bond ends unsatisfied.
 const AGAINST: &str = "4294967296,4294967296,4294967296,0,0,0,0\n";
-
-// One record of the texts after the other.
-fn records_of(alloc: Global, texts: &[&str]) -> Result<String, Fail> {
-    let mut whole = String::new(alloc);
-    for text in texts {
-        whole.push_str(text)?;
-    }
-    Ok(whole)
-}
 
 // A swap table's record of so many entries at which a pair always swaps, and one more.
 fn always(alloc: Global, more: u32) -> Result<String, Fail> {
@@ -39,19 +26,6 @@ fn always(alloc: Global, more: u32) -> Result<String, Fail> {
     }
     text.push_str("\n")?;
     Ok(text)
-}
-
-// The ferromagnet of 64 sites at the thresholds of two tables, one sweep an epoch. Tables that are read
-// ask for no proof of what their numbers are.
-fn plan_of(alloc: Global, kind: RuleKind, rules: &[&str], swaps: &str) -> Result<Plan, Fail> {
-    let rules = read_rule(alloc, records_of(alloc, rules)?.as_bytes(), kind)?;
-    let swaps = read_swap(alloc, swaps.as_bytes(), rules.slots())?;
-    if swaps.pairs() + 1 != rules.slots() {
-        return Err("as many pairs as slots".into());
-    }
-    let lattice = Lattice::of(4)?;
-    let couplings = Couplings::plus(alloc, lattice)?;
-    Ok(Plan::new(lattice, rules, swaps, couplings, 1, 7))
 }
 
 // Ends the test where the last of so many epochs has other records; answers the spin at site 0 of slot
@@ -68,7 +42,7 @@ fn last_spin<R: AllocGlobal + Abort>(
     let mut sample = Sample::opening(rt.alloc(), plan, 0, Start::Up)?;
     let mut rows = vec![in rt.alloc(); record(0, 0); plan.slots() as usize]?;
     run(&mut sample, plan, rows.as_mut_slice(), epochs);
-    assert_eq!(rt; rows.as_slice(), wanted, "after {epochs} epochs");
+    same(rt, &rows.as_slice(), &wanted, &epochs);
     Ok(first_spin(&sample))
 }
 
@@ -111,7 +85,7 @@ fn heat_bath_of_one_slot_ends_all_down_all_up_or_against_the_field(
     for (rules, energy, up) in [(DOWN, -192, false), (UP, -192, true), (AGAINST, 192, false)] {
         let plan = plan_of(rt.alloc(), RuleKind::Heat, &[rules], "")?;
         let spin = last_spin(&rt, &plan, 1, &[record(energy, 0)])?;
-        assert!(rt; spin == Some(up), "{rules}");
+        same(&rt, &spin, &Some(up), &rules);
     }
     Ok(())
 }
@@ -122,7 +96,7 @@ fn metropolis_flips_what_costs_nothing_and_what_is_drawn(rt: HostRuntime) -> Res
     for (rules, up) in [("0,0,0\n", true), ("0,0,4294967296\n", false)] {
         let plan = plan_of(rt.alloc(), RuleKind::Metropolis, &[rules], "")?;
         let spin = last_spin(&rt, &plan, 1, &[record(-192, 0)])?;
-        assert!(rt; spin == Some(up), "{rules}");
+        same(&rt, &spin, &Some(up), &rules);
     }
     Ok(())
 }
@@ -143,7 +117,7 @@ fn a_hotter_first_slot_always_swaps(rt: HostRuntime) -> Result<(), Fail> {
     let swaps = always(rt.alloc(), 0)?;
     let plan = plan_of(rt.alloc(), RuleKind::Heat, &[AGAINST, UP], swaps.as_str())?;
     let spin = last_spin(&rt, &plan, 1, &[record(192, 0), record(-192, 1)])?;
-    assert!(rt; spin == Some(true));
+    same(&rt, &spin, &Some(true), &"epoch 1");
     last_spin(&rt, &plan, 2, &[record(192, 1), record(-192, 0)])?;
     Ok(())
 }
@@ -158,57 +132,6 @@ fn equal_energies_swap_in_the_pairs_whose_turn_it_is(rt: HostRuntime) -> Result<
             record(-192, third),
         ];
         last_spin(&rt, &plan, epochs, &wanted)?;
-    }
-    Ok(())
-}
-
-// The spins of a replica as digits 0 and 1, 1 for +1, in the order of the sites.
-fn digits(alloc: Global, replica: &PlainCopy) -> Result<String, Fail> {
-    let mut text = String::new(alloc);
-    for up in replica.spins.as_slice() {
-        text.push(if *up { '1' } else { '0' })?;
-    }
-    Ok(text)
-}
-
-// The spins of both replicas of each slot, a line each.
-fn spin_lines(alloc: Global, sample: &Sample) -> Result<String, Fail> {
-    let mut lines = String::new(alloc);
-    for slot in sample.slots.as_slice() {
-        lines.push_str(digits(alloc, &slot.first)?.as_str())?;
-        lines.push_str("\n")?;
-        lines.push_str(digits(alloc, &slot.second)?.as_str())?;
-        lines.push_str("\n")?;
-    }
-    Ok(lines)
-}
-
-// The first and the last word of a generator.
-fn first_and_last(wheel: &Wheel) -> (u32, u32) {
-    let mut words = [0; 61];
-    wheel.words(&mut words);
-    (words[0], words[60])
-}
-
-// These values, and the test's, were made by an independent program, tools/reference/compare.py
-// --opening 4 2 7 101.
-const SPINS_OF_SAMPLE_101: &str = "0100101010100001101111100010100110101001010000000110100000101010
-0100011011000101010001010110000111111011111100001000110000111011
-0111010101010111100110000100110011110000110110001111001001111011
-0111101010001110100110100010001001000101110001110011010001100011
-";
-
-#[test]
-fn sample_101_begins_as_bit_37_of_bank_1(rt: HostRuntime) -> Result<(), Fail> {
-    let alloc = rt.alloc();
-    let plan = plan_of(alloc, RuleKind::Heat, &[DOWN, DOWN], "0\n")?;
-    let sample = Sample::opening_bank(alloc, &plan, 37, Start::Random, 1)?;
-    let lines = spin_lines(alloc, &sample)?;
-    assert!(rt; lines.as_str() == SPINS_OF_SAMPLE_101, "{lines}");
-    assert!(rt; sample.pairs.len() == 1);
-    for pair in sample.pairs.as_slice() {
-        assert!(rt; first_and_last(&pair.first) == (2040743980, 2347870371));
-        assert!(rt; first_and_last(&pair.second) == (685961419, 2888153379));
     }
     Ok(())
 }
