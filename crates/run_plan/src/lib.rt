@@ -23,8 +23,3 @@ pub use reading::read_plan;
 pub use refused::PlanRefused;
 pub use run_file::{CouplingSource, Orders, RunFile};
 pub use texts::{KeyText, NameText};
-
-#[cfg(test)]
-mod bank_tests;
-#[cfg(test)]
-mod tests;

@@ -1,9 +1,11 @@
 //! Runs of more than one bank of samples.
 
-use super::*;
-use crate::tests::{COLD, changed, digits, line_of, plan_of, same};
+use crate::comparing::{line_of, same};
+use crate::plans::{COLD, digits, plan_of};
+use crate::run_files::changed;
 use coupling_set::Couplings;
 use lattice_geometry::Lattice;
+use run_plan::{Orders, check_banks, digest_banks, read_plan};
 use scalar_rule::{Plan, Start};
 use std::alloc::Global;
 use std::sync::Arc;
