@@ -7,12 +7,8 @@ mod couplings_file;
 mod drawing;
 mod file_checks;
 mod file_reading;
-#[cfg(test)]
-mod file_tests;
 mod file_writing;
 mod refused;
-#[cfg(test)]
-mod tests;
 
 pub use couplings::Couplings;
 pub use couplings_file::couplings_are_their_bonds;

@@ -1,53 +1,33 @@
-use super::*;
+//! The ferromagnet and random couplings, bond by bond and plane by plane.
+
+use crate::comparing::same;
+use crate::words::{word_of, words_of};
+use coupling_set::Couplings;
 use lattice_geometry::Lattice;
 use pr_generator::Wheel;
 use std::alloc::{AllocError, Global};
-use std::fmt::Debug;
-use std::process::Abort;
 use std::test::Fail;
 
-// Ends the test with the case where the two differ. An `assert_eq!` with a message is dear to prove:
-// it is proved here once.
-pub(crate) fn same<R: Abort, T: PartialEq + Debug, C: Debug>(
-    rt: &R,
-    found: &T,
-    wanted: &T,
-    case: &C,
-) {
-    assert_eq!(rt; found, wanted, "at {case:?}");
-}
-
-// The word of the bond from a site in a direction.
-pub(crate) fn word_of(couplings: &Couplings, site: u32, d: u32) -> Option<u64> {
+// The word of the bond from a site in a direction, at its place in its plane.
+fn word_in_plane(couplings: &Couplings, site: u32, d: u32) -> Option<u64> {
     let lattice = Lattice::of(couplings.size()).ok()?;
     if site >= lattice.sites() || d >= 3 {
         return None;
     }
-    Some(couplings.negative(site, d))
+    let (x, y, z) = lattice.coordinates(site);
+    let k = y * (lattice.size() / 2) + x / 2;
+    let plane = couplings.plane(lattice.colour(site), z, d);
+    plane.get(k as usize).copied()
 }
 
-// The words of all bonds: that of the bond from site i in direction d is number 3i + d.
-pub(crate) fn words_of(alloc: Global, couplings: &Couplings) -> Result<Vec<u64>, Fail> {
-    let lattice = Lattice::of(couplings.size())?;
-    let mut words = Vec::new(alloc);
-    for site in 0..lattice.sites() {
-        for d in 0..3 {
-            words.push(couplings.negative(site, d))?;
-        }
-    }
-    Ok(words)
-}
-
-// The same, read from the planes.
+// The words of all bonds, read from the planes.
 fn words_of_planes(alloc: Global, couplings: &Couplings) -> Result<Vec<u64>, Fail> {
     let lattice = Lattice::of(couplings.size())?;
     let mut words = Vec::new(alloc);
     for site in 0..lattice.sites() {
-        let (x, y, z) = lattice.coordinates(site);
-        let k = (y * (lattice.size() / 2) + x / 2) as usize;
         for d in 0..3 {
-            let plane = couplings.plane(lattice.colour(site), z, d);
-            words.push(*plane.get(k).ok_or("a place in the plane")?)?;
+            let word = word_in_plane(couplings, site, d).ok_or("a place in the plane")?;
+            words.push(word)?;
         }
     }
     Ok(words)

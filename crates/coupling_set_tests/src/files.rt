@@ -1,9 +1,13 @@
-use super::*;
-use crate::tests::{same, word_of, words_of};
+//! Couplings files: what is read, what is written again, and what is refused.
+
+use crate::comparing::same;
+use crate::words::{word_of, words_of};
+use coupling_set::{Couplings, CouplingsRefused};
 use glass_edges::NoMemory;
 use lattice_geometry::Lattice;
 use sha2::{Digest, Sha256};
 use std::alloc::Global;
+use std::process::Abort;
 use std::test::Fail;
 
 // A file with these couplings, and its digest by the crate sha2.
@@ -180,6 +184,19 @@ fn bank_of(alloc: Global, size: u32, bank: u32, file: &[u8]) -> Result<Couplings
     Ok(Couplings::read_bank(alloc, Lattice::of(size)?, bank, file)?)
 }
 
+// Ends the test where a bank of a file of size 4 has another word than this at a bond.
+fn has_words<R: AllocGlobal + Abort>(
+    rt: &R,
+    file: &[u8],
+    bank: u32,
+    word: u64,
+) -> Result<(), Fail> {
+    let couplings = bank_of(rt.alloc(), 4, bank, file)?;
+    let words = words_of(rt.alloc(), &couplings)?;
+    same(rt, &words.as_slice(), &[word; 192].as_slice(), &bank);
+    Ok(())
+}
+
 #[test]
 fn sixty_five_samples_are_two_banks(rt: HostRuntime) -> Result<(), Fail> {
     let mut stored = equal_bytes(rt.alloc(), 1536, 0)?;
@@ -189,9 +206,7 @@ fn sixty_five_samples_are_two_banks(rt: HostRuntime) -> Result<(), Fail> {
     let (first, _) = read_again(rt.alloc(), file.as_slice())?;
     same(&rt, &first.as_slice(), &[0; 192].as_slice(), &"read");
     for (bank, word) in [(0, 0), (1, 1), (2, 0), (3, 0)] {
-        let couplings = bank_of(rt.alloc(), 4, bank, file.as_slice())?;
-        let words = words_of(rt.alloc(), &couplings)?;
-        same(&rt, &words.as_slice(), &[word; 192].as_slice(), &bank);
+        has_words(&rt, file.as_slice(), bank, word)?;
     }
     Ok(())
 }
@@ -224,6 +239,20 @@ fn the_greatest_file_is_read(rt: HostRuntime) -> Result<(), Fail> {
     Ok(())
 }
 
+// Ends the test where the file of 64 samples of seed 7 has another length or ends with other bytes.
+fn writes<R: AllocGlobal + Abort>(
+    rt: &R,
+    size: u32,
+    len: usize,
+    last: [u8; 8],
+) -> Result<(), Fail> {
+    let couplings = Couplings::random(rt.alloc(), Lattice::of(size)?, 7)?;
+    let file = couplings.write(rt.alloc(), 64)?;
+    let ends = file.as_slice().ends_with(last.as_slice());
+    same(rt, &(file.len(), ends), &(len, true), &size);
+    Ok(())
+}
+
 // By a program of its own in Python, which takes SHA-256 from hashlib.
 #[test]
 fn random_couplings_of_a_bank_and_their_file(rt: HostRuntime) -> Result<(), Fail> {
@@ -235,15 +264,16 @@ fn random_couplings_of_a_bank_and_their_file(rt: HostRuntime) -> Result<(), Fail
     ] {
         same(&rt, &word_of(&bank, site, d), &Some(word), &(site, d));
     }
-    for (size, len, last) in [
-        (4, 1584, [0x80, 0xac, 0x0b, 0x29, 0x34, 0xdc, 0x1f, 0x3c]),
-        (6, 5232, [0x5f, 0xb6, 0x70, 0xc4, 0x29, 0x66, 0x5f, 0x54]),
-    ] {
-        let couplings = Couplings::random(rt.alloc(), Lattice::of(size)?, 7)?;
-        let file = couplings.write(rt.alloc(), 64)?;
-        same(&rt, &file.len(), &len, &size);
-        let ends = file.as_slice().ends_with(last.as_slice());
-        same(&rt, &ends, &true, &size);
-    }
-    Ok(())
+    writes(
+        &rt,
+        4,
+        1584,
+        [0x80, 0xac, 0x0b, 0x29, 0x34, 0xdc, 0x1f, 0x3c],
+    )?;
+    writes(
+        &rt,
+        6,
+        5232,
+        [0x5f, 0xb6, 0x70, 0xc4, 0x29, 0x66, 0x5f, 0x54],
+    )
 }
