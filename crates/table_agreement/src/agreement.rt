@@ -1,10 +1,11 @@
 //! The tables as `threshold_table` and as `csv` read them.
 
-use crate::tables::{rule_text, swap_text};
+use crate::comparing::same;
+use crate::tables::{decimal, rule_text, rules_of, swap_text, swaps_of};
 use csv::{ByteRecord, ReaderBuilder};
-use std::alloc::{AllocError, Global};
+use std::alloc::Global;
+use std::process::Abort;
 use std::test::Fail;
-use threshold_table::{RuleKind, read_rule, read_swap};
 
 // The records that `csv` finds, the spaces round their fields taken off.
 fn csv_records(alloc: Global, text: &str) -> Result<Vec<ByteRecord>, Fail> {
@@ -20,45 +21,63 @@ fn csv_records(alloc: Global, text: &str) -> Result<Vec<ByteRecord>, Fail> {
     Ok(records)
 }
 
-// Whether a field is the decimal text of a value.
-fn is_decimal(alloc: Global, field: Option<&[u8]>, value: u64) -> Result<bool, AllocError> {
-    Ok(field == Some(format!(in alloc; "{value}")?.as_bytes()))
+// Ends the test where the fields of a line are not the decimal texts of these thresholds.
+fn has_fields<R: AllocGlobal + Abort>(
+    rt: &R,
+    line: u32,
+    record: &ByteRecord,
+    thresholds: &[u64],
+) -> Result<(), Fail> {
+    same(rt, &record.len(), &thresholds.len(), &line);
+    for (place, threshold) in thresholds.iter().enumerate() {
+        let wanted = decimal(rt.alloc(), *threshold)?;
+        same(
+            rt,
+            &record.get(place),
+            &Some(wanted.as_bytes()),
+            &(line, place),
+        );
+    }
+    Ok(())
+}
+
+fn rules_agree<R: AllocGlobal + Abort>(rt: &R) -> Result<(), Fail> {
+    let text = rule_text(rt.alloc())?;
+    let begins = text
+        .as_str()
+        .starts_with("858993459, 171798691, 34359738\n");
+    same(rt, &begins, &true, &"the first line");
+    let rules = rules_of(rt.alloc(), text.as_str())?;
+    let records = csv_records(rt.alloc(), text.as_str())?;
+    same(rt, &(rules.slots(), records.len()), &(16, 16), &"slots");
+    for slot in 0..rules.slots() {
+        let record = records.as_slice().get(slot as usize).ok_or("a record")?;
+        has_fields(rt, slot, record, &rules.row(slot).values[..3])?;
+    }
+    Ok(())
+}
+
+fn swaps_agree<R: AllocGlobal + Abort>(rt: &R) -> Result<(), Fail> {
+    let text = swap_text(rt.alloc())?;
+    let begins = text.as_str().starts_with("3149642683, 2309737966, ");
+    same(rt, &begins, &true, &"the first two");
+    let swaps = swaps_of(rt.alloc(), text.as_str())?;
+    let records = csv_records(rt.alloc(), text.as_str())?;
+    same(rt, &(swaps.pairs(), records.len()), &(15, 15), &"pairs");
+    for pair in 0..swaps.pairs() {
+        let mut thresholds = Vec::new(rt.alloc());
+        for entry in 0..swaps.entries(pair) {
+            thresholds.push(swaps.threshold(pair, entry))?;
+        }
+        same(rt, &thresholds.len(), &64, &pair);
+        let record = records.as_slice().get(pair as usize).ok_or("a record")?;
+        has_fields(rt, pair, record, thresholds.as_slice())?;
+    }
+    Ok(())
 }
 
 #[test]
 fn tables_agree_with_csv_crate(rt: HostRuntime) -> Result<(), Fail> {
-    let text = rule_text(rt.alloc())?;
-    assert!(rt;
-        text.as_str()
-            .starts_with("858993459, 171798691, 34359738\n")
-    );
-    let rules = read_rule(rt.alloc(), text.as_bytes(), RuleKind::Metropolis)?;
-    let records = csv_records(rt.alloc(), text.as_str())?;
-    assert_eq!(rt; (rules.slots(), records.len()), (16, 16));
-    for (slot, record) in records.iter().enumerate() {
-        assert_eq!(rt; record.len(), 3);
-        for (case, value) in rules.row(slot as u32).values[..3].iter().enumerate() {
-            assert!(rt;
-                is_decimal(rt.alloc(), record.get(case), *value)?,
-                "slot {slot}, {case}"
-            );
-        }
-    }
-
-    let text = swap_text(rt.alloc())?;
-    assert!(rt; text.as_str().starts_with("3149642683, 2309737966, "));
-    let swaps = read_swap(rt.alloc(), text.as_bytes(), 16)?;
-    let records = csv_records(rt.alloc(), text.as_str())?;
-    assert_eq!(rt; (swaps.pairs(), records.len()), (15, 15));
-    for (pair, record) in records.iter().enumerate() {
-        assert_eq!(rt; (swaps.entries(pair as u32), record.len()), (64, 64));
-        for entry in 0..64 {
-            let value = swaps.threshold(pair as u32, entry);
-            assert!(rt;
-                is_decimal(rt.alloc(), record.get(entry as usize), value)?,
-                "pair {pair}, {entry}"
-            );
-        }
-    }
-    Ok(())
+    rules_agree(&rt)?;
+    swaps_agree(&rt)
 }

@@ -6,6 +6,8 @@
 #[cfg(test)]
 mod agreement;
 #[cfg(test)]
+mod comparing;
+#[cfg(test)]
 mod sixteen_temperatures;
 #[cfg(test)]
 mod tables;

@@ -4,19 +4,20 @@ ghost use Rattle.std.specs.Prelude.{◌≡◌, ◌+◌, ◌<◌, length};
 ghost use Rattle.scalar_rule.specs.Plan.{slots_of};
 ghost use Rattle.scalar_rule.specs.Shape.{Fits};
 
-use crate::tables::{rule_text, swap_text};
+use crate::comparing::same;
+use crate::tables::{rule_text, rules_of, swap_text, swaps_of};
 use coupling_set::Couplings;
 use lattice_geometry::Lattice;
 use run_plan::digest;
 use scalar_rule::{Plan, Record, Sample, Start};
 use std::alloc::Global;
+use std::process::Abort;
 use std::test::Fail;
-use threshold_table::{RuleKind, read_rule, read_swap};
 
 // The plan: size 8, Metropolis, random couplings, two sweeps an epoch.
 fn plan(alloc: Global) -> Result<Plan, Fail> {
-    let rules = read_rule(alloc, rule_text(alloc)?.as_bytes(), RuleKind::Metropolis)?;
-    let swaps = read_swap(alloc, swap_text(alloc)?.as_bytes(), 16)?;
+    let rules = rules_of(alloc, rule_text(alloc)?.as_str())?;
+    let swaps = swaps_of(alloc, swap_text(alloc)?.as_str())?;
     if swaps.pairs() + 1 != rules.slots() {
         return Err("as many pairs as slots".into());
     }
@@ -33,8 +34,19 @@ fn digest_of_the_plan_at_sixteen_temperatures(rt: HostRuntime) -> Result<(), Fai
         0xe3, 0xf5, 0xf8, 0x0f, 0x30, 0x56, 0xf0, 0x19, 0xd8, 0x05, 0x36, 0xfd, 0x8b, 0xbc, 0x4a,
         0x84, 0x7a,
     ];
-    assert_eq!(rt; digest(&plan(rt.alloc())?), known);
+    same(&rt, &digest(&plan(rt.alloc())?), &known, &"digest");
     Ok(())
+}
+
+// The energies and the overlap, and the labels.
+fn measured(sums: [i32; 3], labels: [u8; 2]) -> Record {
+    Record {
+        first_energy: sums[0],
+        second_energy: sums[1],
+        overlap: sums[2],
+        first_replica: labels[0],
+        second_replica: labels[1],
+    }
 }
 
 fn ten_epochs(sample: &mut Sample, plan: &Plan, rows: &mut [Record])
@@ -49,38 +61,43 @@ fn ten_epochs(sample: &mut Sample, plan: &Plan, rows: &mut [Record])
     }
 }
 
-// The energies and the overlap, and the labels.
-fn measured(sums: [i32; 3], labels: [u8; 2]) -> Record {
-    Record {
-        first_energy: sums[0],
-        second_energy: sums[1],
-        overlap: sums[2],
-        first_replica: labels[0],
-        second_replica: labels[1],
-    }
+// Ends the test where the first two slots of sample 0 have other records after ten epochs.
+fn first_sample<R: AllocGlobal + Abort>(rt: &R, plan: &Plan) -> Result<(), Fail> {
+    let mut sample = Sample::opening(rt.alloc(), plan, 0, Start::Random)?;
+    let mut rows = vec![in rt.alloc(); measured([0, 0, 0], [0, 0]); plan.slots() as usize]?;
+    ten_epochs(&mut sample, plan, rows.as_mut_slice());
+    let wanted = [
+        measured([-564, -604, 0], [0, 0]),
+        measured([-408, -460, 34], [3, 2]),
+    ];
+    same(
+        rt,
+        &rows.as_slice().get(..2),
+        &Some(wanted.as_slice()),
+        &"sample 0",
+    );
+    Ok(())
+}
+
+// Ends the test where the first slot of sample 63 has another record after ten epochs, or the last
+// one after twenty.
+fn last_sample<R: AllocGlobal + Abort>(rt: &R, plan: &Plan) -> Result<(), Fail> {
+    let mut sample = Sample::opening(rt.alloc(), plan, 63, Start::Random)?;
+    let mut rows = vec![in rt.alloc(); measured([0, 0, 0], [0, 0]); plan.slots() as usize]?;
+    ten_epochs(&mut sample, plan, rows.as_mut_slice());
+    let wanted = measured([-542, -618, -4], [0, 1]);
+    same(rt, &rows.as_slice().first(), &Some(&wanted), &"after 10");
+    let mut rows = vec![in rt.alloc(); measured([0, 0, 0], [0, 0]); plan.slots() as usize]?;
+    ten_epochs(&mut sample, plan, rows.as_mut_slice());
+    let wanted = measured([-126, -178, 22], [11, 3]);
+    same(rt, &rows.as_slice().last(), &Some(&wanted), &"after 20");
+    Ok(())
 }
 
 // The rows were computed by an independent program.
 #[test]
 fn two_samples_at_sixteen_temperatures(rt: HostRuntime) -> Result<(), Fail> {
-    let alloc = rt.alloc();
-    let plan = plan(alloc)?;
-    let mut rows = vec![in alloc; measured([0, 0, 0], [0, 0]); plan.slots() as usize]?;
-    let mut first = Sample::opening(alloc, &plan, 0, Start::Random)?;
-    ten_epochs(&mut first, &plan, rows.as_mut_slice());
-    let wanted = measured([-564, -604, 0], [0, 0]);
-    assert_eq!(rt; rows.as_slice().first(), Some(&wanted));
-    let wanted = measured([-408, -460, 34], [3, 2]);
-    assert_eq!(rt; rows.as_slice().get(1), Some(&wanted));
-
-    let mut rows = vec![in alloc; measured([0, 0, 0], [0, 0]); plan.slots() as usize]?;
-    let mut last = Sample::opening(alloc, &plan, 63, Start::Random)?;
-    ten_epochs(&mut last, &plan, rows.as_mut_slice());
-    let wanted = measured([-542, -618, -4], [0, 1]);
-    assert_eq!(rt; rows.as_slice().first(), Some(&wanted));
-    let mut rows = vec![in alloc; measured([0, 0, 0], [0, 0]); plan.slots() as usize]?;
-    ten_epochs(&mut last, &plan, rows.as_mut_slice());
-    let wanted = measured([-126, -178, 22], [11, 3]);
-    assert_eq!(rt; rows.as_slice().last(), Some(&wanted));
-    Ok(())
+    let plan = plan(rt.alloc())?;
+    first_sample(&rt, &plan)?;
+    last_sample(&rt, &plan)
 }
