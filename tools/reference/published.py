@@ -80,13 +80,13 @@ TESTS = "crates/glass_tests/src/"
 BANKS, ALONE = TESTS + "banks.rt", TESTS + "banks_alone.rt"
 SHORT = {
     "smallest_plan": (lambda: plan_digest(ferromagnet([DOWN], [])), [TESTS + "check.rt", "crates/run_plan_tests/src/plans.rt"]),
-    "two_slots_plan": (lambda: plan_digest(ferromagnet([BOARD, UP], [[FULL]])), ["crates/run_checkpoint/src/tests/known.rt"]),
-    "level_at_1": (lambda: level_digest(1), [TESTS + "resuming.rt", "crates/run_checkpoint/src/tests/known.rt"]),
+    "two_slots_plan": (lambda: plan_digest(ferromagnet([BOARD, UP], [[FULL]])), ["crates/run_checkpoint_tests/src/known.rt"]),
+    "level_at_1": (lambda: level_digest(1), [TESTS + "resuming.rt", "crates/run_checkpoint_tests/src/known.rt"]),
     "level_at_2": (lambda: level_digest(2), [TESTS + "resuming.rt", "crates/glass_engine/src/tests/saving.rt"]),
     "demo_plan": (lambda: plan_digest(glass(16, 8, 4, 1)), ["crates/run_plan_tests/src/demo.rt"]),
     "glass_8_plan": (lambda: plan_digest(glass(8, 16, 2, 20240611)),
                      ["examples/glass_8/README.md", "crates/table_agreement/src/sixteen_temperatures.rt"]),
-    "one_slot_plan": (lambda: plan_digest(ferromagnet([UP], [])), ["crates/run_checkpoint/src/tests/known.rt"]),
+    "one_slot_plan": (lambda: plan_digest(ferromagnet([UP], [])), ["crates/run_checkpoint_tests/src/known.rt"]),
     "two_banks_plan": (lambda: rule.banks_digest([ferromagnet([UP], [])] * 2).hex(), [BANKS]),
     "two_banks_at_1": (last_bytes_of_65, [BANKS, "crates/glass_engine/src/tests/banks.rt"]),
     "three_banks_report": (lambda: sha256(random_banks()[0].encode()).hexdigest(), [ALONE]),

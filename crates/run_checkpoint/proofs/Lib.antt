@@ -19,5 +19,4 @@ pub mod BankSteps
 pub mod BankForm
 pub mod BankClauses
 pub mod OneEncoding
-pub mod BankParts
 pub mod FilledLevels

@@ -28,6 +28,3 @@ pub use refused::CheckpointRefused;
 pub use room::Room;
 pub use uneven_decoding::decode_any;
 pub use uneven_encoding::encode_ragged;
-
-#[cfg(test)]
-mod tests;

@@ -3,7 +3,7 @@ use Rattle.plane_sweep.specs.Packed.{StandFits}
 use Rattle.plane_sweep.specs.Uneven.{level_stand}
 use Rattle.run_checkpoint.specs.Encoding.{flattened}
 use Rattle.run_checkpoint.proofs.UnevenForm.{flattened-level}
-use Rattle.run_checkpoint.proofs.tests.banks.put_bank.Goals as goal
+use Rattle.run_checkpoint_tests.proofs.banks.put_bank.Goals as goal
 
 pub encode_level-requires-clause-fits : goal.encode_level-requires-clause-fits
 encode_level-requires-clause-fits c =

@@ -1,12 +1,12 @@
 //! What is refused of slots at different epochs.
 
-use super::cases::Change::{Cut, Put, Sealed};
-use super::cases::{Case, refuses};
-use super::files::uneven_file;
-use super::kinds::{Kind, LAST};
-use super::known::{ONE_SLOT, TWO_SLOTS, UNEVEN_DIGEST, level_of_two, one_waits};
-use super::plans::two_slots;
-use crate::CheckpointRefused::{
+use crate::cases::Change::{Cut, Put, Sealed};
+use crate::cases::{Case, refuses};
+use crate::files::uneven_file;
+use crate::kinds::{Kind, LAST};
+use crate::known::{ONE_SLOT, TWO_SLOTS, UNEVEN_DIGEST, level_of_two, one_waits};
+use crate::plans::two_slots;
+use run_checkpoint::CheckpointRefused::{
     Digest, Late, Length, Magic, Orders, OtherPlan, Pending, Places, Replicas, Shape, Short,
 };
 use std::test::Fail;

@@ -6,9 +6,11 @@ ghost use Rattle.plane_sweep.specs.Packed.{StandFits};
 ghost use Rattle.run_checkpoint.specs.Lengths.{encoding_len};
 ghost use Rattle.scalar_rule.specs.Plan.{slots_of};
 
-use crate::{CheckpointRefused, Room, begin_banks, decode_banks, encode_level, end_banks, length};
 use glass_edges::NoMemory;
 use plane_sweep::{RaggedStand, Stand};
+use run_checkpoint::{
+    CheckpointRefused, Room, begin_banks, decode_banks, encode_level, end_banks, length,
+};
 use scalar_rule::Plan;
 use std::alloc::Global;
 use std::sync::Arc;
@@ -20,8 +22,8 @@ fn twice(plan: &Arc<Plan, Global>) -> Result<[Arc<Plan, Global>; 2], NoMemory>
     Ok([plan.clone()?, plan.clone()?])
 }
 
-// The states of both banks.
-pub(super) fn read_two(
+/// The states of both banks.
+pub fn read_two(
     alloc: Global,
     plan: &Arc<Plan, Global>,
     until: u64,
@@ -34,8 +36,8 @@ pub(super) fn read_two(
     decode_banks(alloc, plans.as_slice(), until, bytes)
 }
 
-// The checkpoint of both banks.
-pub(super) fn write_two(alloc: Global, stands: &[Stand], plan: &Plan) -> Result<Room, NoMemory>
+/// The checkpoint of both banks.
+pub fn write_two(alloc: Global, stands: &[Stand], plan: &Plan) -> Result<Room, NoMemory>
     requires both { length stands.now ≡ 2 }
     requires fit { All (StandFits plan.now) stands.now }
 {

@@ -2,7 +2,7 @@ use Rattle.std.proofs.Common.{arith, ap, length, refl, ◌∙◌, ◌≡◌}
 use Rattle.scalar_rule.specs.Plan.{slots_of}
 use Rattle.run_checkpoint.specs.Lengths.{encoding_len}
 use Rattle.run_checkpoint.proofs.OneEncoding.{length-encoding}
-use Rattle.run_checkpoint.proofs.tests.known.opening_file.Goals as goal
+use Rattle.run_checkpoint_tests.proofs.known.opening_file.Goals as goal
 
 pub encode-requires-2-clause-spare : goal.encode-requires-2-clause-spare
 encode-requires-2-clause-spare c =

@@ -1,47 +1,50 @@
 //! Files whose digests are known, each read and written again. The digests are by a program of its own in
 //! Python, which takes SHA-256 from hashlib.
 
-use super::cases::is_again;
-use super::files::{ALL_UP, Alike, ODD_UP, banks_file, one_slot_file, two_slots_file, uneven_file};
-use super::kinds::{Kind, LAST};
-use super::plans::{one_slot, three_slots, two_slots};
-use crate::{Room, decode_any, encode, length, length_ragged};
+use crate::cases::is_again;
+use crate::files::{ALL_UP, Alike, ODD_UP, banks_file, one_slot_file, two_slots_file, uneven_file};
+use crate::kinds::{Kind, LAST};
+use crate::plans::{one_slot, three_slots, two_slots};
 use glass_edges::NoMemory;
 use plane_sweep::{Place, Stand};
+use run_checkpoint::{Room, decode_any, encode, length, length_ragged};
 use scalar_rule::{Plan, Record, Start};
 use std::alloc::Global;
 use std::process::Abort;
 use std::test::Fail;
 
-/// The digests of the plans of one slot and of two.
-pub(super) const ONE_SLOT: [u8; 32] = [
+/// The digest of the plan of one slot.
+pub const ONE_SLOT: [u8; 32] = [
     0x34, 0x75, 0x67, 0xcb, 0xd8, 0x7c, 0x08, 0x23, 0x55, 0x66, 0xda, 0x9a, 0x20, 0x0b, 0x5e, 0x51,
     0x29, 0xcf, 0x41, 0xa2, 0x5b, 0xff, 0x22, 0xc0, 0xa6, 0x3e, 0x39, 0x9a, 0x79, 0x28, 0xc6, 0x3d,
 ];
 
-pub(super) const TWO_SLOTS: [u8; 32] = [
+/// The digest of the plan of two.
+pub const TWO_SLOTS: [u8; 32] = [
     0xd9, 0xaa, 0x15, 0xc3, 0x63, 0xf7, 0x54, 0xa6, 0x1b, 0xc0, 0xea, 0x79, 0xf1, 0xbb, 0xe7, 0x81,
     0x12, 0x21, 0x95, 0x81, 0xfb, 0xe4, 0xf4, 0x9a, 0xdb, 0xdb, 0x77, 0x14, 0x08, 0xc8, 0x53, 0xe7,
 ];
 
-/// The last bytes of the files of two slots after an epoch, of a slot that waits, and of two banks.
-pub(super) const LEVEL_DIGEST: [u8; 32] = [
+/// The last bytes of the file of two slots after an epoch.
+pub const LEVEL_DIGEST: [u8; 32] = [
     0xf5, 0x06, 0x13, 0x20, 0x74, 0x24, 0x01, 0xe6, 0x1d, 0x10, 0xbc, 0x11, 0x79, 0x09, 0x49, 0x5b,
     0x59, 0x7f, 0xa5, 0x00, 0x26, 0xb5, 0x73, 0x89, 0x7d, 0x9c, 0x4c, 0x90, 0x02, 0x97, 0xdb, 0xd3,
 ];
 
-pub(super) const UNEVEN_DIGEST: [u8; 32] = [
+/// The same where a slot waits.
+pub const UNEVEN_DIGEST: [u8; 32] = [
     0x8c, 0xa9, 0x8b, 0x86, 0xc6, 0x7b, 0x8f, 0xb1, 0x02, 0x3d, 0x75, 0x8b, 0x36, 0x1b, 0x35, 0x9f,
     0xcb, 0xad, 0x7c, 0x63, 0x9b, 0x32, 0xff, 0x5c, 0xf2, 0x17, 0xa1, 0xf7, 0x56, 0xdb, 0x84, 0x52,
 ];
 
-pub(super) const BANKS_DIGEST: [u8; 32] = [
+/// The same of two banks.
+pub const BANKS_DIGEST: [u8; 32] = [
     0x66, 0x5d, 0xfa, 0xb0, 0x09, 0xd1, 0x08, 0x5c, 0x8e, 0x17, 0x4f, 0x11, 0xbb, 0x6a, 0xf6, 0x94,
     0x57, 0x4d, 0xc5, 0x7d, 0xe9, 0x72, 0x00, 0xb7, 0x01, 0x1f, 0x03, 0x43, 0x7c, 0x04, 0xd8, 0x0b,
 ];
 
 /// Two slots after an epoch, in which they were swept and exchanged.
-pub(super) fn level_of_two(alloc: Global) -> Result<Vec<u8>, NoMemory> {
+pub fn level_of_two(alloc: Global) -> Result<Vec<u8>, NoMemory> {
     let slots = [
         Alike {
             label: 1,
@@ -75,7 +78,7 @@ fn after_two_epochs(alloc: Global) -> Result<Vec<u8>, NoMemory> {
 }
 
 /// Slot 0 of two was swept at epoch 0 and waits there, before a record of one sample.
-pub(super) fn one_waits(alloc: Global) -> Result<Vec<u8>, NoMemory> {
+pub fn one_waits(alloc: Global) -> Result<Vec<u8>, NoMemory> {
     let slots = [
         Alike {
             label: 0,
@@ -101,12 +104,7 @@ pub(super) fn one_waits(alloc: Global) -> Result<Vec<u8>, NoMemory> {
 }
 
 /// A bank of one slot.
-pub(super) fn bank(
-    alloc: Global,
-    epoch: u64,
-    words: [u64; 2],
-    draws: u32,
-) -> Result<Vec<u8>, NoMemory> {
+pub fn bank(alloc: Global, epoch: u64, words: [u64; 2], draws: u32) -> Result<Vec<u8>, NoMemory> {
     one_slot_file(
         alloc,
         &ONE_SLOT,
@@ -120,7 +118,7 @@ pub(super) fn bank(
 }
 
 /// Two banks of one slot at these epochs.
-pub(super) fn two_banks(alloc: Global, first: u64, second: u64) -> Result<Vec<u8>, NoMemory> {
+pub fn two_banks(alloc: Global, first: u64, second: u64) -> Result<Vec<u8>, NoMemory> {
     let one = bank(alloc, first, ALL_UP, 8)?;
     let other = bank(alloc, second, ODD_UP, 16)?;
     banks_file(alloc, one.as_slice(), other.as_slice())

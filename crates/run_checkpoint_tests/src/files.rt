@@ -9,7 +9,7 @@ use std::alloc::Global;
 
 /// What a slot holds in each sample and in both replicas, at size 4.
 #[derive(Clone, Copy)]
-pub(super) struct Alike {
+pub struct Alike {
     pub label: u8,
     /// The word of each even site, and of each odd one.
     pub words: [u64; 2],
@@ -17,11 +17,11 @@ pub(super) struct Alike {
     pub draws: u32,
 }
 
-// Every spin +1.
-pub(super) const ALL_UP: [u64; 2] = [u64::MAX, u64::MAX];
+/// Every spin +1.
+pub const ALL_UP: [u64; 2] = [u64::MAX, u64::MAX];
 
-// Every odd spin +1.
-pub(super) const ODD_UP: [u64; 2] = [0, u64::MAX];
+/// Every odd spin +1.
+pub const ODD_UP: [u64; 2] = [0, u64::MAX];
 
 // The words of a generator after so many draws.
 fn put_generator(file: &mut Vec<u8>, mut generator: Wheel, draws: u32) -> Result<(), NoMemory> {
@@ -75,7 +75,7 @@ fn put_slots(file: &mut Vec<u8>, slots: &[Alike]) -> Result<(), NoMemory> {
 }
 
 /// The file and its digest.
-pub(super) fn sealed(mut file: Vec<u8>) -> Result<Vec<u8>, NoMemory> {
+pub fn sealed(mut file: Vec<u8>) -> Result<Vec<u8>, NoMemory> {
     let digest = Sha256::digest(file.as_slice());
     file.extend_from_slice(digest.as_slice())?;
     Ok(file)
@@ -91,7 +91,7 @@ fn header(alloc: Global, plan: &[u8; 32], epoch: u64, slots: u8) -> Result<Vec<u
 }
 
 /// The checkpoint of one slot of size 4 and seed 7.
-pub(super) fn one_slot_file(
+pub fn one_slot_file(
     alloc: Global,
     plan: &[u8; 32],
     epoch: u64,
@@ -103,7 +103,7 @@ pub(super) fn one_slot_file(
 }
 
 /// The checkpoint of two slots of size 4 and seed 7, whose exchange generators were drawn so often.
-pub(super) fn two_slots_file(
+pub fn two_slots_file(
     alloc: Global,
     plan: &[u8; 32],
     epoch: u64,
@@ -119,7 +119,7 @@ pub(super) fn two_slots_file(
 
 /// The checkpoint of another kind with the slots and pairs of a file of a state at one epoch, with an epoch
 /// and a phase for each slot, and with records as they are stored.
-pub(super) fn uneven_file(
+pub fn uneven_file(
     alloc: Global,
     level: &[u8],
     samples: u32,
@@ -148,7 +148,7 @@ pub(super) fn uneven_file(
 }
 
 /// The checkpoint of two banks, of their own checkpoints.
-pub(super) fn banks_file(alloc: Global, first: &[u8], second: &[u8]) -> Result<Vec<u8>, NoMemory> {
+pub fn banks_file(alloc: Global, first: &[u8], second: &[u8]) -> Result<Vec<u8>, NoMemory> {
     let mut file = Vec::from_slice(alloc, b"GLASSCK3".as_slice())?;
     file.extend_from_slice([0u8, 0, 0, 2].as_slice())?;
     file.extend_from_slice(first)?;
@@ -157,6 +157,6 @@ pub(super) fn banks_file(alloc: Global, first: &[u8], second: &[u8]) -> Result<V
 }
 
 /// The bytes before a place and those from it on; all of them are before where there are fewer.
-pub(super) fn parted(bytes: &[u8], place: usize) -> (&[u8], &[u8]) {
+pub fn parted(bytes: &[u8], place: usize) -> (&[u8], &[u8]) {
     bytes.split_at(place.min(bytes.len()))
 }

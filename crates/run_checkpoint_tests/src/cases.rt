@@ -1,10 +1,10 @@
 //! Changed files, and what is told of them.
 
-use super::files::{parted, sealed};
-use super::kinds::Kind;
-use crate::CheckpointRefused;
+use crate::files::{parted, sealed};
+use crate::kinds::Kind;
 use glass_edges::NoMemory;
 use pr_generator::Wheel;
+use run_checkpoint::CheckpointRefused;
 use scalar_rule::Plan;
 use std::alloc::Global;
 use std::process::Abort;
@@ -13,7 +13,7 @@ use std::test::Fail;
 
 /// What is done with a file.
 #[derive(Clone, Copy)]
-pub(super) enum Change {
+pub enum Change {
     /// Other bytes at a place.
     Put(usize, &'static [u8]),
     /// The same, with the digest of what it has then.
@@ -23,7 +23,7 @@ pub(super) enum Change {
 }
 
 /// A change, the last epoch wanted, and what is told.
-pub(super) type Case = (Change, u64, CheckpointRefused);
+pub type Case = (Change, u64, CheckpointRefused);
 
 // A copy with other bytes at a place.
 fn with(alloc: Global, file: &[u8], place: usize, piece: &[u8]) -> Result<Vec<u8>, NoMemory> {
@@ -60,7 +60,7 @@ fn changed(alloc: Global, file: &[u8], change: Change) -> Result<Vec<u8>, NoMemo
 }
 
 /// Each case is told as it says.
-pub(super) fn refuses<R: Abort>(
+pub fn refuses<R: Abort>(
     rt: &R,
     alloc: Global,
     kind: Kind,
@@ -77,7 +77,7 @@ pub(super) fn refuses<R: Abort>(
 }
 
 /// A file ends so, and the state that it is is written as the same bytes.
-pub(super) fn is_again<R: Abort>(
+pub fn is_again<R: Abort>(
     rt: &R,
     alloc: Global,
     kind: Kind,
@@ -111,7 +111,7 @@ fn drawn(generator: &mut Wheel, file: &[u8]) -> (usize, u8) {
 
 /// Each of 2000 changes of one byte is refused. With the digest of what the file has then it is refused in
 /// these ranges, and elsewhere it is the file of another state, which is written as the same bytes.
-pub(super) fn meets_changes<R: Abort>(
+pub fn meets_changes<R: Abort>(
     rt: &R,
     alloc: Global,
     kind: Kind,

@@ -1,9 +1,9 @@
 //! Files with one byte changed: none is taken for another state than the one that it is.
 
-use super::cases::meets_changes;
-use super::kinds::Kind;
-use super::known::{level_of_two, one_waits, two_banks};
-use super::plans::{one_slot, two_slots};
+use crate::cases::meets_changes;
+use crate::kinds::Kind;
+use crate::known::{level_of_two, one_waits, two_banks};
+use crate::plans::{one_slot, two_slots};
 use std::test::Fail;
 
 #[test]

@@ -1,11 +1,13 @@
 //! What is refused of a state at one epoch, with what each refusal keeps, and the order of the tests.
 
-use super::cases::Change::{Cut, Put, Sealed};
-use super::cases::{Case, refuses};
-use super::kinds::Kind;
-use super::known::{LEVEL_DIGEST, ONE_SLOT, TWO_SLOTS, level_of_two};
-use super::plans::two_slots;
-use crate::CheckpointRefused::{Digest, Late, Length, Magic, OtherPlan, Replicas, Shape, Short};
+use crate::cases::Change::{Cut, Put, Sealed};
+use crate::cases::{Case, refuses};
+use crate::kinds::Kind;
+use crate::known::{LEVEL_DIGEST, ONE_SLOT, TWO_SLOTS, level_of_two};
+use crate::plans::two_slots;
+use run_checkpoint::CheckpointRefused::{
+    Digest, Late, Length, Magic, OtherPlan, Replicas, Shape, Short,
+};
 use std::test::Fail;
 
 // The digest of the file with a byte changed, by a program of its own in Python.

@@ -1,11 +1,13 @@
 //! What is refused of two banks.
 
-use super::cases::Change::{Cut, Put, Sealed};
-use super::cases::{Case, refuses};
-use super::kinds::Kind;
-use super::known::{BANKS_DIGEST, two_banks};
-use super::plans::one_slot;
-use crate::CheckpointRefused::{BankCount, BankEpoch, Digest, Late, Length, Magic, Shape, Short};
+use crate::cases::Change::{Cut, Put, Sealed};
+use crate::cases::{Case, refuses};
+use crate::kinds::Kind;
+use crate::known::{BANKS_DIGEST, two_banks};
+use crate::plans::one_slot;
+use run_checkpoint::CheckpointRefused::{
+    BankCount, BankEpoch, Digest, Late, Length, Magic, Shape, Short,
+};
 use std::test::Fail;
 
 // The digest of the file with a byte changed, by a program of its own in Python.

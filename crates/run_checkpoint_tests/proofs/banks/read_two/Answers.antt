@@ -1,8 +1,8 @@
 use Rattle.std.specs.Arc.{arc_value}
 use Rattle.std.proofs.Common.{sym, subst, map, ap, ◌∙◌}
 use Rattle.run_checkpoint.specs.BankEncoding.{HaveOneShape}
-use Rattle.run_checkpoint.proofs.BankParts.{twice-shape, twice-count, twice-fit}
-use Rattle.run_checkpoint.proofs.tests.banks.read_two.Goals as goal
+use Rattle.run_checkpoint_tests.proofs.BankParts.{twice-shape, twice-count, twice-fit}
+use Rattle.run_checkpoint_tests.proofs.banks.read_two.Goals as goal
 
 pub decode_banks-requires-clause-shape : goal.decode_banks-requires-clause-shape
 decode_banks-requires-clause-shape c =

@@ -1,7 +1,7 @@
 //! The three kinds of files, read and written.
 
-use super::banks::{read_two, write_two};
-use crate::{
+use crate::banks::{read_two, write_two};
+use run_checkpoint::{
     CheckpointRefused, Room, decode, decode_any, encode, encode_ragged, length, length_ragged,
 };
 use scalar_rule::Plan;
@@ -9,11 +9,11 @@ use std::alloc::Global;
 use std::sync::Arc;
 
 /// The last epoch of all.
-pub(super) const LAST: u64 = 1000000000;
+pub const LAST: u64 = 1000000000;
 
 /// How a file is read.
 #[derive(Clone, Copy)]
-pub(super) enum Kind {
+pub enum Kind {
     /// A state at one epoch.
     Level,
     /// Slots that may be at different epochs, for these orders.
@@ -24,7 +24,7 @@ pub(super) enum Kind {
 
 impl Kind {
     /// What is told of the bytes.
-    pub(super) fn told(
+    pub fn told(
         self,
         alloc: Global,
         plan: &Arc<Plan, Global>,
@@ -42,7 +42,7 @@ impl Kind {
     }
 
     /// The checkpoint of the state that the bytes are.
-    pub(super) fn again(
+    pub fn again(
         self,
         alloc: Global,
         plan: &Arc<Plan, Global>,
