@@ -15,5 +15,3 @@ mod lanes;
 mod last_sweep;
 mod overlap;
 mod tally;
-#[cfg(test)]
-mod tests;

@@ -1,6 +1,6 @@
 use Rattle.std.proofs.Common.{arith}
 use Rattle.bit_totals.proofs.PlaceCounts.{planes-within}
-use Rattle.bit_totals.proofs.tests.replica_of.Goals as goal
+use Rattle.bit_totals_tests.proofs.replicas.replica_of.Goals as goal
 
 pub slice_bounds-plane_of-end : goal.slice_bounds-plane_of-end
 slice_bounds-plane_of-end c =

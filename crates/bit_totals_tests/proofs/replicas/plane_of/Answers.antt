@@ -2,7 +2,7 @@
 use Rattle.std.proofs.Common.{◌≡◌, ℕ, length, replicate, refl, ap, ◌∙◌, arith}
 use Rattle.std.proofs.lemmas.List.{get_or-replicate, get_or_default}
 use Rattle.spin_model.specs.Words.{AreGeneratorWords}
-use Rattle.bit_totals.proofs.tests.plane_of.Goals as goal
+use Rattle.bit_totals_tests.proofs.replicas.plane_of.Goals as goal
 
 zeros : AreGeneratorWords (replicate 61 0)
 zeros = record {
