@@ -16,4 +16,3 @@ pub mod BankDrives
 pub mod BankRows
 pub mod BankReports
 pub mod BankSavings
-pub mod BankChecks

@@ -1,14 +1,11 @@
 -- The summary of a run from a level state is that of the serial dynamics.
-use Rattle.std.proofs.Common.{arith, ◌≡◌, ℕ, zero, suc, ◌+◌, ◌-◌, ◌*◌, ◌<◌, ◌≤◌, true, List, [], ◌++◌, length, drop, take, refl, sym, ap, ap₂, ◌∙◌, cond, append-nil, length-append, lit<}
+use Rattle.std.proofs.Common.{arith, ◌≡◌, ℕ, zero, suc, ◌+◌, ◌-◌, ◌*◌, ◌<◌, ◌≤◌, true, List, [], ◌++◌, length, drop, take, refl, sym, ap, ap₂, ◌∙◌, cond, append-nil, length-append}
 use Rattle.std.specs.Prelude.{ℤ, ◌+ℤ◌, not, ◌==◌}
 use Rattle.std.proofs.lemmas.List.{drop_at, take_all, length-drop}
 use Rattle.spin_model.proofs.Tables.{length-table}
 use Rattle.report_text.specs.Lines.{summary_line, slot_line, end_line}
-use Rattle.plane_sweep.specs.Packed.{part, StandsFor}
-use Rattle.plane_sweep.specs.declared.stand.Stand.{Stand}
+use Rattle.plane_sweep.specs.Packed.{part}
 use Rattle.plane_sweep.specs.declared.uneven.RaggedStand.{RaggedStand}
-use Rattle.scalar_rule.specs.Opening.{opening}
-use Rattle.scalar_rule.specs.declared.sample.Start.TheVariants.{Up}
 use Rattle.plane_sweep.specs.Uneven.{uneven_part}
 use Rattle.exchange_board.specs.Views.{RaggedEndedView}
 use Rattle.scalar_rule.specs.Epoch.{epoch_records, slot_at}
@@ -126,8 +123,3 @@ summary-taken law n run start d h plan records slots stand until plan_is records
     ∙ ap₂ (λ st u. T run.plan (drop (length d.records - 64 * slots_of run.plan) d.records) st u) stand_is until_is
     ∙ summary-is law n run start d h
     ∙ ap (λ p. summary n p start run.until) (sym plan_is)
-
--- an opening state is at epoch 0
-pub opened-first : (plan : Plan) (stand : Stand) → StandsFor plan (opening plan Up 0) stand → stand.epoch ≡ 0
-unfolding part
-opened-first plan stand stands = ap (λ (s : Sample). s.epoch) (stands 0 (lit< tt))

@@ -17,8 +17,6 @@ mod rows;
 mod run;
 mod saving;
 mod summary;
-#[cfg(test)]
-mod tests;
 mod workers;
 
 pub use bank_driving::drive_banks;

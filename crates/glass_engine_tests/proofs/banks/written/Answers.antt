@@ -1,10 +1,10 @@
 use Rattle.std.proofs.Common.{◌≡◌, List, ap, ◌∙◌, subst, sym}
 use Rattle.std.specs.Prelude.{All, ◌≢◌}
-use Rattle.glass_engine.proofs.BankChecks.{ends-save}
+use Rattle.glass_engine_tests.proofs.BankChecks.{ends-save}
 use Rattle.glass_engine.specs.BankRuns.{runs_of}
 use Rattle.glass_engine.specs.Runs.{RunView}
 use Rattle.glass_engine.specs.declared.run.SaveKind.TheVariants as saves
-use Rattle.glass_engine.proofs.tests.banks.written.Goals as goal
+use Rattle.glass_engine_tests.proofs.banks.written.Goals as goal
 
 pub save_banks-requires-clause-saves : goal.save_banks-requires-clause-saves
 save_banks-requires-clause-saves g c =

@@ -9,10 +9,10 @@ ghost use Rattle.glass_engine.specs.BankRuns.{plans_of};
 ghost use Rattle.glass_engine.specs.Runs.{RunView};
 ghost use Rattle.glass_engine.specs.declared.run.SaveKind.TheVariants as saves;
 
-use super::saving::bytes_of;
-use super::{UP, holds, plan_of};
-use crate::{Banks, drive_banks, open_banks, save_banks, write_banks};
+use crate::runs::{UP, holds, plan_of};
+use crate::saving::bytes_of;
 use glass_edges::{MemoryShelf, MemorySink, NoMemory, OpenGate};
+use glass_engine::{Banks, drive_banks, open_banks, save_banks, write_banks};
 use plane_sweep::Stand;
 use run_plan::Orders;
 use scalar_rule::{Plan, Start};

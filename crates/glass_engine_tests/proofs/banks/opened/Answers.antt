@@ -5,12 +5,12 @@ use Rattle.run_checkpoint.specs.BankEncoding.{BanksFit}
 use Rattle.run_plan.specs.declared.run_file.Orders.{Orders}
 use Rattle.scalar_rule.specs.Plan.{Plan}
 use Rattle.scalar_rule.specs.declared.sample.Start.TheVariants.{Up}
-use Rattle.glass_engine.proofs.BankChecks.{two-start, runs-save, ok-as}
+use Rattle.glass_engine_tests.proofs.BankChecks.{two-start, runs-save, ok-as}
 use Rattle.glass_engine.proofs.BankStarts.{runs-plans}
 use Rattle.glass_engine.specs.BankRuns.{bank_runs, plans_of, AreBankStarts}
 use Rattle.glass_engine.specs.Runs.{RunView}
 use Rattle.glass_engine.specs.declared.run.SaveKind.TheVariants as saves
-use Rattle.glass_engine.proofs.tests.banks.opened.Goals as goal
+use Rattle.glass_engine_tests.proofs.banks.opened.Goals as goal
 
 pub open_banks-requires-clause-starts : goal.open_banks-requires-clause-starts
 open_banks-requires-clause-starts c =

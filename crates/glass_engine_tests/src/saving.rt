@@ -3,9 +3,9 @@
 ghost use Rattle.std.specs.Prelude.{◌≡◌, ◌≢◌};
 ghost use Rattle.glass_engine.specs.declared.run.SaveKind.TheVariants as saves;
 
-use super::{ORDERS, Reach, begun, holds, two_slots, whole};
-use crate::{SaveKind, drive, save};
+use crate::runs::{ORDERS, Reach, begun, holds, two_slots, whole};
 use glass_edges::{Fetched, MemoryShelf, OpenGate, Shelf};
+use glass_engine::{SaveKind, drive, save};
 use plane_sweep::Stand;
 use run_plan::check_amount;
 use std::alloc::Global;

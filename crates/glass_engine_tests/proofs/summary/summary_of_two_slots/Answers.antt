@@ -10,8 +10,8 @@ use Rattle.scalar_rule.specs.Positions.{deepest_of}
 use Rattle.scalar_rule.specs.declared.sample.Start.TheVariants.{Up}
 use Rattle.glass_engine.specs.Runs.{RunView}
 use Rattle.glass_engine.specs.Summary.{BeginsLevel}
-use Rattle.glass_engine.proofs.SummaryTexts.{opened-first}
-use Rattle.glass_engine.proofs.tests.summary.summary_of_two_slots.Goals as goal
+use Rattle.glass_engine_tests.proofs.OpenedStates.{opened-first}
+use Rattle.glass_engine_tests.proofs.summary.summary_of_two_slots.Goals as goal
 
 pub open-requires-clause-base : goal.open-requires-clause-base
 open-requires-clause-base g c =

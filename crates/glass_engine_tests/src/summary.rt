@@ -2,9 +2,9 @@
 
 ghost use Rattle.std.specs.Prelude.{◌≡◌};
 
-use super::{holds, two_slots};
-use crate::{SaveKind, drive, open, write_summary};
+use crate::runs::{holds, two_slots};
 use glass_edges::{MemorySink, OpenGate};
+use glass_engine::{SaveKind, drive, open, write_summary};
 use plane_sweep::{RaggedStand, Stand};
 use run_plan::{Orders, check_amount};
 use scalar_rule::Start;

@@ -1,0 +1,2 @@
+pub mod BankChecks
+pub mod OpenedStates
