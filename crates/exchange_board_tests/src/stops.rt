@@ -2,6 +2,7 @@
 
 ghost use Rattle.std.specs.Prelude.{◌≡◌, ◌≤◌, IfOk};
 ghost use Rattle.std.specs.Arc.{arc_value};
+ghost use Rattle.exchange_board.specs.Stops.{IsStop};
 ghost use Rattle.plane_sweep.specs.Packed.{StandFits};
 ghost use Rattle.plane_sweep.specs.Uneven.{positions_of, RaggedStandFits};
 ghost use Rattle.scalar_rule.specs.Plan.{slots_of};
@@ -38,6 +39,25 @@ fn are_joined(all: &[Record], first: &[Record], rest: &[Record]) -> bool {
     first.len() == all.len() && first[..kept] == all[..kept] && &all[kept..] == rest
 }
 
+// What a board holds where no slot is in work.
+fn stop_of(board: Board) -> Result<RaggedEnded, Fail>
+    ensures { IfOk result (IsStop board.origin) }
+{
+    match board.into_ragged() {
+        Ok(stop) => Ok(stop),
+        Err(_) => Err("a slot is in work".into()),
+    }
+}
+
+// How a board pauses that has 12 hand-outs to make and may make so many.
+fn pause_after(takes: u64) -> Pause {
+    if takes < 12 {
+        Pause::Stopped
+    } else {
+        Pause::Finished
+    }
+}
+
 // A board of three slots that stops after so many of its 12 hand-outs.
 fn stopped<R: Abort + Threads + Sync>(
     rt: &R,
@@ -55,16 +75,14 @@ fn stopped<R: Abort + Threads + Sync>(
 {
     let mut board = Board::open(alloc, plan, start.copy(alloc)?, window(takes))?;
     let pause = work(rt, &mut board, plan, Order::LastBackFirst);
-    let wanted = if takes < 12 {
-        Pause::Stopped
-    } else {
-        Pause::Finished
-    };
-    holds(rt, "the pause after hand-outs:", takes, pause == wanted);
-    match board.into_ragged() {
-        Ok(stop) => Ok(stop),
-        Err(_) => Err("a slot is in work".into()),
-    }
+    holds(
+        rt,
+        "the pause after hand-outs:",
+        takes,
+        pause == pause_after(takes),
+    );
+    let stop = stop_of(board)?;
+    Ok(stop)
 }
 
 // The end and the records of a board that goes on from there.
