@@ -14,31 +14,32 @@ use scalar_rule::{PlainCopy, Plan, Sample, Start, sweep};
 use std::alloc::{AllocGlobal, Global};
 use std::test::Fail;
 use std::thread::Threads;
-use threshold_table::{RuleKind, RuleRow, RuleTable, SwapTable};
-
-const ALL: u64 = 4294967296;
+use threshold_table::{RuleKind, read_rule, read_swap};
 
 // Thresholds of heat bath that turn each spin against its field.
-const AGAINST: RuleRow = RuleRow {
-    values: [ALL, ALL, ALL, 0, 0, 0, 0],
-};
+const AGAINST: &str = "4294967296,4294967296,4294967296,0,0,0,0\n";
 
-// Thresholds at 0 to 6 aligned neighbours, and at 4 to 6 satisfied bonds.
-const HEAT: RuleRow = RuleRow {
-    values: [
-        0, 1000000000, 2000000000, 2500000000, 3000000000, 4294967295, ALL,
-    ],
-};
+// Heat bath in two slots: thresholds at 0 to 6 aligned neighbours.
+const HEAT: &str = "0,1000000000,2000000000,2500000000,3000000000,4294967295,4294967296
+0,1000000000,2000000000,2500000000,3000000000,4294967295,4294967296
+";
 
-const METROPOLIS: RuleRow = RuleRow {
-    values: [3000000000, 1500000000, 700000000, 0, 0, 0, 0],
-};
+// Metropolis in two slots: thresholds at 4 to 6 satisfied bonds.
+const METROPOLIS: &str = "3000000000,1500000000,700000000
+3000000000,1500000000,700000000
+";
+
+// Exchanges that are always made.
+const ALWAYS: &str = "4294967296,4294967296,4294967296,4294967296\n";
 
 // The ferromagnet of 64 sites in one slot, with spins against their fields.
 fn against(alloc: Global) -> Result<Plan, Fail> {
+    let rules = read_rule(alloc, AGAINST.as_bytes(), RuleKind::Heat)?;
+    let swaps = read_swap(alloc, b"", rules.slots())?;
+    if swaps.pairs() + 1 != rules.slots() {
+        return Err("one slot".into());
+    }
     let lattice = Lattice::of(4)?;
-    let rules = RuleTable::from_rows(alloc, RuleKind::Heat, &[AGAINST])?;
-    let swaps = SwapTable::from_rows::<1>(alloc, &[])?;
     let couplings = Couplings::plus(alloc, lattice)?;
     Ok(Plan::new(lattice, rules, swaps, couplings, 1, 7))
 }
@@ -47,15 +48,16 @@ fn against(alloc: Global) -> Result<Plan, Fail> {
 fn random(alloc: Global, kind: RuleKind) -> Result<Plan, Fail>
     ensures { IfOk result (λ plan. slots_of plan ≡ 2) }
 {
-    let lattice = Lattice::of(6)?;
-    let rules = match kind {
-        RuleKind::Heat => RuleTable::from_rows(alloc, kind, &[HEAT, HEAT])?,
-        RuleKind::Metropolis => RuleTable::from_rows(alloc, kind, &[METROPOLIS, METROPOLIS])?,
+    let text = match kind {
+        RuleKind::Heat => HEAT,
+        RuleKind::Metropolis => METROPOLIS,
     };
-    if rules.slots() != 2 {
+    let rules = read_rule(alloc, text.as_bytes(), kind)?;
+    let swaps = read_swap(alloc, ALWAYS.as_bytes(), rules.slots())?;
+    if rules.slots() != 2 || swaps.pairs() != 1 {
         return Err("two slots".into());
     }
-    let swaps = SwapTable::from_rows(alloc, &[[ALL; 4]])?;
+    let lattice = Lattice::of(6)?;
     let couplings = Couplings::random(alloc, lattice, 11)?;
     Ok(Plan::new(lattice, rules, swaps, couplings, 1, 11))
 }
@@ -90,43 +92,50 @@ fn aged<R: AllocGlobal + Threads + Sync>(
     Ok(out)
 }
 
-#[test]
-fn aging_from_the_quench(rt: HostRuntime) -> Result<(), Fail> {
+// Fails, with the text that is meant, where an output was given another one.
+fn has_text(out: &MemorySink, text: &str) -> Result<(), Fail> {
+    if out.taken() == text.as_bytes() {
+        Ok(())
+    } else {
+        Err(Fail::new(text))
+    }
+}
+
+// Fails where one sample of spins against their fields, from all up, has another text.
+fn against_puts<R: AllocGlobal + Threads + Sync>(rt: &R, ages: Ages, text: &str) -> Result<(), Fail>
+    requires wait { ages.wait ≤ most_sweeps }
+    requires later { (1 ≤ ages.time) × (ages.time ≤ most_sweeps) }
+{
     let alloc = rt.alloc();
     let plan = against(alloc)?;
-    let out = aged(&rt, &plan, Start::Up, 1, AT_QUENCH, Vec::new(alloc))?;
-    assert_eq!(rt;
-        out.taken(),
-        b"age 1 size=4 slots=1 samples=1 rule=heat tw=0
+    let out = aged(rt, &plan, Start::Up, 1, ages, Vec::new(alloc))?;
+    has_text(&out, text)
+}
+
+const FROM_THE_QUENCH: &str = "age 1 size=4 slots=1 samples=1 rule=heat tw=0
 age,0,0,0,0,64
 age,0,0,1,0,0
 age,0,1,0,0,64
 age,0,1,1,0,0
 end
-"
-            .as_slice()
-    );
-    Ok(())
-}
+";
 
 #[test]
-fn aging_after_one_sweep(rt: HostRuntime) -> Result<(), Fail> {
-    let alloc = rt.alloc();
-    let plan = against(alloc)?;
-    let ages = Ages { wait: 1, time: 1 };
-    let out = aged(&rt, &plan, Start::Up, 1, ages, Vec::new(alloc))?;
-    assert_eq!(rt;
-        out.taken(),
-        b"age 1 size=4 slots=1 samples=1 rule=heat tw=1
+fn aging_from_the_quench(rt: HostRuntime) -> Result<(), Fail> {
+    against_puts(&rt, AT_QUENCH, FROM_THE_QUENCH)
+}
+
+const AFTER_ONE_SWEEP: &str = "age 1 size=4 slots=1 samples=1 rule=heat tw=1
 age,0,0,0,0,64
 age,0,0,1,0,64
 age,0,1,0,0,64
 age,0,1,1,0,64
 end
-"
-            .as_slice()
-    );
-    Ok(())
+";
+
+#[test]
+fn aging_after_one_sweep(rt: HostRuntime) -> Result<(), Fail> {
+    against_puts(&rt, Ages { wait: 1, time: 1 }, AFTER_ONE_SWEEP)
 }
 
 // The second put takes none of the lines behind the first.
@@ -136,11 +145,10 @@ fn aging_ends_where_the_output_fails(rt: HostRuntime) -> Result<(), Fail> {
     let plan = against(alloc)?;
     let fails = Vec::from_slice(alloc, &[1])?;
     let out = aged(&rt, &plan, Start::Up, 1, AT_QUENCH, fails)?;
-    assert_eq!(rt;
-        out.taken(),
-        b"age 1 size=4 slots=1 samples=1 rule=heat tw=0\n".as_slice()
-    );
-    assert_eq!(rt; out.faults(), 1);
+    has_text(&out, "age 1 size=4 slots=1 samples=1 rule=heat tw=0\n")?;
+    if out.faults() != 1 {
+        return Err("one fault".into());
+    }
     Ok(())
 }
 
@@ -203,31 +211,58 @@ fn plain_line(
     Ok(format!(in alloc; "age,{slot},{copy},{time},{bit},{sum}\n")?)
 }
 
-#[test]
-fn random_samples_age_as_plain_ones(rt: HostRuntime) -> Result<(), Fail> {
-    let alloc = rt.alloc();
-    for (kind, rule) in [
-        (RuleKind::Heat, "heat"),
-        (RuleKind::Metropolis, "metropolis"),
-    ] {
-        let plan = random(alloc, kind)?;
-        let ages = Ages { wait: 2, time: 3 };
-        let out = aged(&rt, &plan, Start::Random, 3, ages, Vec::new(alloc))?;
-        let mut text = format!(in alloc; "age 1 size=6 slots=2 samples=3 rule={rule} tw=2\n")?;
-        for slot in 0..2 {
-            for copy in 0..2 {
-                let place = ReplicaPlace { slot, copy };
-                for time in [0, 3] {
-                    for bit in 0..3 {
-                        let ages = Ages { wait: 2, time };
-                        let line = plain_line(alloc, &plan, place, bit, ages)?;
-                        text.push_str(line.as_str())?;
-                    }
-                }
-            }
+// Appends the lines of three samples in one of the two replicas of a slot, at both times.
+fn push_replica(
+    alloc: Global,
+    plan: &Plan,
+    place: ReplicaPlace,
+    text: &mut String,
+) -> Result<(), Fail>
+    requires { place.slot < slots_of plan.now }
+{
+    for time in [0, 3] {
+        for bit in 0..3 {
+            let line = plain_line(alloc, plan, place, bit, Ages { wait: 2, time })?;
+            text.push_str(line.as_str())?;
         }
-        text.push_str("end\n")?;
-        assert!(rt; out.taken() == text.as_str().as_bytes(), "{rule}");
     }
     Ok(())
+}
+
+// The text behind this header, by the samples alone.
+fn plain_text(alloc: Global, plan: &Plan, header: &str) -> Result<String, Fail>
+    requires { slots_of plan.now ≡ 2 }
+{
+    let mut text = String::from_str(alloc, header)?;
+    for slot in 0..2 {
+        for copy in 0..2 {
+            push_replica(alloc, plan, ReplicaPlace { slot, copy }, &mut text)?;
+        }
+    }
+    text.push_str("end\n")?;
+    Ok(text)
+}
+
+// Fails where three random samples put another text than by the samples alone.
+fn ages_as_plain<R: AllocGlobal + Threads + Sync>(
+    rt: &R,
+    kind: RuleKind,
+    header: &str,
+) -> Result<(), Fail> {
+    let alloc = rt.alloc();
+    let plan = random(alloc, kind)?;
+    let ages = Ages { wait: 2, time: 3 };
+    let out = aged(rt, &plan, Start::Random, 3, ages, Vec::new(alloc))?;
+    let text = plain_text(alloc, &plan, header)?;
+    has_text(&out, text.as_str())
+}
+
+const OF_HEAT_BATH: &str = "age 1 size=6 slots=2 samples=3 rule=heat tw=2\n";
+
+const OF_METROPOLIS: &str = "age 1 size=6 slots=2 samples=3 rule=metropolis tw=2\n";
+
+#[test]
+fn random_samples_age_as_plain_ones(rt: HostRuntime) -> Result<(), Fail> {
+    ages_as_plain(&rt, RuleKind::Heat, OF_HEAT_BATH)?;
+    ages_as_plain(&rt, RuleKind::Metropolis, OF_METROPOLIS)
 }
