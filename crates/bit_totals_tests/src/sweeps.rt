@@ -54,7 +54,7 @@ fn same_words(a: &Stand, b: &Stand) -> bool {
 }
 
 pub(super) fn same_planes(a: &Replica, b: &Replica) -> bool {
-    let mut same = true;
+    let mut same = a.planes.len() == b.planes.len();
     for (here, there) in a.planes.as_slice().iter().zip(b.planes.as_slice()) {
         same = same && here.words.as_slice() == there.words.as_slice();
     }
