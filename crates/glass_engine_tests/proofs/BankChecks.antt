@@ -1,5 +1,5 @@
 -- Runs over two banks of one plan, as a test opens them.
-use Rattle.std.proofs.Common.{arith, ℕ, ◌-◌, ◌*◌, ◌≤◌, min, List, [], ◌∷◌, Result, Ok, Err, IfOk, refl}
+use Rattle.std.proofs.Common.{arith, ℕ, ◌-◌, ◌*◌, ◌≤◌, min, List, [], ◌∷◌, refl}
 use Rattle.std.specs.Prelude.{All, ◌≢◌}
 use Rattle.std.proofs.lemmas.List.Elements.{All-nil, All-cons, All-head, All-tail}
 use Rattle.run_checkpoint.specs.BankEncoding.{HaveShape, BanksFit}
@@ -42,8 +42,3 @@ pub ends-save : (ds : List DoneView) → All (λ (run : RunView). run.saves ≢ 
 ends-save [] all = All-nil (λ (d : DoneView). d.run.saves ≢ saves.Never)
 ends-save (d ∷ ds) all =
     All-cons (λ (x : DoneView). x.run.saves ≢ saves.Never) d ds (All-head saves-some d.run (runs_of ds) all) (ends-save ds (All-tail saves-some d.run (runs_of ds) all))
-
--- what is known of an answer, where each value has it
-pub ok-as : {T E : Type 0} (r : Result T E) (P Q : T → Type 0) → ((x : T) → P x → Q x) → IfOk r P → IfOk r Q
-ok-as (Ok x) P Q gives is = gives x is
-ok-as (Err e) P Q gives is = tt

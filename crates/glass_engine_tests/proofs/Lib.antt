@@ -1,2 +1,1 @@
 pub mod BankChecks
-pub mod OpenedStates

@@ -1,16 +1,14 @@
 //! A run over two banks: its one report, and its one checkpoint.
 
-ghost use Rattle.std.specs.Prelude.{◌≡◌, ◌≢◌, ◌*◌, ◌≤◌, [], ◌∷◌, map, All, IfOk};
+ghost use Rattle.std.specs.Prelude.{◌≡◌, ◌≢◌, ◌≤◌, [], ◌∷◌, map, All, IfOk};
 ghost use Rattle.std.specs.Arc.{arc_value};
-ghost use Rattle.spin_model.specs.Limits.{most_rows};
 ghost use Rattle.run_checkpoint.specs.BankEncoding.{BanksFit};
-ghost use Rattle.scalar_rule.specs.Plan.{slots_of};
 ghost use Rattle.glass_engine.specs.BankRuns.{plans_of};
 ghost use Rattle.glass_engine.specs.Runs.{RunView};
 ghost use Rattle.glass_engine.specs.declared.run.SaveKind.TheVariants as saves;
 
 use crate::runs::{UP, holds, plan_of};
-use crate::saving::bytes_of;
+use crate::saving::{bytes_of, two_rooms};
 use glass_edges::{MemoryShelf, MemorySink, NoMemory, OpenGate};
 use glass_engine::{Banks, drive_banks, open_banks, save_banks, write_banks};
 use plane_sweep::Stand;
@@ -64,17 +62,18 @@ fn opened(
     alloc: Global,
     plan: &Arc<Plan, Global>,
     plans: &[Arc<Plan, Global>],
-    stands: Vec<Stand>,
     workers: u32,
-) -> Result<Banks, NoMemory>
+) -> Result<Banks, Fail>
     requires plans { map arc_value plans.now ≡ arc_value plan.now ∷ arc_value plan.now ∷ [] }
-    requires stands { BanksFit 0 (arc_value plan.now ∷ arc_value plan.now ∷ []) stands.items }
-    requires rows { 65 * slots_of (arc_value plan.now) ≤ most_rows }
     requires workers { (1 ≤ workers) × (workers ≤ 64) }
     ensures plans { IfOk result (λ banks. map arc_value plans.now ≡ plans_of banks) }
     ensures saves { IfOk result (λ banks. All (λ (run : RunView). run.saves ≢ saves.Never) banks) }
 {
-    open_banks(alloc, plans, &ORDERS, stands, 1, workers, true)
+    let stands = openings(alloc, plan)?;
+    // A plan has at most 32 slots.
+    let _ = plan.slots();
+    let banks = open_banks(alloc, plans, &ORDERS, stands, 1, workers, true)?;
+    Ok(banks)
 }
 
 /// Drives it, and puts its report and, twice, its checkpoint.
@@ -103,16 +102,10 @@ fn run_of_two<R: Threads + Wait + Sync>(
     requires workers { (1 ≤ workers) × (workers ≤ 64) }
 {
     let mut out = MemorySink::new(alloc, 10000, 300, Vec::new(alloc))?;
-    let mut shelf = MemoryShelf::new(alloc, Vec::new(alloc));
-    shelf.room("first", 20000)?;
-    shelf.room("second", 20000)?;
+    let mut shelf = two_rooms(alloc)?;
     let plan = plan_of(alloc, UP, "")?;
-    let stands = openings(alloc, &plan)?;
-    // A plan has at most 32 slots.
-    let _ = plan.slots();
-    let plan = Arc::new(alloc, plan)?;
     let plans = twice(&plan)?;
-    let banks = opened(alloc, &plan, plans.as_slice(), stands, workers)?;
+    let banks = opened(alloc, &plan, plans.as_slice(), workers)?;
     written(rt, banks, plans.as_slice(), &mut out, &mut shelf);
     Ok((out, shelf))
 }

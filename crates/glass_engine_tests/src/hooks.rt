@@ -27,7 +27,7 @@ fn hook_is_entered_once_for_each_slot_and_epoch(rt: HostRuntime) -> Result<(), F
         entered: AtomicU64::new(0),
     };
     let plan = two_slots(rt.alloc())?;
-    reported(&rt, &gate, rt.alloc(), plan, &ORDERS, &whole(2, 2))?;
+    reported(&rt, &gate, rt.alloc(), &plan, &ORDERS, &whole(2, 2))?;
     holds("0x0303", gate.entered.load(Ordering::SeqCst) == 0x0303)
 }
 
@@ -75,7 +75,7 @@ fn two_workers_overlap_in_every_epoch(rt: HostRuntime) -> Result<(), Fail> {
         met: four_counts(),
     };
     let plan = two_slots(rt.alloc())?;
-    reported(&rt, &gate, rt.alloc(), plan, &ORDERS, &whole(4, 2))?;
+    reported(&rt, &gate, rt.alloc(), &plan, &ORDERS, &whole(4, 2))?;
     for met in &gate.met {
         holds("the second came", met.load(Ordering::SeqCst) == 1)?;
     }

@@ -1,13 +1,11 @@
 //! Reports of small runs, byte by byte.
 
-ghost use Rattle.std.specs.Prelude.{◌≡◌, ◌≤◌};
-ghost use Rattle.run_plan.specs.RunFile.{AreLawfulOrders};
+ghost use Rattle.glass_engine.specs.Runs.{AreRunOrders};
 
-use crate::runs::{ORDERS, Reach, THREE_UP, begun, holds, plan_of, two_slots, whole};
-use glass_edges::{Gate, MemorySink, NoMemory, OpenGate};
+use crate::runs::{ORDERS, Reach, THREE_UP, holds, opened, plan_of, two_slots, whole};
+use glass_edges::{Gate, MemorySink, OpenGate};
 use glass_engine::{SaveKind, drive, write_report};
-use plane_sweep::Stand;
-use run_plan::{Orders, check_amount};
+use run_plan::Orders;
 use scalar_rule::Plan;
 use std::alloc::Global;
 use std::sync::{Arc, Wait};
@@ -19,24 +17,16 @@ pub(super) fn reported<R: Threads + Wait + Sync, G: Gate + Sync>(
     rt: &R,
     gate: &G,
     alloc: Global,
-    plan: Plan,
+    plan: &Arc<Plan, Global>,
     orders: &Orders,
     reach: &Reach,
-) -> Result<MemorySink, NoMemory>
-    requires { AreLawfulOrders orders.now }
+) -> Result<MemorySink, Fail>
+    requires { AreRunOrders orders.now }
 {
     let mut out = MemorySink::new(alloc, 5000, 300, Vec::new(alloc))?;
-    // A plan has a slot.
-    let _ = plan.slots();
-    let stand = Stand::opening(alloc, &plan, orders.start)?;
-    let until = reach.until;
-    if stand.epoch > until || check_amount(&plan, orders, stand.epoch, until).is_err() {
-        return Ok(out);
-    }
-    let plan = Arc::new(alloc, plan)?;
-    let run = begun(alloc, &plan, orders, stand, reach, SaveKind::Never)?;
-    let done = drive(rt, run, &plan, 3, gate);
-    let _ = write_report(&done, &plan, &mut out);
+    let run = opened(alloc, plan, orders, reach, SaveKind::Never)?;
+    let done = drive(rt, run, plan, 3, gate);
+    let _ = write_report(&done, plan, &mut out);
     Ok(out)
 }
 
@@ -44,12 +34,12 @@ pub(super) fn reported<R: Threads + Wait + Sync, G: Gate + Sync>(
 fn reports<R: Threads + Wait + Sync>(
     rt: &R,
     alloc: Global,
-    plan: Plan,
+    plan: &Arc<Plan, Global>,
     orders: &Orders,
     reach: &Reach,
     report: &str,
 ) -> Result<(), Fail>
-    requires { AreLawfulOrders orders.now }
+    requires { AreRunOrders orders.now }
 {
     let out = reported(rt, &OpenGate, alloc, plan, orders, reach)?;
     holds(report, out.taken() == report.as_bytes())
@@ -63,7 +53,7 @@ fn two_slots_report<R: Threads + Wait + Sync>(
     report: &str,
 ) -> Result<(), Fail> {
     let plan = two_slots(alloc)?;
-    reports(rt, alloc, plan, &ORDERS, reach, report)
+    reports(rt, alloc, &plan, &ORDERS, reach, report)
 }
 
 const ALL_DOWN: &str = "glass 1 size=4 slots=1 samples=1 rule=heat from=0 to=1
@@ -77,7 +67,7 @@ spin,0,0,1,0000000000000000
 fn report_of_all_down(rt: HostRuntime) -> Result<(), Fail> {
     let alloc = rt.alloc();
     let plan = plan_of(alloc, "0,0,0,0,0,0,0\n", "")?;
-    reports(&rt, alloc, plan, &ORDERS, &whole(1, 2), ALL_DOWN)
+    reports(&rt, alloc, &plan, &ORDERS, &whole(1, 2), ALL_DOWN)
 }
 
 const TWO_SLOTS: &str = "glass 1 size=4 slots=2 samples=1 rule=heat from=0 to=2
@@ -170,5 +160,5 @@ fn three_slots_through_two_seats(rt: HostRuntime) -> Result<(), Fail> {
         spins: false,
         ..ORDERS
     };
-    reports(&rt, alloc, plan, &orders, &whole(3, 2), THREE_SLOTS)
+    reports(&rt, alloc, &plan, &orders, &whole(3, 2), THREE_SLOTS)
 }

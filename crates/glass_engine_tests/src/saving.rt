@@ -3,13 +3,12 @@
 ghost use Rattle.std.specs.Prelude.{◌≡◌, ◌≢◌};
 ghost use Rattle.glass_engine.specs.declared.run.SaveKind.TheVariants as saves;
 
-use crate::runs::{ORDERS, Reach, begun, holds, two_slots, whole};
-use glass_edges::{Fetched, MemoryShelf, OpenGate, Shelf};
-use glass_engine::{SaveKind, drive, save};
-use plane_sweep::Stand;
-use run_plan::check_amount;
+use crate::runs::{ORDERS, Reach, holds, opened, two_slots, whole};
+use glass_edges::{Fetched, MemoryShelf, NoMemory, OpenGate, Shelf};
+use glass_engine::{Run, SaveKind, drive, save};
+use scalar_rule::Plan;
 use std::alloc::Global;
-use std::sync::{Arc, Wait};
+use std::sync::Wait;
 use std::test::Fail;
 use std::thread::Threads;
 
@@ -24,6 +23,24 @@ const DIGEST_AT_2: [u8; 32] = [
     0x59, 0xae, 0x06, 0xb1, 0x6d, 0x13, 0xe1, 0x18, 0x7e, 0xc0, 0x6f, 0xde, 0x26, 0x29, 0x63, 0x3c,
 ];
 
+/// A store with room for two checkpoints.
+pub(super) fn two_rooms(alloc: Global) -> Result<MemoryShelf, NoMemory> {
+    let mut shelf = MemoryShelf::new(alloc, Vec::new(alloc));
+    shelf.room("first", 20000)?;
+    shelf.room("second", 20000)?;
+    Ok(shelf)
+}
+
+/// Drives a run, and places its checkpoint twice.
+fn placed<R: Threads + Wait + Sync>(rt: &R, run: Run, plan: &Plan, shelf: &mut MemoryShelf)
+    requires plan { plan.now ≡ run.plan }
+    requires saves { run.saves ≢ saves.Never }
+{
+    let mut done = drive(rt, run, plan, 1, &OpenGate);
+    let _ = save(&mut done, plan, shelf, "first");
+    let _ = save(&mut done, plan, shelf, "second");
+}
+
 /// A store in which two saves of a run of two slots are placed.
 fn placed_twice<R: Threads + Wait + Sync>(
     rt: &R,
@@ -34,22 +51,10 @@ fn placed_twice<R: Threads + Wait + Sync>(
     requires whole { kind ≡ saves.Level → reach.now.takes ≡ 32000000000 }
     requires some { kind ≢ saves.Never }
 {
-    let mut shelf = MemoryShelf::new(alloc, Vec::new(alloc));
-    shelf.room("first", 20000)?;
-    shelf.room("second", 20000)?;
+    let mut shelf = two_rooms(alloc)?;
     let plan = two_slots(alloc)?;
-    // A plan has a slot.
-    let _ = plan.slots();
-    let stand = Stand::opening(alloc, &plan, ORDERS.start)?;
-    let until = reach.until;
-    if stand.epoch > until || check_amount(&plan, &ORDERS, stand.epoch, until).is_err() {
-        return Ok(shelf);
-    }
-    let plan = Arc::new(alloc, plan)?;
-    let run = begun(alloc, &plan, &ORDERS, stand, reach, kind)?;
-    let mut done = drive(rt, run, &plan, 1, &OpenGate);
-    let _ = save(&mut done, &plan, &mut shelf, "first");
-    let _ = save(&mut done, &plan, &mut shelf, "second");
+    let run = opened(alloc, &plan, &ORDERS, reach, kind)?;
+    placed(rt, run, &plan, &mut shelf);
     Ok(shelf)
 }
 

@@ -1,4 +1,4 @@
-use Rattle.std.proofs.Common.{◌≡◌, List, ap, ◌∙◌, subst, sym}
+use Rattle.std.proofs.Common.{List, ap, ◌∙◌, subst, sym}
 use Rattle.std.specs.Prelude.{All, ◌≢◌}
 use Rattle.glass_engine_tests.proofs.BankChecks.{ends-save}
 use Rattle.glass_engine.specs.BankRuns.{runs_of}
