@@ -67,8 +67,8 @@ impl<const W: usize> Planes<W> {
     }
 }
 
-/// Adds a plane's worth to the number of each sample that has it set. Goes plane by plane, not sample
-/// by sample, so that several samples fit a vector.
+/// Adds a plane's worth to the number of each sample that has it set: one plane over all samples, so that
+/// several of them fit a vector.
 #[inline]
 fn add_worths(out: &mut [u32; 64], word: u64, plane: usize)
     requires plane { plane < 20 }
