@@ -20,7 +20,7 @@ ghost use Rattle.spin_model.specs.Lattice.{bond_count, half_plane, IsLawfulSize}
 use crate::counted_rows::sweep_plane_counted;
 use crate::tally::Tally;
 use multispin_word::Planes;
-use plane_sweep::{Duo, Dynamics, Plane, sweep_ahead};
+use plane_sweep::{DUO_DRAWS, Duo, Dynamics, Plane, sweep_ahead};
 use scalar_rule::Plan;
 use threshold_table::SlotRule;
 
@@ -102,7 +102,7 @@ fn sweep_colours(
         ≡ unsatisfied_from dynamics.now.couplings.now.size (bonds_of dynamics.now.couplings.now b)
         (spins_of dynamics.now.couplings.now.size b second.new) 1 (dynamics.now.couplings.now.size * half_plane dynamics.now.couplings.now.size) }
 {
-    sweep_following(first, second, dynamics, &mut [0u32; 4096], size)
+    sweep_following(first, second, dynamics, &mut [0u32; DUO_DRAWS], size)
 }
 
 // The planes of both colours, of colour 0 ahead and of colour 1 behind, in the order in which one

@@ -20,7 +20,9 @@ ghost use Rattle.spin_model.specs.Lattice.{bond_count, half_plane, IsLawfulSize}
 use crate::counted_rows::sweep_plane_counted;
 use crate::tally::Tally;
 use multispin_word::Planes;
-use plane_sweep::{Dynamics, HalfPlane, Plane, Replica, sweep_plane};
+use plane_sweep::{
+    Dynamics, HalfPlane, PLANE_DRAWS, Plane, Replica, SMALL_DRAWS, SMALL_SIZE, sweep_plane,
+};
 use scalar_rule::Plan;
 use threshold_table::SlotRule;
 
@@ -79,10 +81,10 @@ fn sweep_colours(planes: &mut [Plane], dynamics: &Dynamics, size: usize) -> Tall
         ≡ unsatisfied_from dynamics.now.couplings.now.size (bonds_of dynamics.now.couplings.now b)
         (spins_of dynamics.now.couplings.now.size b planes.new) 1 (dynamics.now.couplings.now.size * half_plane dynamics.now.couplings.now.size) }
 {
-    if size <= 16 {
-        sweep_both(planes, dynamics, &mut [0u32; 128], size)
+    if size <= SMALL_SIZE {
+        sweep_both(planes, dynamics, &mut [0u32; SMALL_DRAWS], size)
     } else {
-        sweep_both(planes, dynamics, &mut [0u32; 2048], size)
+        sweep_both(planes, dynamics, &mut [0u32; PLANE_DRAWS], size)
     }
 }
 

@@ -11,7 +11,7 @@ ghost use Rattle.scalar_rule.specs.Sweep.{sweep};
 
 use bit_totals::{agreeing, sweep_and_count, sweep_duo_and_count, unsatisfied_duo};
 use multispin_word::Planes;
-use plane_sweep::{Duo, LEAST_FORKED, sweep_duo_often};
+use plane_sweep::{Duo, LEAST_FORKED, LEAST_IN_TURN, sweep_duo_often};
 use scalar_rule::{Plan, Record, excess};
 use std::thread::Threads;
 
@@ -182,7 +182,7 @@ fn sweep_counting(duo: &mut Duo, plan: &Plan, slot: u32) -> Totals
     ensures fits { FitsDuo plan.now.size duo.new }
     ensures totals { AreTotals plan.now duo.new result }
 {
-    if (plan.lattice().size() as usize) < LEAST_FORKED {
+    if (plan.lattice().size() as usize) < LEAST_IN_TURN {
         let first = sweep_and_count(&mut duo.first, plan, slot);
         let second = sweep_and_count(&mut duo.second, plan, slot);
         Totals { first, second }

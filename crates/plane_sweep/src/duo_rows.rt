@@ -44,6 +44,8 @@ pub(crate) fn sweep_words_of_duo(
     ensures second { SweepsWords sites.now.couplings.now others.now.second.now sites.now.rule.now drawn.now.second.now sites.now.colour sites.now.z (half_plane sites.now.couplings.now.size) second.old second.new }
 {
     match sites.couplings.size() {
+        32 => sweep_sized::<32>(first, second, others, sites, drawn),
+        40 => sweep_sized::<40>(first, second, others, sites, drawn),
         48 => sweep_sized::<48>(first, second, others, sites, drawn),
         56 => sweep_sized::<56>(first, second, others, sites, drawn),
         64 => sweep_sized::<64>(first, second, others, sites, drawn),

@@ -10,6 +10,7 @@ ghost use Rattle.scalar_rule.specs.Replica.{configuration_of, with_configuration
 ghost use Rattle.scalar_rule.specs.Sweep as model;
 ghost use Rattle.spin_model.specs.Lattice.{half_plane, IsLawfulSize};
 
+use crate::draws::DUO_DRAWS;
 use crate::duo_rows::{Drawn, Others, sweep_words_of_duo};
 use crate::dynamics::{Dynamics, HalfPlane};
 use crate::replica::{Duo, Plane};
@@ -17,6 +18,10 @@ use crate::sweeping::{LEAST_FORKED, sweep_often};
 use scalar_rule::Plan;
 use std::thread::Threads;
 use threshold_table::SlotRule;
+
+/// The least size at which both replicas of a slot are swept by turns: a smaller lattice's couplings
+/// stay near the processor from the sweep of the one to that of the other.
+pub const LEAST_IN_TURN: usize = 32;
 
 /// That many sweeps of both replicas of a temperature slot, of each as `sweep` makes one. On a large
 /// lattice that is not cut in pieces the two go row by row in turn, since both read the same
@@ -41,7 +46,8 @@ pub fn sweep_duo_often<R: Threads + Sync>(
         (model.sweeps (dynamics_of plan.now b slot) count (configuration_of (part_copy plan.now.size b duo.old.second))) }
     ensures fits { FitsDuo plan.now.size duo.new }
 {
-    if pieces == 1 && plan.lattice().size() as usize >= LEAST_FORKED {
+    let size = plan.lattice().size() as usize;
+    if size >= LEAST_IN_TURN && (pieces == 1 || size < LEAST_FORKED) {
         sweep_in_turn(duo, plan, slot, count);
     } else {
         sweep_often(rt, &mut duo.first, plan, slot, pieces, count);
@@ -101,7 +107,7 @@ fn sweep_colours(first: &mut [Plane], second: &mut [Plane], dynamics: &Dynamics,
     ensures first { SweepsColours dynamics.now.couplings.now dynamics.now.rule.now first.old first.new }
     ensures second { SweepsColours dynamics.now.couplings.now dynamics.now.rule.now second.old second.new }
 {
-    sweep_following(first, second, dynamics, &mut [0u32; 4096], size);
+    sweep_following(first, second, dynamics, &mut [0u32; DUO_DRAWS], size);
 }
 
 // The planes of both colours, of colour 0 ahead and of colour 1 behind, in the order in which one

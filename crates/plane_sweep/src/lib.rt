@@ -3,6 +3,7 @@
 
 mod cells;
 mod copying;
+mod draws;
 mod duo_rows;
 mod duos;
 mod dynamics;
@@ -21,7 +22,8 @@ mod sweeping;
 mod uneven;
 
 pub use cells::{Cell, cell_at, deepest, has_record, shallowest};
-pub use duos::{sweep_ahead, sweep_duo_often};
+pub use draws::{DUO_DRAWS, PLANE_DRAWS, SMALL_DRAWS, SMALL_SIZE};
+pub use duos::{LEAST_IN_TURN, sweep_ahead, sweep_duo_often};
 pub use dynamics::{Dynamics, HalfPlane};
 pub use lanes::{pulls_of_four, update_four};
 pub use laws::{

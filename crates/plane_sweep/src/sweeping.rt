@@ -9,6 +9,7 @@ ghost use Rattle.scalar_rule.specs.Replica.{configuration_of, with_configuration
 ghost use Rattle.scalar_rule.specs.Sweep as model;
 ghost use Rattle.spin_model.specs.Lattice.{half_plane, IsLawfulSize};
 
+use crate::draws::{PLANE_DRAWS, SMALL_DRAWS, SMALL_SIZE};
 use crate::dynamics::{Dynamics, HalfPlane};
 use crate::replica::{Plane, Replica};
 use crate::rows::sweep_words;
@@ -108,10 +109,10 @@ fn sweep_colours<R: Threads + Sync>(
 {
     if pieces > 1 && size >= LEAST_FORKED {
         fork_both(rt, planes, dynamics, size, pieces);
-    } else if size <= 16 {
-        sweep_both(planes, dynamics, &mut [0u32; 128], size);
+    } else if size <= SMALL_SIZE {
+        sweep_both(planes, dynamics, &mut [0u32; SMALL_DRAWS], size);
     } else {
-        sweep_both(planes, dynamics, &mut [0u32; 2048], size);
+        sweep_both(planes, dynamics, &mut [0u32; PLANE_DRAWS], size);
     }
 }
 
@@ -244,7 +245,7 @@ fn sweep_alone(plane: &mut Plane, other: &[Plane], dynamics: &Dynamics, colour: 
         colour,
         z,
     };
-    sweep_plane(plane, other, &sites, &mut [0u32; 2048]);
+    sweep_plane(plane, other, &sites, &mut [0u32; PLANE_DRAWS]);
 }
 
 /// Sweeps the sites of a colour in a plane, by the planes of the other colour. Each site has a draw, used

@@ -52,10 +52,10 @@ fn duos_agree<R: Threads + Sync>(
     holds("size", size, same_first_duo(&together, &apart))
 }
 
-// At sizes 48 and 64 the two go row by row.
+// From size 32 on the two go row by row.
 #[test]
 fn both_replicas_in_turn_leave_what_each_leaves_alone(rt: HostRuntime) -> Result<(), Fail> {
-    for size in [8, 48, 64] {
+    for size in [8, 32, 40, 48, 64] {
         duos_agree(&rt, rt.alloc(), size, RuleKind::Heat)?;
         duos_agree(&rt, rt.alloc(), size, RuleKind::Metropolis)?;
     }
