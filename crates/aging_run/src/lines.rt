@@ -2,7 +2,7 @@
 
 ghost use Rattle.std.specs.Prelude.{◌≡◌, ◌+◌, ◌<◌, ◌≤◌, [], ◌++◌, length, OnOk, OnErr};
 ghost use Rattle.glass_edges.specs.Causes.{HasCause};
-ghost use Rattle.glass_edges.specs.Contents.{appended, AppendsPrefix, PutsFront};
+ghost use Rattle.glass_edges.specs.Contents.{appended, AppendsPrefix, PutsFront, line_room};
 ghost use Rattle.aging_run.specs.Aging as lines;
 ghost use Rattle.aging_run.specs.Measuring.{overlap_in};
 
@@ -10,6 +10,10 @@ use glass_edges::{Fault, Line, Sink, put_all};
 use multispin_word::Planes;
 use report_text::kind_word;
 use scalar_rule::Plan;
+
+/// The bytes that the line of an overlap has at most: five numbers of 20 characters, and the nine around
+/// them.
+const OVERLAP_ROOM: usize = 109;
 
 /// Where a replica stands.
 #[derive(Clone, Copy)]
@@ -69,7 +73,7 @@ fn fill_header(line: &mut Line, plan: &Plan, samples: u32, wait: u64)
 }
 
 /// Adds the line of one sample in a replica at a time, from its agreeing sites, behind a text that is
-/// still to be put; what does not fit goes out in full buffers, and the rest stays.
+/// still to be put. Where it might not fit there, the text goes out first.
 pub(crate) fn add_overlap<O: Sink>(
     out: &mut O,
     text: &mut Line,
@@ -83,17 +87,17 @@ pub(crate) fn add_overlap<O: Sink>(
         (text.old ++ lines.overlap_line measured.now.place.slot measured.now.place.copy measured.now.time sample (overlap_in measured.now.agreeing.now.words measured.now.sites sample))) }
     ensures cause { HasCause (O.faults out.old) (O.faults out.new) result }
 {
-    let mut line = Line::new();
-    fill_overlap(&mut line, measured, sample);
-    text.extend(out, line.as_slice())
+    text.make_room(out, OVERLAP_ROOM)?;
+    fill_overlap(text, measured, sample);
+    Ok(())
 }
 
-// Fills an empty line with it.
+// Adds it at the end.
 #[tactic(auto, unfolding(crate::specs::Aging::overlap_line))]
 fn fill_overlap(line: &mut Line, measured: &Measured, sample: u32)
-    requires line { line.old ≡ [] }
+    requires room { length line.old + OVERLAP_ROOM ≤ line_room }
     requires sample { sample < 64 }
-    ensures { line.new ≡ lines.overlap_line measured.now.place.slot measured.now.place.copy measured.now.time sample (overlap_in measured.now.agreeing.now.words measured.now.sites sample) }
+    ensures { line.new ≡ line.old ++ lines.overlap_line measured.now.place.slot measured.now.place.copy measured.now.time sample (overlap_in measured.now.agreeing.now.words measured.now.sites sample) }
 {
     line.add(b"age,");
     line.number(measured.place.slot as u64);

@@ -37,6 +37,10 @@ prefix_past before mid now xs ys whole p = record {
   same = p.same ∙ ap (λ o. appended o (take p.count ys)) whole ∙ appended-appended before xs (take p.count ys) ∙ ap (appended before) (sym (take-append-add xs ys p.count));
 }
 
+-- a text behind a first one, and more behind it
+pub behind : (first mid last text more : List ℕ) → mid ≡ first ++ text → last ≡ mid ++ more → last ≡ first ++ (text ++ more)
+behind first mid last text more e f = f ∙ ap (λ xs. xs ++ more) e ∙ append_assoc first text more
+
 -- ---- a text that goes out front by front, with its rest in a line
 
 -- the text so far and all that follows

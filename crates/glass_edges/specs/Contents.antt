@@ -22,6 +22,10 @@ pub record PutsFront (before now : Option (List ℕ)) (text rest : List ℕ) : T
   pub whole : text ≡ front ++ rest
   pub same : now ≡ appended before front
 
+-- the bytes that a line has room for
+abbrev pub line_room : ℕ
+line_room = 4096
+
 -- where an index can give only such bytes, they are those of a text
 pub record TellsBytes (gives : ℕ → ℕ → Type 0) (count : ℕ) (text : List ℕ) : Type 0 where
   pub sized : length text ≡ count

@@ -34,7 +34,7 @@ pub use first_refusal::first_found_is_first;
 pub use gate::{Gate, OpenGate};
 pub use honest_shelf::HonestShelf;
 pub use honest_sink::HonestSink;
-pub use line::Line;
+pub use line::{LINE_ROOM, Line};
 pub use memory_shelf::MemoryShelf;
 pub use memory_sink::MemorySink;
 pub use numbers::u32_at;

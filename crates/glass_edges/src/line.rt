@@ -3,27 +3,31 @@
 ghost use Rattle.std.specs.Prelude.{◌≡◌, ℕ, ◌+◌, ◌<◌, ◌≤◌, ◌↔◌, IsTrue, List, [], ◌++◌, length, decimal, Ok, OnOk, OnErr};
 ghost use Rattle.std.specs.Fmt.{signed_decimal};
 ghost use Rattle.glass_edges.specs.Causes.{HasCause};
-ghost use Rattle.glass_edges.specs.Contents.{appended, AppendsPrefix, PutsFront, TellsBytes};
+ghost use Rattle.glass_edges.specs.Contents.{appended, AppendsPrefix, PutsFront, TellsBytes, line_room};
 
 use crate::{Fault, Sink, put_all};
 use std::marker::Model;
 
-/// A text of at most 256 bytes, the longest bounded line among them. It takes no memory, and a
-/// line that is made in it is put at once.
+/// The bytes that a line has room for: many rows of a report go out in one piece, and the longest
+/// bounded line is far shorter.
+pub const LINE_ROOM: usize = 4096;
+
+/// A text of at most [`LINE_ROOM`] bytes. It takes no memory.
 #[derive(Drop)]
 pub struct Line {
-    text: [u8; 256],
+    text: [u8; LINE_ROOM],
     len: usize,
 }
 
 impl Model for Line {
     ghost use Rattle.std.specs.Prelude.{ℕ, ◌≤◌, List, take};
+    ghost use Rattle.glass_edges.specs.Contents.{line_room};
 
     ghost Value = { List ℕ };
 
     ghost view = { λ a. take a.len a.text };
 
-    ghost invariant = { λ a. a.len ≤ 256 };
+    ghost invariant = { λ a. a.len ≤ line_room };
 }
 
 impl Line {
@@ -32,7 +36,7 @@ impl Line {
         ensures { result ≡ [] }
     {
         Line {
-            text: [0; 256],
+            text: [0; LINE_ROOM],
             len: 0,
         }
     }
@@ -46,7 +50,7 @@ impl Line {
 
     /// Adds these bytes at the end.
     pub fn add(&mut self, bytes: &[u8])
-        requires { length self.old + length bytes.now ≤ 256 }
+        requires { length self.old + length bytes.now ≤ line_room }
         ensures { self.new ≡ self.old ++ bytes.now }
     {
         let end = self.len + bytes.len();
@@ -56,7 +60,7 @@ impl Line {
 
     /// Adds a number in decimal, of at most 20 digits.
     pub fn number(&mut self, n: u64)
-        requires { length self.old + 20 ≤ 256 }
+        requires { length self.old + 20 ≤ line_room }
         ensures value { self.new ≡ self.old ++ decimal n }
         ensures short { length self.new ≤ length self.old + 20 }
     {
@@ -66,7 +70,7 @@ impl Line {
 
     /// Adds a signed number in decimal, of at most 20 characters.
     pub fn signed(&mut self, n: i64)
-        requires { length self.old + 20 ≤ 256 }
+        requires { length self.old + 20 ≤ line_room }
         ensures value { self.new ≡ self.old ++ signed_decimal n }
         ensures short { length self.new ≤ length self.old + 20 }
     {
@@ -77,7 +81,7 @@ impl Line {
     /// The number of bytes.
     pub fn len(&self) -> usize
         ensures value { result ≡ length self.now }
-        ensures within { length self.now ≤ 256 }
+        ensures within { length self.now ≤ line_room }
     {
         self.len
     }
@@ -111,35 +115,36 @@ impl Line {
     }
 
     /// Puts the text where `count` more bytes would not fit behind it, and does nothing where they
-    /// would.
+    /// would. At an error, which counts a fault, the output has taken a prefix of the text.
     pub fn make_room<O: Sink>(&mut self, out: &mut O, count: usize) -> Result<(), Fault>
-        requires { count ≤ 256 }
-        ensures room { OnOk result (length self.new + count ≤ 256) }
+        requires { count ≤ line_room }
+        ensures room { OnOk result (length self.new + count ≤ line_room) }
         ensures front { OnOk result (PutsFront (O.taken out.old) (O.taken out.new) self.old self.new) }
         ensures prefix { OnErr result (AppendsPrefix (O.taken out.old) (O.taken out.new) self.old) }
         ensures cause { HasCause (O.faults out.old) (O.faults out.new) result }
-        ensures stays { length self.old + count ≤ 256
+        ensures stays { length self.old + count ≤ line_room
             → (result ≡ Ok tt) × (self.new ≡ self.old) × (out.new ≡ out.old) }
     {
-        if self.len() > 256 - count {
+        if self.len() > LINE_ROOM - count {
             return self.put(out);
         }
         Ok(())
     }
 
     /// Adds bytes of any number; what does not fit goes out in full buffers, and the rest stays.
-    /// Where all of them fit nothing is put.
+    /// Where all of them fit nothing is put. At an error, which counts a fault, the output has taken a
+    /// prefix of the text and these bytes.
     pub fn extend<O: Sink>(&mut self, out: &mut O, bytes: &[u8]) -> Result<(), Fault>
         ensures front { OnOk result (PutsFront (O.taken out.old) (O.taken out.new) (self.old ++ bytes.now) self.new) }
         ensures prefix { OnErr result (AppendsPrefix (O.taken out.old) (O.taken out.new) (self.old ++ bytes.now)) }
         ensures cause { HasCause (O.faults out.old) (O.faults out.new) result }
-        ensures stays { length self.old + length bytes.now ≤ 256
+        ensures stays { length self.old + length bytes.now ≤ line_room
             → (result ≡ Ok tt) × (self.new ≡ self.old ++ bytes.now) × (out.new ≡ out.old) }
     {
         let mut at = 0;
         'pieces: while at < bytes.len() {
             self.make_room(out, 1)?;
-            let count = (bytes.len() - at).min(256 - self.len());
+            let count = (bytes.len() - at).min(LINE_ROOM - self.len());
             self.add(&bytes[at..at + count]);
             at += count;
         }
@@ -147,7 +152,7 @@ impl Line {
     }
 
     /// Adds `count` bytes, each as its index tells it; what does not fit goes out in full buffers,
-    /// and the rest stays.
+    /// and the rest stays. At an error as `extend`.
     pub fn extend_by<O: Sink, F: Fn(usize) -> u8>(
         &mut self,
         out: &mut O,

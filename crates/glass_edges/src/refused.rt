@@ -3,7 +3,7 @@
 use std::alloc::{AllocError, AllocFailed};
 use thiserror::Error;
 
-/// A write or a placing of a file failed. Its cause is counted by the object that failed.
+/// A put or a placing of a file failed. The object that failed has counted it.
 #[derive(Clone, Copy, Debug, PartialEq, Eq, Error)]
 #[error("the outside failed")]
 pub struct Fault;

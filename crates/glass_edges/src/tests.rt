@@ -3,8 +3,8 @@ ghost use Rattle.std.specs.Prelude.{◌<◌};
 use crate::file_bytes::{read_opened, write_pieces};
 use crate::placing::fresh_name;
 use crate::{
-    Fault, FileShelf, Gate, HonestShelf, HonestSink, Line, MemoryShelf, MemorySink, NoMemory,
-    OpenGate, Shelf, Sink, StreamSink, first_found_is_first, put_all,
+    Fault, FileShelf, Gate, HonestShelf, HonestSink, LINE_ROOM, Line, MemoryShelf, MemorySink,
+    NoMemory, OpenGate, Shelf, Sink, StreamSink, first_found_is_first, put_all,
 };
 use std::alloc::{AllocError, Global};
 use std::fmt::Debug;
@@ -131,11 +131,11 @@ fn a_line_lets_a_long_text_out_in_full_buffers(rt: HostRuntime) -> Result<(), Fa
         &b"18446744073709551615,-9223372036854775808".as_slice(),
         &"two numbers",
     );
-    let mut sink = output(rt.alloc(), 1000, 1000, 1000)?;
-    line.extend(&mut sink, letters(rt.alloc(), 300)?.as_slice())?;
-    same(&rt, &sink.taken().len(), &256, &"a full buffer");
+    let mut sink = output(rt.alloc(), 5000, 5000, 5000)?;
+    line.extend(&mut sink, letters(rt.alloc(), 4100)?.as_slice())?;
+    same(&rt, &sink.taken().len(), &LINE_ROOM, &"a full buffer");
     line.put(&mut sink)?;
-    same(&rt, &sink.taken().len(), &341, &"the whole line");
+    same(&rt, &sink.taken().len(), &4141, &"the whole line");
     Ok(())
 }
 

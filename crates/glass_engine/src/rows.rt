@@ -1,4 +1,4 @@
-//! The rows of a report, which go to the output in full buffers.
+//! The rows of a report, which go to the output many at a time.
 
 ghost use Rattle.std.specs.Prelude.{◌≡◌, ◌+◌, ◌-◌, ◌*◌, ◌^◌, ◌<◌, ◌≤◌, ◌++◌, [], if◌then◌else◌, length, IfOk, OnOk, OnErr};
 ghost use Rattle.glass_edges.specs.Causes.{HasCause};

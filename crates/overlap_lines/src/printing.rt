@@ -1,8 +1,8 @@
-//! The text of the link overlaps and correlation lines, which goes to the output in full buffers.
+//! The text of the link overlaps and correlation lines, which goes to the output many lines at a time.
 
-ghost use Rattle.std.specs.Prelude.{◌≡◌, ◌+◌, ◌*◌, ◌<◌, ◌≤◌, pos, ◌-ℤ◌, [], ◌++◌, length, slice_index_or, flat_map, OnOk, OnErr};
+ghost use Rattle.std.specs.Prelude.{◌≡◌, ◌+◌, ◌*◌, ◌<◌, ◌≤◌, pos, ◌-ℤ◌, [], ◌++◌, length, OnOk, OnErr};
 ghost use Rattle.glass_edges.specs.Causes.{HasCause};
-ghost use Rattle.glass_edges.specs.Contents.{appended, AppendsPrefix, PutsFront};
+ghost use Rattle.glass_edges.specs.Contents.{appended, AppendsPrefix, PutsFront, line_room};
 ghost use Rattle.multispin_word.specs.Planes.{number};
 ghost use Rattle.overlap_lines.specs.CountedText as counted;
 ghost use Rattle.overlap_lines.specs.LineText as text;
@@ -14,6 +14,13 @@ use lattice_geometry::Lattice;
 use multispin_word::Planes;
 use plane_sweep::Stand;
 use scalar_rule::Plan;
+
+/// The bytes that the line of a link overlap has at most: three numbers of 20 characters, and the eight
+/// around them.
+const LINK_ROOM: usize = 68;
+
+/// The bytes that the line of a direction and distance has at most: five such numbers, and ten bytes.
+const SUM_ROOM: usize = 110;
 
 /// Puts the link overlaps and correlation lines of both replicas of each slot, in the first samples of 64.
 /// Takes no memory.
@@ -201,16 +208,16 @@ fn add_link<O: Sink>(out: &mut O, line: &mut Line, slot: SampleSlot, sum: i64) -
         (line.old ++ text.link_line slot.sample slot.number sum)) }
     ensures cause { HasCause (O.faults out.old) (O.faults out.new) result }
 {
-    let mut new = Line::new();
-    fill_link(&mut new, slot, sum);
-    line.extend(out, new.as_slice())
+    line.make_room(out, LINK_ROOM)?;
+    fill_link(line, slot, sum);
+    Ok(())
 }
 
-// Fills an empty line.
+// Adds it at the end.
 #[tactic(auto, unfolding(crate::specs::LineText::link_line))]
 fn fill_link(line: &mut Line, slot: SampleSlot, sum: i64)
-    requires { line.old ≡ [] }
-    ensures { line.new ≡ text.link_line slot.sample slot.number sum }
+    requires { length line.old + LINK_ROOM ≤ line_room }
+    ensures { line.new ≡ line.old ++ text.link_line slot.sample slot.number sum }
 {
     line.add(b"link,");
     line.number(slot.sample as u64);
@@ -236,16 +243,16 @@ fn add_line<O: Sink>(
         (line.old ++ text.line_line slot.sample slot.number d r sum)) }
     ensures cause { HasCause (O.faults out.old) (O.faults out.new) result }
 {
-    let mut new = Line::new();
-    fill_line(&mut new, slot, d, r, sum);
-    line.extend(out, new.as_slice())
+    line.make_room(out, SUM_ROOM)?;
+    fill_line(line, slot, d, r, sum);
+    Ok(())
 }
 
-// Fills an empty line.
+// Adds it at the end.
 #[tactic(auto, unfolding(crate::specs::LineText::line_line))]
 fn fill_line(line: &mut Line, slot: SampleSlot, d: u32, r: u32, sum: i64)
-    requires { line.old ≡ [] }
-    ensures { line.new ≡ text.line_line slot.sample slot.number d r sum }
+    requires { length line.old + SUM_ROOM ≤ line_room }
+    ensures { line.new ≡ line.old ++ text.line_line slot.sample slot.number d r sum }
 {
     line.add(b"line,");
     line.number(slot.sample as u64);

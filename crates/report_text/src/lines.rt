@@ -1,13 +1,17 @@
 //! The short lines: header, row and end.
 
-ghost use Rattle.std.specs.Prelude.{◌≡◌, ◌+◌, ◌≤◌, [], ◌++◌, length, OnOk, OnErr};
+ghost use Rattle.std.specs.Fmt.{signed_decimal};
+ghost use Rattle.std.specs.Prelude.{◌≡◌, ◌+◌, ◌≤◌, [], ◌++◌, length, codes, decimal, OnOk, OnErr};
 ghost use Rattle.glass_edges.specs.Causes.{HasCause};
-ghost use Rattle.glass_edges.specs.Contents.{appended, AppendsPrefix, PutsFront};
+ghost use Rattle.glass_edges.specs.Contents.{appended, AppendsPrefix, PutsFront, line_room};
 ghost use Rattle.report_text.specs.Lines.{end_line, header_line, kind_text, row_line};
 
 use glass_edges::{Fault, Line, Sink};
 use scalar_rule::{Plan, Record};
 use threshold_table::RuleKind;
+
+/// The bytes that a row has at most: eight numbers of 20 characters, and the twelve around them.
+const ROW_ROOM: usize = 172;
 
 /// Puts the first line of a report, of a run from epoch `from` to epoch `to`.
 ///
@@ -88,8 +92,8 @@ pub fn row<O: Sink>(
     line.put(out)
 }
 
-/// Adds the same behind a text that is still to be put; what does not fit goes out in full buffers, and
-/// the rest stays.
+/// Adds the same behind a text that is still to be put. Where it might not fit there, the text goes out
+/// first.
 ///
 /// # Errors
 ///
@@ -108,16 +112,32 @@ pub fn add_row<O: Sink>(
         (text.old ++ row_line epoch sample slot values.now)) }
     ensures cause { HasCause (O.faults out.old) (O.faults out.new) result }
 {
-    let mut line = Line::new();
-    fill_row(&mut line, epoch, sample, slot, values);
-    text.extend(out, line.as_slice())
+    text.make_room(out, ROW_ROOM)?;
+    fill_row(text, epoch, sample, slot, values);
+    Ok(())
 }
 
-// Fills an empty line with a row.
+// Adds a row at the end.
 #[tactic(auto, unfolding(crate::specs::Lines::row_line))]
 fn fill_row(line: &mut Line, epoch: u64, sample: u32, slot: u32, values: &Record)
-    requires { line.old ≡ [] }
-    ensures { line.new ≡ row_line epoch sample slot values.now }
+    requires { length line.old + ROW_ROOM ≤ line_room }
+    ensures { line.new ≡ line.old ++ row_line epoch sample slot values.now }
+{
+    add_place(line, epoch, sample, slot);
+    add_value(line, values.first_energy);
+    add_value(line, values.second_energy);
+    add_value(line, values.overlap);
+    add_label(line, values.first_replica);
+    add_label(line, values.second_replica);
+    line.add(b"\n");
+}
+
+// Whose row it is.
+fn add_place(line: &mut Line, epoch: u64, sample: u32, slot: u32)
+    requires { length line.old + ROW_ROOM ≤ line_room }
+    ensures value { line.new ≡ line.old ++ (codes "row," ++ decimal epoch
+        ++ codes "," ++ decimal sample ++ codes "," ++ decimal slot) }
+    ensures short { length line.new ≤ length line.old + 66 }
 {
     line.add(b"row,");
     line.number(epoch);
@@ -125,17 +145,26 @@ fn fill_row(line: &mut Line, epoch: u64, sample: u32, slot: u32, values: &Record
     line.number(sample as u64);
     line.add(b",");
     line.number(slot as u64);
+}
+
+// An energy or an overlap, behind a comma.
+fn add_value(line: &mut Line, value: i32)
+    requires { length line.old + 21 ≤ line_room }
+    ensures value { line.new ≡ line.old ++ (codes "," ++ signed_decimal value) }
+    ensures short { length line.new ≤ length line.old + 21 }
+{
     line.add(b",");
-    line.signed(values.first_energy as i64);
+    line.signed(value as i64);
+}
+
+// A replica's label, behind a comma.
+fn add_label(line: &mut Line, label: u8)
+    requires { length line.old + 21 ≤ line_room }
+    ensures value { line.new ≡ line.old ++ (codes "," ++ decimal label) }
+    ensures short { length line.new ≤ length line.old + 21 }
+{
     line.add(b",");
-    line.signed(values.second_energy as i64);
-    line.add(b",");
-    line.signed(values.overlap as i64);
-    line.add(b",");
-    line.number(values.first_replica as u64);
-    line.add(b",");
-    line.number(values.second_replica as u64);
-    line.add(b"\n");
+    line.number(label as u64);
 }
 
 /// Puts the line that says at which epoch a run ended.

@@ -1,6 +1,6 @@
 -- A front of the text so far is put, and the rest of it is the line.
 use Rattle.std.proofs.Common.{◌≡◌, ◌+◌, ◌-◌, ◌≤◌, ◌++◌, length, take}
-use Rattle.glass_edges.specs.Contents.{PutsFront}
+use Rattle.glass_edges.specs.Contents.{PutsFront, line_room}
 use Rattle.glass_edges.proofs.line.Line.extend.Given as goal
 
 abbrev pub invariant-pieces : goal.invariant-pieces
@@ -8,7 +8,7 @@ invariant-pieces g l = record {
   within : l.at ≤ length l.bytes;
   front : PutsFront (g.O.Sink.taken l.fn.out) (g.O.Sink.taken l.out) (l.fn.self ++ take l.at l.bytes) l.self;
   passed : g.O.Sink.faults l.out ≡ g.O.Sink.faults l.fn.out;
-  stays : length l.fn.self + l.at ≤ 256 → (l.self ≡ l.fn.self ++ take l.at l.bytes) × (l.out ≡ l.fn.out);
+  stays : length l.fn.self + l.at ≤ line_room → (l.self ≡ l.fn.self ++ take l.at l.bytes) × (l.out ≡ l.fn.out);
 }
 
 abbrev pub decreases-pieces : goal.decreases-pieces
