@@ -6,9 +6,9 @@ ghost use Rattle.bit_totals.specs.Tallies.{set_lanes, tallied};
 ghost use Rattle.multispin_word.specs.Planes.{differs, is_set};
 ghost use Rattle.plane_sweep.specs.PlaneSweep.{HasRows};
 
-use crate::lanes::{add_one, add_two, words_at};
+use crate::lanes::{add_one, add_two};
 use local_rule::{full_adder_lanes, load};
-use plane_sweep::{Row, Surroundings, pulls_of, pulls_of_four};
+use plane_sweep::{Row, Surroundings, pulls_of, pulls_of_four, words_at};
 use std::simd::prelude::*;
 
 /// How many of the six bonds of each of four sites are unsatisfied: the sum of two low and two high bits.
@@ -208,7 +208,7 @@ fn count_four(own: &[u64], around: &Surroundings, row: &Row, k: usize) -> BondCo
         ≡ row_count own.now around.now row.now b (k + 4) }
 {
     let six = pulls_of_four(around, row, k);
-    let words = words_at(own, row.here + k);
+    let words = words_at::<4>(own, row.here + k);
     count_bonds(&six, words)
 }
 

@@ -11,10 +11,9 @@ ghost use Rattle.spin_model.specs.Lattice.{half_plane, IsLawfulSize};
 
 use crate::bonds::{BondCounts, add_carries, add_counts, add_last_carries, count_bonds};
 use crate::energy::{ColourPlane, count_plane};
-use crate::lanes::words_at;
 use plane_sweep::{
     Dynamics, HalfPlane, Plane, Row, Surroundings, first_row, is_in_order, kind_of, lend,
-    pulls_of_four, row_behind, sweep_words, update_four,
+    pulls_of_four, row_behind, sweep_words, update_four, words_at,
 };
 use threshold_table::{RuleKind, SlotRule};
 
@@ -319,6 +318,6 @@ fn sweep_and_count_four<const SIZE: usize, const HEAT: bool, const EVEN: bool, c
 {
     let six = pulls_of_four(&lent.around, row, k);
     update_four(own, &lent.rule, lent.draws, row.here + k, &six);
-    let words = words_at(own, row.here + k);
+    let words = words_at::<4>(own, row.here + k);
     count_bonds(&six, words)
 }

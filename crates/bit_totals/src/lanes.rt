@@ -1,9 +1,10 @@
-//! Four words side by side, and the numbers of four lanes in twenty rows.
+//! The numbers of four lanes in twenty rows.
 
 ghost use Rattle.std.specs.Prelude.{◌≡◌, ℕ, ◌+◌, ◌*◌, ◌^◌, ◌<◌, ◌≤◌, [], length, slice_index, slice_index_or};
 ghost use Rattle.bit_totals.specs.Tallies.{mixed, set_lanes, tallied};
 
 use local_rule::full_adder_lanes;
+use plane_sweep::words_at;
 use std::simd::prelude::*;
 
 /// The three words together, at each of four places from one on.
@@ -15,17 +16,7 @@ pub(crate) fn mixed_at(first: &[u64], second: &[u64], third: &[u64], at: usize) 
     ensures length { length result ≡ 4 }
     ensures words { (i : ℕ) → i < 4 → slice_index result i ≡ mixed first.now second.now third.now (at + i) }
 {
-    words_at(first, at) ^ words_at(second, at) ^ words_at(third, at)
-}
-
-/// Four words from a place on.
-#[inline(always)]
-pub(crate) fn words_at(words: &[u64], at: usize) -> u64x4
-    requires { at + 4 ≤ length words.now }
-    ensures length { length result ≡ 4 }
-    ensures words { (i : ℕ) → i < 4 → slice_index result i ≡ slice_index words.now (at + i) }
-{
-    u64x4::from_slice(&words[at..at + 4])
+    words_at::<4>(first, at) ^ words_at::<4>(second, at) ^ words_at::<4>(third, at)
 }
 
 /// Adds two words of each lane to row w of the numbers, and gives what is carried to the row above.

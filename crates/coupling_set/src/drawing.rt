@@ -16,10 +16,8 @@ use lattice_geometry::Lattice;
 use multispin_word::with_bit;
 use plain_list::Items;
 use pr_generator::Wheel;
+use spin_model::COUPLINGS_LABEL;
 use std::alloc::Global;
-
-/// The kind of label of the generators of couplings.
-const COUPLINGS: u32 = 3;
 
 /// The greatest number of bonds of a row of sites.
 const ROW: usize = 192;
@@ -57,7 +55,7 @@ fn seeded_wheels(alloc: Global, seed: u64, first: u32) -> Result<Items<Wheel>, N
 {
     let mut wheels = Vec::with_capacity(alloc, 64)?;
     'samples: for b in 0..64u32 {
-        wheels.push(Wheel::seeded(seed, COUPLINGS, first + b, 0, 0))?;
+        wheels.push(Wheel::seeded(seed, COUPLINGS_LABEL, first + b, 0, 0))?;
     }
     Ok(Items::of(wheels))
 }

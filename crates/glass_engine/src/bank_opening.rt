@@ -22,7 +22,7 @@ use std::alloc::Global;
 use std::sync::Arc;
 
 /// So many hand-outs of a slot stop no run.
-const EVERY_TAKE: u64 = 32000000000;
+pub const EVERY_TAKE: u64 = 32000000000;
 
 /// Opens a run over 2 to 4 banks from their states at one epoch to epoch `until`: each bank as `open`
 /// does, and the buffer of the one checkpoint of all where it is to be saved. Each bank has its own

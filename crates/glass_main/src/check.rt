@@ -2,7 +2,6 @@
 //! plans of its banks, printed.
 
 ghost use Rattle.std.specs.Prelude.{◌≡◌, ◌+◌, ◌≤◌, [], ◌++◌, length, Some, OnOk, OnErr};
-ghost use Rattle.hex.specs.Hex.{encode_lower};
 ghost use Rattle.glass_edges.specs.Causes.{HasCause};
 ghost use Rattle.glass_edges.specs.Contents.{appended, AppendsPrefix};
 ghost use Rattle.glass_main.specs.CommandLine.{Check};
@@ -11,6 +10,7 @@ ghost use Rattle.glass_main.specs.Statuses.{Ends};
 ghost use Rattle.glass_main.specs.Texts.{check_text, plan_line, plan_sizes, plan_dynamics, digest_word};
 
 use crate::bank_gathering::gather_plans;
+use crate::digest_lines::digits;
 use crate::ending::Ending;
 use crate::planned::Planned;
 use crate::plans::{PlannedBanks, Plans};
@@ -126,14 +126,5 @@ fn add_digest(line: &mut Line, digest: &[u8; 32])
     ensures short { length line.new ≤ length line.old + 72 }
 {
     line.add(b" digest=");
-    line.add(&digest_digits(digest));
-}
-
-// A digest in hexadecimal.
-fn digest_digits(digest: &[u8; 32]) -> [u8; 64]
-    ensures { result ≡ encode_lower digest.now }
-{
-    let mut digits = [0u8; 64];
-    let _ = hex::encode_to_slice(digest.as_slice(), &mut digits);
-    digits
+    line.add(&digits(digest));
 }

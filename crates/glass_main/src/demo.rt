@@ -13,9 +13,8 @@ ghost use Rattle.glass_main.specs.Texts.{demo_text};
 
 use crate::ending::Ending;
 use crate::finishing::Opened;
-use crate::run::EVERY_TAKE;
 use glass_edges::{Fault, Gate, NoMemory, Shelf, Sink};
-use glass_engine::{SaveKind, drive, open, write_summary};
+use glass_engine::{EVERY_TAKE, SaveKind, drive, open, write_summary};
 use plane_sweep::{RaggedStand, Stand};
 use run_plan::demo_plan;
 use std::alloc::Global;

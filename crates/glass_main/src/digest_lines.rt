@@ -1,4 +1,4 @@
-//! Lines with two digests in them.
+//! Digests in hexadecimal, and lines with two of them.
 
 ghost use Rattle.std.specs.Prelude.{◌≡◌, ◌+◌, ◌≤◌, ◌++◌, codes, length};
 ghost use Rattle.hex.specs.Hex.{encode_lower};
@@ -50,8 +50,8 @@ pub(crate) fn say_digests<E: Sink>(
     say(err, line.as_slice());
 }
 
-// A digest in hexadecimal.
-fn digits(digest: &[u8; 32]) -> [u8; 64]
+/// A digest in hexadecimal.
+pub(crate) fn digits(digest: &[u8; 32]) -> [u8; 64]
     ensures { result ≡ encode_lower digest.now }
 {
     let mut digits = [0u8; 64];

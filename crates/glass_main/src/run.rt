@@ -1,8 +1,7 @@
 //! The command `run`: the run that a run file, its tables and its couplings describe, from their opening
 //! state or from a checkpoint, to its last epoch or until it stops, its report, and its own checkpoint.
 
-ghost use Rattle.std.specs.Prelude.{◌≡◌, ℕ, ◌≤◌, None, Some, Ok, IfSome, IfOk, IfErr, option_map, unwrap_or};
-ghost use Rattle.std.specs.Arc.{arc_value};
+ghost use Rattle.std.specs.Prelude.{◌≡◌, ◌≤◌, None, Some, Ok, IfSome, IfOk, IfErr, option_map, unwrap_or};
 ghost use Rattle.spin_model.specs.Limits.{last_epoch, most_rows};
 ghost use Rattle.plane_sweep.specs.Uneven.{positions_of};
 ghost use Rattle.run_plan.specs.Amounts.{amount_refusal, row_count};
@@ -28,16 +27,13 @@ use crate::refusal::Refusal;
 use crate::resuming::gather_base;
 use crate::run_words::RunOrder;
 use glass_edges::{Gate, NoMemory, Shelf, Sink};
-use glass_engine::{SaveKind, open};
+use glass_engine::{EVERY_TAKE, SaveKind, open};
 use plane_sweep::RaggedStand;
 use run_plan::{Orders, check_amount};
 use scalar_rule::Plan;
 use std::alloc::Global;
 use std::sync::{Arc, Wait};
 use std::thread::Threads;
-
-/// So many hand-outs of a slot stop no run.
-pub(crate) const EVERY_TAKE: u64 = 32000000000;
 
 /// Reads the run file of an order and what it names, and its checkpoint; runs it, prints the report, and
 /// places its own checkpoint. A run that may stop between epochs has one bank of 64 samples.

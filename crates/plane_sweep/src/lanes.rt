@@ -77,9 +77,9 @@ fn pull<const N: usize>(spins: &[u64], at: usize, bonds: &[u64], from: usize) ->
     words_at::<N>(spins, at) ^ words_at::<N>(bonds, from)
 }
 
-// N words from a place on.
+/// N words from a place on.
 #[inline(always)]
-fn words_at<const N: usize>(words: &[u64], at: usize) -> Simd<u64, N>
+pub fn words_at<const N: usize>(words: &[u64], at: usize) -> Simd<u64, N>
     requires { at + N ≤ length words.now }
     ensures length { length result ≡ N }
     ensures words { (i : ℕ) → i < N → slice_index result i ≡ slice_index words.now (at + i) }

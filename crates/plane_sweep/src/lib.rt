@@ -25,7 +25,7 @@ pub use cells::{Cell, cell_at, deepest, has_record, shallowest};
 pub use draws::{DUO_DRAWS, PLANE_DRAWS, SMALL_DRAWS, SMALL_SIZE};
 pub use duos::{LEAST_IN_TURN, sweep_ahead, sweep_duo_often};
 pub use dynamics::{Dynamics, HalfPlane};
-pub use lanes::{pulls_of_four, update_four};
+pub use lanes::{pulls_of_four, update_four, words_at};
 pub use laws::{
     labels_permute_after_epochs, labels_permute_after_exchange, parts_are_starting_states,
 };

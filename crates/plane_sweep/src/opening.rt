@@ -1,6 +1,6 @@
 //! The packed state that a run begins with.
 
-ghost use Rattle.std.specs.Prelude.{◌≡◌, ℕ, ◌+◌, ◌*◌, ◌<◌, IfOk, OnOk, replicate};
+ghost use Rattle.std.specs.Prelude.{◌≡◌, ◌+◌, ◌*◌, ◌<◌, IfOk, OnOk, replicate};
 ghost use Rattle.plane_sweep.specs.Beginnings.{Each, ArePlaneWords, HasSpins, HasDraws, BeginsPlane, BeginsReplica, BeginsDuo, BeginsPair};
 ghost use Rattle.scalar_rule.specs.Opening.{all_up};
 ghost use Rattle.scalar_rule.specs.Plan.{pairs_of, slots_of};
@@ -16,6 +16,7 @@ use lattice_geometry::Lattice;
 use plain_list::Items;
 use pr_generator::Wheel;
 use scalar_rule::{Beginning, Plan, Start};
+use spin_model::{EXCHANGES_LABEL, STARTS_LABEL, SWEEPS_LABEL};
 use std::alloc::Global;
 
 /// All slots, slot 0 first.
@@ -54,8 +55,8 @@ fn opening_pair(plan: &Plan, bank: u32, pair: u32) -> PairWheels
     ensures { BeginsPair plan.now bank pair result }
 {
     PairWheels {
-        first: seeded(plan.seed(), 2, pair, 0, bank),
-        second: seeded(plan.seed(), 2, pair, 1, bank),
+        first: seeded(plan.seed(), EXCHANGES_LABEL, pair, 0, bank),
+        second: seeded(plan.seed(), EXCHANGES_LABEL, pair, 1, bank),
     }
 }
 
@@ -130,7 +131,7 @@ fn push_colour(
     let lattice = plan.lattice();
     let mut wheel = Wheel::seeded(
         plan.seed(),
-        4,
+        STARTS_LABEL,
         beginning.slot,
         beginning.replica,
         beginning.bank,
@@ -140,7 +141,7 @@ fn push_colour(
             words: opening_words(alloc, &lattice, beginning.start, &mut wheel, colour, z)?,
             wheel: seeded(
                 plan.seed(),
-                1,
+                SWEEPS_LABEL,
                 beginning.slot,
                 2 * beginning.replica + colour,
                 z,

@@ -12,6 +12,7 @@ use lattice_geometry::Lattice;
 use multispin_word::joined;
 use plain_list::Items;
 use pr_generator::Wheel;
+use spin_model::{POTTS_STARTS_LABEL, POTTS_SWEEPS_LABEL};
 use std::alloc::Global;
 
 /// How the sites are coloured at the start.
@@ -22,11 +23,6 @@ pub enum PottsStart {
     /// Each site has a colour of its own at random.
     Random,
 }
-
-/// The kinds of label of the generators of sweeps and of random starts.
-const SWEEPS: u32 = 5;
-
-const STARTS: u32 = 6;
 
 /// The words of all sites at the start.
 #[tactic(auto, unfolding(crate::specs::PottsStates::start_colours))]
@@ -43,7 +39,7 @@ pub(crate) fn start_sites(
     match start {
         PottsStart::Zero => zero_sites(alloc, lattice),
         PottsStart::Random => {
-            let mut wheel = Wheel::seeded(seed, STARTS, 0, 0, 0);
+            let mut wheel = Wheel::seeded(seed, POTTS_STARTS_LABEL, 0, 0, 0);
             random_sites(alloc, lattice, &mut wheel)
         }
     }
@@ -102,7 +98,7 @@ pub(crate) fn seeded_wheels(
     let size = lattice.size();
     let mut wheels = Vec::with_capacity(alloc, 2 * size as usize)?;
     'wheels: for k in 0..2 * size {
-        wheels.push(Wheel::seeded(seed, SWEEPS, k / size, k % size, 0))?;
+        wheels.push(Wheel::seeded(seed, POTTS_SWEEPS_LABEL, k / size, k % size, 0))?;
     }
     Ok(Items::of(wheels))
 }

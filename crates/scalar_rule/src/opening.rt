@@ -1,6 +1,6 @@
 //! The states that a run begins with.
 
-ghost use Rattle.std.specs.Prelude.{◌≡◌, ◌+◌, ◌-◌, ◌*◌, ◌/◌, ◌%◌, ◌<◌, ◌≤◌, IfOk};
+ghost use Rattle.std.specs.Prelude.{◌≡◌, ◌+◌, ◌-◌, ◌*◌, ◌/◌, ◌%◌, ◌<◌, IfOk};
 ghost use Rattle.spin_model.specs.Steps.{table};
 ghost use Rattle.spin_model.specs.Stream.{advanced, draw};
 ghost use Rattle.spin_model.specs.Words.{is_set};
@@ -16,6 +16,7 @@ use lattice_geometry::Lattice;
 use multispin_word::bit;
 use plain_list::Items;
 use pr_generator::Wheel;
+use spin_model::{EXCHANGES_LABEL, STARTS_LABEL, SWEEPS_LABEL};
 use std::alloc::Global;
 
 impl Sample {
@@ -95,8 +96,8 @@ fn opening_pair(plan: &Plan, bank: u32, pair: u32) -> PlainPair
     ensures { result ≡ model.opening_pair plan.now bank pair }
 {
     PlainPair {
-        first: Wheel::seeded(plan.seed(), 2, pair, 0, bank),
-        second: Wheel::seeded(plan.seed(), 2, pair, 1, bank),
+        first: Wheel::seeded(plan.seed(), EXCHANGES_LABEL, pair, 0, bank),
+        second: Wheel::seeded(plan.seed(), EXCHANGES_LABEL, pair, 1, bank),
     }
 }
 
@@ -173,7 +174,7 @@ fn start_spins(
         Start::Random => {
             let mut wheel = Wheel::seeded(
                 plan.seed(),
-                4,
+                STARTS_LABEL,
                 beginning.slot,
                 beginning.replica,
                 beginning.bank,
@@ -231,7 +232,7 @@ pub(crate) fn seeded_wheels(
     let size = lattice.size();
     let mut wheels = Vec::with_capacity(alloc, 2 * size as usize)?;
     'wheels: for k in 0..2 * size {
-        wheels.push(Wheel::seeded(seed, 1, slot, 2 * replica + k / size, k % size))?;
+        wheels.push(Wheel::seeded(seed, SWEEPS_LABEL, slot, 2 * replica + k / size, k % size))?;
     }
     Ok(Items::of(wheels))
 }
