@@ -1,6 +1,6 @@
 //! The state that an aging run begins with, and its room.
 
-ghost use Rattle.std.specs.Prelude.{◌≡◌, IfOk};
+ghost use Rattle.std.specs.Prelude.{IfOk};
 ghost use Rattle.plane_sweep.specs.Packed.{StandsFor, StandFits};
 ghost use Rattle.scalar_rule.specs.Opening as model;
 

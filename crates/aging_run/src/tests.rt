@@ -1,6 +1,6 @@
 //! Texts that were worked out by hand, and one against plain samples.
 
-ghost use Rattle.std.specs.Prelude.{◌≡◌, ◌+◌, ◌<◌, ◌≤◌, length, IfOk};
+ghost use Rattle.std.specs.Prelude.{◌≡◌, ◌+◌, ◌<◌, ◌≤◌, IfOk};
 ghost use Rattle.scalar_rule.specs.Plan.{slots_of};
 ghost use Rattle.scalar_rule.specs.Shape.{FitsCopy};
 ghost use Rattle.spin_model.specs.Limits.{most_sweeps};

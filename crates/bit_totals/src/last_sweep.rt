@@ -2,7 +2,7 @@
 //! are of colour 0, have theirs: so its unsatisfied bonds are known then, and those of all such sites are
 //! all bonds.
 
-ghost use Rattle.std.specs.Prelude.{◌≡◌, ℕ, ◌+◌, ◌*◌, ◌^◌, ◌<◌, ◌≤◌, length, All};
+ghost use Rattle.std.specs.Prelude.{◌≡◌, ℕ, ◌*◌, ◌<◌, ◌≤◌, length, All};
 ghost use Rattle.bit_totals.specs.Counted.{unsatisfied_from};
 ghost use Rattle.bit_totals.specs.RowBonds.{planes_count};
 ghost use Rattle.bit_totals.specs.Tallies.{tallied};

@@ -1,6 +1,6 @@
 //! The hand-back of a slot, and the exchange of a pair.
 
-ghost use Rattle.std.specs.Prelude.{◌≡◌, ℕ, ◌+◌, ◌*◌, ◌<◌, ◌≤◌, true, false, ◌==◌, ◌&&◌, if◌then◌else◌, length, slice_set, IfSome, IfNone};
+ghost use Rattle.std.specs.Prelude.{◌≡◌, ◌+◌, ◌*◌, ◌<◌, true, false, ◌==◌, ◌&&◌, if◌then◌else◌, length, slice_set, IfSome, IfNone};
 ghost use Rattle.std.specs.Arc.{arc_value};
 ghost use Rattle.spin_model.specs.Limits.{last_epoch};
 ghost use Rattle.scalar_rule.specs.Epoch.{has_turn, has_partner, partner};

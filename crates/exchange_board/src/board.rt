@@ -1,7 +1,7 @@
 //! The board, and its hand-outs.
 
-ghost use Rattle.std.specs.Prelude.{◌≡◌, ◌↔◌, ℕ, ◌+◌, ◌*◌, ◌<◌, ◌≤◌, true, false, length, IfSome, IfNone, slice_set};
-ghost use Rattle.exchange_board.specs.Views.{place_at, out_at, ready_at, placed, progress};
+ghost use Rattle.std.specs.Prelude.{◌≡◌, ◌↔◌, ◌+◌, ◌*◌, ◌<◌, ◌≤◌, true, false, length, IfSome, IfNone, slice_set};
+ghost use Rattle.exchange_board.specs.Views.{place_at, out_at, placed, progress};
 ghost use Rattle.exchange_board.specs.BoardKeeps.{phase_of};
 ghost use Rattle.exchange_board.specs.Content.{slots_in, row_total, taken_before, KeepsRows};
 ghost use Rattle.exchange_board.specs.Machine.{taken, IsReady, NoneReady, NoneOut, AllEnded, IsPhased, numbers};

@@ -1,6 +1,6 @@
 //! Taking a board apart. No memory is taken: the room was made at the opening.
 
-ghost use Rattle.std.specs.Prelude.{◌≡◌, ℕ, ◌+◌, ◌*◌, ◌/◌, ◌%◌, ◌^◌, ◌<◌, ◌≤◌, ◌==◌, true, false, [], ◌∷◌, ◌++◌, length, map, is_some, slice_index_or, All, IfOk, OnErr, IfErr};
+ghost use Rattle.std.specs.Prelude.{◌≡◌, ℕ, ◌+◌, ◌*◌, ◌/◌, ◌%◌, ◌^◌, ◌<◌, ◌==◌, true, false, [], ◌∷◌, ◌++◌, length, map, is_some, slice_index_or, All, IfOk, OnErr, IfErr};
 ghost use Rattle.exchange_board.specs.Answers.{stages_of};
 ghost use Rattle.exchange_board.specs.BoardKeeps.{place_of};
 ghost use Rattle.plane_sweep.specs.Cells.{is_kept};

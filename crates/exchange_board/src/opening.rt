@@ -1,13 +1,13 @@
 //! Opening a board: all its memory is taken here.
 
-ghost use Rattle.std.specs.Prelude.{◌≡◌, ℕ, ◌+◌, ◌-◌, ◌*◌, ◌/◌, ◌%◌, ◌<◌, ◌≤◌, true, false, length, replicate, IfOk, IsSomeAnd, slice_set, slice_index_or};
+ghost use Rattle.std.specs.Prelude.{◌≡◌, ◌+◌, ◌-◌, ◌*◌, ◌/◌, ◌%◌, ◌<◌, ◌≤◌, true, false, length, replicate, IfOk, IsSomeAnd, slice_set};
 ghost use Rattle.std.specs.Arc.{arc_value};
 ghost use Rattle.spin_model.specs.Limits.{last_epoch, most_rows};
 ghost use Rattle.plane_sweep.specs.Packed.{FitsDuo, StandFits};
 ghost use Rattle.plane_sweep.specs.Uneven.{positions_of, level_stand, RaggedStandFits};
 ghost use Rattle.scalar_rule.specs.Plan.{slots_of};
 ghost use Rattle.scalar_rule.specs.Positions.{deepest_of, floor_of, cell_epoch};
-ghost use Rattle.exchange_board.specs.Content.{plan_of, slots_in, positions_in, floor_in, started, row_place, row_total, no_record, record_at, KeepsRows, IsLawfulOrigin};
+ghost use Rattle.exchange_board.specs.Content.{positions_in, floor_in, started, row_place, row_total, no_record, record_at, KeepsRows, IsLawfulOrigin};
 ghost use Rattle.exchange_board.specs.Kept.{kept_in, before_in, cells_in, IsFilled};
 ghost use Rattle.exchange_board.specs.Opening.{Begins, AreFirst};
 

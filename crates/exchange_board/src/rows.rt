@@ -1,6 +1,6 @@
 //! The places of a slot's records at an epoch.
 
-ghost use Rattle.std.specs.Prelude.{◌≡◌, ℕ, ◌+◌, ◌*◌, ◌<◌, ◌≤◌, true, length};
+ghost use Rattle.std.specs.Prelude.{◌≡◌, ◌+◌, ◌*◌, ◌<◌, ◌≤◌, true, length};
 ghost use Rattle.spin_model.specs.Limits.{most_rows};
 ghost use Rattle.plane_sweep.specs.Packed.{part_slot, FitsDuo};
 ghost use Rattle.scalar_rule.specs.Epoch as model;

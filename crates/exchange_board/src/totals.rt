@@ -3,7 +3,7 @@
 ghost use Rattle.std.specs.Prelude.{◌≡◌, ℕ, ◌<◌, ◌≤◌, IfSome, slice_index};
 ghost use Rattle.exchange_board.specs.Totals.{AreSums, AreTotals, CountsAgreeing, Measures};
 ghost use Rattle.multispin_word.specs.Planes.{number};
-ghost use Rattle.plane_sweep.specs.Packed.{part_copy, part_slot, FitsDuo, FitsReplica};
+ghost use Rattle.plane_sweep.specs.Packed.{part_copy, part_slot, FitsDuo};
 ghost use Rattle.scalar_rule.specs.Epoch as model;
 ghost use Rattle.scalar_rule.specs.Plan.{dynamics_of, slots_of};
 ghost use Rattle.scalar_rule.specs.Replica.{configuration_of, with_configuration};

@@ -1,16 +1,14 @@
 //! The report of a run.
 
-ghost use Rattle.std.specs.Prelude.{◌≡◌, ℕ, ◌+◌, ◌-◌, ◌*◌, ◌/◌, ◌%◌, ◌^◌, ◌<◌, ◌≤◌, ◌&&◌, ◌==◌, [], if◌then◌else◌, length, All, IfOk, OnOk, OnErr};
+ghost use Rattle.std.specs.Prelude.{◌≡◌, ◌-◌, ◌*◌, ◌/◌, ◌%◌, ◌<◌, ◌≤◌, ◌&&◌, ◌==◌, length, All, OnOk, OnErr};
 ghost use Rattle.glass_edges.specs.Causes.{HasCause};
 ghost use Rattle.glass_edges.specs.Contents.{appended, AppendsPrefix};
 ghost use Rattle.exchange_board.specs.Content as board;
 ghost use Rattle.exchange_board.specs.Stops.{IsStop};
 ghost use Rattle.plane_sweep.specs.Packed.{part_slot, FitsDuo};
 ghost use Rattle.plane_sweep.specs.Uneven.{positions_of, uneven_part};
-ghost use Rattle.scalar_rule.specs.Positions.{floor_of};
-ghost use Rattle.scalar_rule.specs.Records.{in_order, is_recorded};
 ghost use Rattle.scalar_rule.specs.Plan.{slots_of};
-ghost use Rattle.glass_engine.specs.RecordPieces.{piece_rows, measured, stopped_report};
+ghost use Rattle.glass_engine.specs.RecordPieces.{stopped_report};
 ghost use Rattle.glass_engine.specs.Report as text;
 
 use crate::done::Done;

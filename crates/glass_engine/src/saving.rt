@@ -1,8 +1,7 @@
 //! The buffer of a checkpoint, which is reserved before a run.
 
-ghost use Rattle.std.specs.Prelude.{◌≡◌, ◌+◌, ◌*◌, ◌≤◌, IfOk};
+ghost use Rattle.std.specs.Prelude.{◌≡◌, ◌*◌, ◌≤◌, IfOk};
 ghost use Rattle.plane_sweep.specs.Uneven.{RaggedStandFits};
-ghost use Rattle.scalar_rule.specs.Plan.{slots_of};
 ghost use Rattle.glass_engine.specs.KeptSaving as model;
 
 use crate::run::SaveKind;

@@ -24,8 +24,8 @@ use scalar_rule::{Plan, Record};
 const SAMPLES: usize = 64;
 
 /// Puts the summary of a run of 64 samples from epoch 0, whose plan was made from the number `n`: for
-/// each slot the sum over the samples of both replicas' energies in the last epoch, and the number of
-/// samples whose first replica began in another slot. Takes no memory.
+/// each slot the sum over the samples of both replicas' energies in the last epoch, in units of the
+/// coupling, and the number of samples whose first replica began in another slot. Takes no memory.
 ///
 /// # Errors
 ///

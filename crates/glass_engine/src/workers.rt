@@ -1,8 +1,7 @@
 //! The workers of a run, one a seat. Each takes a slot, sweeps it and hands it back, until there is no
 //! more to do.
 
-ghost use Rattle.std.specs.Prelude.{◌≡◌, ◌+◌, ◌<◌, ◌≤◌, [], ◌∷◌, true, false, Some, length};
-ghost use Rattle.std.specs.Arc.{arc_value};
+ghost use Rattle.std.specs.Prelude.{◌≡◌, ◌+◌, ◌<◌, ◌≤◌, true, false, Some, length};
 ghost use Rattle.std.specs.Thread.{IsSync};
 ghost use Rattle.shared_board.specs.Shared.{lock_id};
 ghost use Rattle.turn_cell.specs.Seats.{seat_view};

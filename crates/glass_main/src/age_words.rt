@@ -15,10 +15,13 @@ use spin_model::MOST_SWEEPS;
 /// times, in sweeps from there on, at which they are compared with what they are then.
 #[derive(Clone, Copy)]
 pub struct AgeOrder<'a> {
+    /// The name of the run file.
     pub run: &'a str,
+    /// The sweeps after which the spins are kept, at most 1000000.
     pub wait: u64,
     /// The times, the first `count` of these.
     pub values: [u64; 32],
+    /// How many times there are, 1 to 32.
     pub count: usize,
 }
 

@@ -1,7 +1,6 @@
 //! The command `average`: a report is read, and its sums by slot and block of samples are printed.
 
 ghost use Rattle.std.specs.Prelude.{◌≡◌, ◌≤◌, ◌<◌, length, option_map, Some, IfOk, IfErr, IfSome, OnOk};
-ghost use Rattle.glass_edges.specs.Refusals.{Gives};
 ghost use Rattle.glass_main.specs.CommandLine as commands;
 ghost use Rattle.glass_main.specs.Outside as outside;
 ghost use Rattle.glass_main.specs.Outside.{output, store};

@@ -1,15 +1,13 @@
 //! Reading what a run file names, where the run may have several banks of 64 samples.
 
-ghost use Rattle.std.specs.Prelude.{◌≡◌, ◌≤◌, ◌<◌, ◌+◌, length, map, option_map, IfOk, IfErr, Ok, Err};
-ghost use Rattle.std.specs.Arc.{arc_value};
+ghost use Rattle.std.specs.Prelude.{◌≡◌, ◌<◌, ◌+◌, length, option_map, IfOk, IfErr, Ok, Err};
 ghost use Rattle.coupling_set.specs.CouplingsFile.{couplings_in};
 ghost use Rattle.glass_edges.specs.Refusals.{Gives};
 ghost use Rattle.run_plan.specs.RunFile.{IsLawfulRunFile};
 ghost use Rattle.threshold_table.specs.Tables.{rule_table, swap_table};
-ghost use Rattle.glass_main.specs.BankTables.{rules_read, swaps_read, plans_by, HasLawfulOrders};
+ghost use Rattle.glass_main.specs.BankTables.{rules_read, swaps_read, HasLawfulOrders};
 ghost use Rattle.glass_main.specs.Endings.{IsReached, IsReachedAfter, IsReachedAfterRules};
 ghost use Rattle.glass_main.specs.Gathers.{Gathers, Fetches};
-ghost use Rattle.glass_main.specs.ManyBanks.{bank_count};
 ghost use Rattle.glass_main.specs.Outside.{store};
 ghost use Rattle.glass_main.specs.Request as model;
 

@@ -1,6 +1,6 @@
 //! What a run of several banks starts from: the opening states of each, or those of a checkpoint.
 
-ghost use Rattle.std.specs.Prelude.{◌≡◌, ◌≤◌, length, map, option_map, Some, IfOk};
+ghost use Rattle.std.specs.Prelude.{◌≤◌, length, map, option_map, Some, IfOk};
 ghost use Rattle.std.specs.Arc.{arc_value};
 ghost use Rattle.run_checkpoint.specs.BankEncoding.{BanksFit, BanksStand};
 ghost use Rattle.glass_main.specs.ManyBanks.{banks_opened_by, banks_resumed_by, openings_from};

@@ -6,7 +6,7 @@ ghost use Rattle.coupling_set.specs.BondsAsWords.{couplings_with, bank_of};
 ghost use Rattle.glass_edges.specs.Refusals.{Gives};
 ghost use Rattle.run_plan.specs.PlanOf.{plan_with};
 ghost use Rattle.run_plan.specs.RunFile.{IsLawfulRunFile};
-ghost use Rattle.spin_model.specs.Couplings.{plus, random};
+ghost use Rattle.spin_model.specs.Couplings.{random};
 ghost use Rattle.threshold_table.specs.Tables.{rule_table, swap_table};
 ghost use Rattle.glass_main.specs.BankTables.{couplings_by, plan_by, plans_by};
 ghost use Rattle.glass_main.specs.ManyBanks.{bank_count};

@@ -1,6 +1,6 @@
 //! The lines of a refused checkpoint.
 
-ghost use Rattle.std.specs.Prelude.{◌≡◌, ◌++◌, codes, decimal};
+ghost use Rattle.std.specs.Prelude.{◌++◌, codes, decimal};
 ghost use Rattle.glass_main.specs.Lines.{file_front, checkpoint_line};
 ghost use Rattle.glass_main.specs.Outside.{output};
 ghost use Rattle.glass_main.specs.Statuses.{Says};

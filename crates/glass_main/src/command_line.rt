@@ -1,6 +1,6 @@
 //! The command that the words after the program's name ask for.
 
-ghost use Rattle.std.specs.Prelude.{◌≡◌, ℕ, ◌+◌, ◌<◌, ◌≤◌, ◌^◌, length, take, option_map, Some, None, IfSome, if◌then◌else◌};
+ghost use Rattle.std.specs.Prelude.{◌≡◌, ℕ, ◌+◌, ◌<◌, ◌≤◌, ◌^◌, length, option_map, Some, None, IfSome, if◌then◌else◌};
 ghost use Rattle.spin_model.specs.Limits.{certain, greatest_demo};
 ghost use Rattle.glass_main.specs.CommandLine.{command_of, plain_order, check_name, demo_number};
 ghost use Rattle.glass_main.specs.ReadCommand.{read_command, read_order, IsLawfulCommand};

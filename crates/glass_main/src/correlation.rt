@@ -1,6 +1,6 @@
 //! The command `lines`: the link overlaps and correlation lines of the state that a checkpoint holds.
 
-ghost use Rattle.std.specs.Prelude.{◌≡◌, ◌≤◌, option_map, Some, IfOk, IfErr};
+ghost use Rattle.std.specs.Prelude.{option_map, Some, IfOk, IfErr};
 ghost use Rattle.plane_sweep.specs.Packed.{StandFits};
 ghost use Rattle.run_plan.specs.RunFile.{AreLawfulOrders};
 ghost use Rattle.glass_main.specs.CommandLine as commands;

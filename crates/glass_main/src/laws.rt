@@ -10,8 +10,8 @@ pub fn run_reports_are_lawful()
     ensures { RunReportsAreLawful }
 {}
 
-/// And so is that of a run that begins or stops with its slots at epochs of their own, where the
-/// records that its starting state has ahead are within their ranges.
+/// The report of a run that begins or stops with its slots at epochs of their own is a lawful one, where
+/// the records that its starting state has ahead are within their ranges.
 pub fn ended_reports_are_lawful()
     ensures { EndedReportsAreLawful }
 {}
@@ -39,7 +39,8 @@ pub fn read_states_are_encoded()
     ensures { ReadStatesAreEncoded }
 {}
 
-/// And the encoding of states that fit, at an epoch in time, is read as them.
+/// The encoding of the states of 64 samples that fit, at an epoch of at most 1000000000, is read as those
+/// states.
 pub fn encoded_states_are_read()
     ensures { EncodedStatesAreRead }
 {}

@@ -1,6 +1,6 @@
 //! The lines on the error output.
 
-ghost use Rattle.std.specs.Prelude.{◌≡◌, ◌+◌, ◌≤◌, ◌++◌, [], ℕ, codes, decimal, length};
+ghost use Rattle.std.specs.Prelude.{◌≡◌, ◌+◌, ◌≤◌, ◌++◌, [], decimal, length};
 ghost use Rattle.glass_main.specs.Lines.{role_name, file_front, line_of, refusal_line};
 ghost use Rattle.glass_main.specs.Outside.{output};
 ghost use Rattle.glass_main.specs.Statuses.{status_of, Says, Told};

@@ -1,6 +1,6 @@
 //! The words of `potts`.
 
-ghost use Rattle.std.specs.Prelude.{◌≡◌, ◌^◌, option_map, IfSome};
+ghost use Rattle.std.specs.Prelude.{◌≡◌, option_map, IfSome};
 ghost use Rattle.spin_model.specs.Limits.{certain};
 ghost use Rattle.glass_main.specs.PottsWords as potts;
 ghost use Rattle.glass_main.specs.PottsWords.{potts_order};

@@ -1,6 +1,6 @@
 //! The words of the command `run`.
 
-ghost use Rattle.std.specs.Prelude.{◌≡◌, ℕ, ◌≤◌, drop, option_map, Some, None, IfSome};
+ghost use Rattle.std.specs.Prelude.{◌≡◌, drop, option_map, Some, None, IfSome};
 ghost use Rattle.glass_main.specs.RunReading as model;
 ghost use Rattle.glass_main.specs.ReadCommand.{name_bytes, read_run_order, read_said, IsLawfulOrder, AreLawfulWords};
 ghost use Rattle.glass_main.specs.Words.{texts};
@@ -14,7 +14,7 @@ use spin_model::LAST_EPOCH;
 pub struct RunOrder<'a> {
     /// The name of the run file.
     pub run: &'a str,
-    /// 1 to 64.
+    /// The workers, 1 to 64.
     pub workers: u32,
     /// The pieces that the planes of a sweep are cut into, 1 to 16.
     pub pieces: u32,

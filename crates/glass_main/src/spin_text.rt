@@ -3,10 +3,8 @@
 ghost use Rattle.std.specs.Prelude.{◌≡◌, ◌+◌, ◌*◌, ◌<◌, ◌≤◌, ◌++◌, length, OnOk, OnErr};
 ghost use Rattle.glass_edges.specs.Causes.{HasCause};
 ghost use Rattle.glass_edges.specs.Contents.{appended, AppendsPrefix, PutsFront};
-ghost use Rattle.scalar_rule.specs.SpinDigits.{four_spins, hex_digit, spin_digits};
+ghost use Rattle.scalar_rule.specs.SpinDigits.{four_spins, spin_digits};
 ghost use Rattle.spin_model.specs.Lattice.{volume};
-ghost use Rattle.spin_model.specs.Steps.{table};
-ghost use Rattle.spin_model.specs.Words.{one_if};
 ghost use Rattle.glass_main.specs.Texts.{spin_line};
 
 use crate::long_line::end_line;

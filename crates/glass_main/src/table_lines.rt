@@ -1,6 +1,6 @@
 //! The lines of a refused table.
 
-ghost use Rattle.std.specs.Prelude.{◌≡◌, ◌+◌, ◌≤◌, ◌++◌, [], ℕ, codes, decimal, length};
+ghost use Rattle.std.specs.Prelude.{◌≡◌, ◌+◌, ◌≤◌, ◌++◌, [], codes, decimal, length};
 ghost use Rattle.glass_main.specs.Lines.{file_front, record_front, field_front, table_line};
 ghost use Rattle.glass_main.specs.Outside.{output};
 ghost use Rattle.glass_main.specs.Statuses.{Says};

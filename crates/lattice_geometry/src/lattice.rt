@@ -1,6 +1,6 @@
 //! A lattice by its size, and the numbering of its sites.
 
-ghost use Rattle.std.specs.Prelude.{◌≡◌, ℕ, ◌+◌, ◌*◌, ◌/◌, ◌%◌, ◌<◌, ◌≤◌, IfOk, IfErr};
+ghost use Rattle.std.specs.Prelude.{◌≡◌, ℕ, ◌+◌, ◌*◌, ◌/◌, ◌%◌, ◌<◌, IfOk, IfErr};
 ghost use Rattle.spin_model.specs.Lattice.{volume, site_at, x_of, y_of, z_of, forward, backward, colour, compact, from_compact, IsLawfulSize};
 
 use std::marker::Model;

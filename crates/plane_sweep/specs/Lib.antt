@@ -6,7 +6,8 @@ pub mod StartingStates
 pub mod Laws
 pub mod Sharing
 pub mod Beginnings
--- what the steps inside say, of a stored sample: for proofs alone
+-- what the steps inside say of a stored sample, and lists that are changed item by item, which the sweep of a plane
+-- says too
 pub mod Storing
 -- what a plane's rows and their neighbours are, and a step of the sweep of both replicas, which the calls for other
 -- crates' kernels say too

@@ -27,8 +27,8 @@ pub(crate) struct Drawn<'a, 'b> {
 }
 
 /// The new words of the sites of a colour in a plane of both replicas, each by the planes of its own
-/// replica and its own draws. A smaller lattice has no code for both, since its couplings stay
-/// near the processor anyhow.
+/// replica and its own draws. They go row by row in turn at multiples of 8 from 32 on, by a table in
+/// order; else there is no code for both, and the plane of the one goes before that of the other.
 pub(crate) fn sweep_words_of_duo(
     first: &mut [u64],
     second: &mut [u64],

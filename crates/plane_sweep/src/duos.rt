@@ -4,7 +4,6 @@ ghost use Rattle.std.specs.Prelude.{◌≡◌, ℕ, ◌+◌, ◌*◌, ◌<◌, �
 ghost use Rattle.plane_sweep.specs.DuoSweep.{FitHalves, FitsColours, SweepsAhead, SweepsBehind};
 ghost use Rattle.plane_sweep.specs.Packed.{part_copy, FitsDuo, FitsPlane};
 ghost use Rattle.plane_sweep.specs.PlaneSweep.{SweepsAt, SweepsColours, SweepsPlane};
-ghost use Rattle.plane_sweep.specs.Storing.{Changed};
 ghost use Rattle.scalar_rule.specs.Plan.{dynamics_of, slots_of};
 ghost use Rattle.scalar_rule.specs.Replica.{configuration_of, with_configuration};
 ghost use Rattle.scalar_rule.specs.Sweep as model;
@@ -24,8 +23,8 @@ use threshold_table::SlotRule;
 pub const LEAST_IN_TURN: usize = 32;
 
 /// That many sweeps of both replicas of a temperature slot, of each as `sweep` makes one. On a large
-/// lattice that is not cut in pieces the two go row by row in turn, since both read the same
-/// couplings. Takes no memory.
+/// lattice that is not cut in pieces the two go in turn, row by row or plane by plane, since both read
+/// the same couplings. Takes no memory.
 pub fn sweep_duo_often<R: Threads + Sync>(
     rt: &R,
     duo: &mut Duo,
@@ -137,8 +136,7 @@ fn sweep_following(
     sweep_behind(first, second, dynamics, draws, 0);
 }
 
-/// Sweeps plane `z` of colour 0 in both replicas of a slot, a row of the one and a row of the other by
-/// turns. Each list has the 2L planes of a replica, those of colour 0 ahead; `draws` is the room for a
+/// Sweeps plane `z` of colour 0 in both replicas of a slot, in turn. Each list has the 2L planes of a replica, those of colour 0 ahead; `draws` is the room for a
 /// draw for each site of both planes.
 pub fn sweep_ahead(
     first: &mut [Plane],

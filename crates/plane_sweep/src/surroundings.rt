@@ -1,6 +1,6 @@
 //! What the sites of one colour in a plane read of the other colour's sites and of the bonds.
 
-ghost use Rattle.std.specs.Prelude.{◌≡◌, ℕ, ◌*◌, ◌-◌, ◌<◌, length, All};
+ghost use Rattle.std.specs.Prelude.{◌≡◌, ◌-◌, ◌<◌, length, All};
 ghost use Rattle.plane_sweep.specs.Packed.{FitsPlane};
 ghost use Rattle.plane_sweep.specs.Neighbourhood.{Surrounds};
 ghost use Rattle.spin_model.specs.Lattice.{next, previous, IsLawfulSize};

@@ -116,7 +116,7 @@ fn sweep_colours<R: Threads + Sync>(
     }
 }
 
-// Colour 0, then colour 1.
+// The same in one run.
 fn sweep_both(planes: &mut [Plane], dynamics: &Dynamics, draws: &mut [u32], size: usize)
     requires size { size ≡ dynamics.now.couplings.now.size }
     requires lawful { IsLawfulSize dynamics.now.couplings.now.size }
@@ -184,7 +184,7 @@ fn sweep_at(
     sweep_plane(&mut own[z], other, &sites, draws);
 }
 
-// The same, each colour in at most so many runs of planes.
+// Colour 0 and then colour 1, each in at most so many runs of planes.
 fn fork_both<R: Threads + Sync>(
     rt: &R,
     planes: &mut [Plane],

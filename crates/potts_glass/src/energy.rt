@@ -1,6 +1,6 @@
 //! The energies of all samples: the bonds between sites of one colour, counted in bit planes.
 
-ghost use Rattle.std.specs.Prelude.{◌≡◌, ℕ, ◌+◌, ◌*◌, ◌^◌, ◌<◌, ◌≤◌, ◌&&◌, not, pos, ◌-ℤ◌, length, slice_index};
+ghost use Rattle.std.specs.Prelude.{◌≡◌, ℕ, ◌+◌, ◌*◌, ◌^◌, ◌<◌, ◌≤◌, pos, ◌-ℤ◌, length};
 ghost use Rattle.multispin_word.specs.Planes.{number, is_set, one_if};
 ghost use Rattle.spin_model.specs.Lattice.{volume, bond, bond_count, IsLawfulSize};
 ghost use Rattle.spin_model.specs.Steps.{count_below, table};

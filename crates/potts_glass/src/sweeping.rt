@@ -1,9 +1,8 @@
 //! A half sweep in all samples at once: plane by plane, row by row, in place.
 
-ghost use Rattle.std.specs.Prelude.{◌≡◌, ℕ, ◌+◌, ◌*◌, ◌<◌, [], length, slice_index, slice_index_or, slice_set};
+ghost use Rattle.std.specs.Prelude.{◌≡◌, ℕ, ◌+◌, ◌*◌, ◌<◌, length, slice_index, slice_set};
 ghost use Rattle.spin_model.specs.Lattice.{volume, site_at, place_in_plane};
 ghost use Rattle.spin_model.specs.Steps.{steps};
-ghost use Rattle.spin_model.specs.Words.{is_set};
 ghost use Rattle.coupling_set.specs.CouplingWords.{bonds_of};
 ghost use Rattle.potts_glass.specs.PackedColours.{colours_of};
 ghost use Rattle.potts_glass.specs.Potts as model;

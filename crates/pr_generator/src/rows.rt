@@ -1,6 +1,6 @@
 //! Eight words of the stream at a time, in vector lanes.
 
-ghost use Rattle.std.specs.Prelude.{◌≡◌, ℕ, ◌+◌, ◌*◌, ◌%◌, ◌<◌, ◌≤◌, [], ◌++◌, List, length, take, drop, bit_xor, slice_index, slice_index_or};
+ghost use Rattle.std.specs.Prelude.{◌≡◌, ℕ, ◌+◌, ◌*◌, ◌%◌, ◌<◌, ◌≤◌, [], ◌++◌, length, take, drop, bit_xor, slice_index, slice_index_or};
 ghost use Rattle.pr_generator.specs.Rows.{joined, state_of, from_row, AreRows};
 ghost use Rattle.spin_model.specs.Words.{word_sum};
 ghost use Rattle.spin_model.specs.Steps.{table};

@@ -34,7 +34,8 @@ impl Wheel {
         }
     }
 
-    /// The generator with this label: its words are the SHA-256 digests of the seed and the label.
+    /// The generator with this label: its words are the first 61 of eight SHA-256 digests of the seed,
+    /// the label and the digest's number.
     pub fn seeded(seed: u64, kind: u32, a: u32, b: u32, c: u32) -> Wheel
         ensures { result ≡ seeded seed kind a b c }
     {

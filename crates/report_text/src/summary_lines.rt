@@ -43,8 +43,8 @@ pub fn summary_header<O: Sink>(
     line.put(out)
 }
 
-/// Puts a slot's line: its energy in all samples, and in how many of them its first replica began in
-/// another slot.
+/// Puts a slot's line: the sum over all samples of both replicas' energies, in units of the coupling, and
+/// in how many samples its first replica began in another slot.
 ///
 /// # Errors
 ///

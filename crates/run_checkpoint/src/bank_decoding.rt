@@ -4,7 +4,7 @@ ghost use Rattle.std.specs.Arc.{arc_value};
 ghost use Rattle.std.specs.Prelude.{◌≡◌, ℕ, ◌+◌, ◌*◌, ◌≤◌, List, None, All, drop, map, length, IfOk, IfErr, IfNone};
 ghost use Rattle.glass_edges.specs.Refusals.{GivesAfterTests};
 ghost use Rattle.run_checkpoint.specs.BankDecoding as model;
-ghost use Rattle.run_checkpoint.specs.BankEncoding.{bank_len, banks_len, banks_encoding, HaveOneShape, AreBanks, BanksStand};
+ghost use Rattle.run_checkpoint.specs.BankEncoding.{bank_len, banks_encoding, HaveOneShape, AreBanks, BanksStand};
 ghost use Rattle.run_checkpoint.specs.declared.refused.CheckpointRefused.TheVariants as refused;
 ghost use Rattle.run_checkpoint.specs.Lengths.{encoding_len};
 ghost use Rattle.run_checkpoint.specs.Unfilled.{HasRoom};

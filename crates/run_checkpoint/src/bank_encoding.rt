@@ -1,6 +1,6 @@
 //! The frame of a checkpoint of several banks, around the checkpoints of the banks.
 
-ghost use Rattle.std.specs.Prelude.{◌≡◌, ◌+◌, ◌≤◌, [], length};
+ghost use Rattle.std.specs.Prelude.{◌≡◌, ◌+◌, ◌≤◌, []};
 ghost use Rattle.run_checkpoint.specs.BankEncoding.{banks_header};
 ghost use Rattle.run_checkpoint.specs.Encoding.{sealed};
 

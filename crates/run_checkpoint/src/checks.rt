@@ -1,7 +1,6 @@
 //! The tests that all kinds of checkpoints share, in the order in which they are made.
 
-ghost use Rattle.std.specs.Prelude.{◌≡◌, ◌+◌, ◌≤◌, List, ℕ, length, IfNone, take};
-ghost use Rattle.scalar_rule.specs.Plan.{slots_of};
+ghost use Rattle.std.specs.Prelude.{◌≡◌, ◌+◌, ◌≤◌, length, IfNone};
 ghost use Rattle.run_checkpoint.specs.Tests as tests;
 
 use crate::places::{behind, piece};

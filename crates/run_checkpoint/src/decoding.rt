@@ -1,6 +1,6 @@
 //! Reading of a checkpoint whose slots are all at one epoch.
 
-ghost use Rattle.std.specs.Prelude.{◌≡◌, ◌≤◌, ℕ, length, IfOk, IfErr, IfNone, map};
+ghost use Rattle.std.specs.Prelude.{◌≡◌, ◌≤◌, ℕ, length, IfOk, IfErr, IfNone};
 ghost use Rattle.glass_edges.specs.Refusals.{GivesAfterTests};
 ghost use Rattle.plane_sweep.specs.Packed.{StandsFor};
 ghost use Rattle.scalar_rule.specs.Plan.{slots_of};

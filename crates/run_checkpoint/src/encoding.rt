@@ -1,6 +1,6 @@
 //! Writing of a checkpoint into a reserved buffer.
 
-ghost use Rattle.std.specs.Prelude.{◌≡◌, ◌+◌, ◌*◌, ◌≤◌, ℕ, [], ◌++◌, All, length};
+ghost use Rattle.std.specs.Prelude.{◌≡◌, ◌+◌, ◌≤◌, [], ◌++◌, All, length};
 ghost use Rattle.std.specs.List.{flat_map};
 ghost use Rattle.plane_sweep.specs.Packed.{part, StandFits};
 ghost use Rattle.run_checkpoint.specs.Encoding.{encoding, header, sealed, flattened};

@@ -16,15 +16,15 @@ pub fn encoding_is_one(plan: &Plan)
     let _ = plan.lattice();
 }
 
-/// So do states whose slots may be at different epochs, or their records, for the same printed samples
-/// and recorded epochs.
+/// States whose slots may be at different epochs have different checkpoints where they differ, or the
+/// records that are kept ahead, for the same printed samples and recorded epochs.
 pub fn uneven_encoding_is_one(plan: &Plan)
     ensures { UnevenEncodingIsOne plan.now }
 {
     let _ = plan.lattice();
 }
 
-/// So do states of several banks.
+/// States of several banks that differ have different checkpoints.
 pub fn banks_encoding_is_one(plans: &[Arc<Plan, Global>])
     ensures { BanksEncodingIsOne (map arc_value plans.now) }
 {

@@ -1,6 +1,6 @@
 //! Parts of the bytes of a checkpoint at their places.
 
-ghost use Rattle.std.specs.Prelude.{◌≡◌, ◌+◌, ◌*◌, ◌≤◌, length, drop};
+ghost use Rattle.std.specs.Prelude.{◌≡◌, ◌+◌, ◌≤◌, length, drop};
 ghost use Rattle.run_checkpoint.specs.Reading.{piece, number_at};
 ghost use Rattle.run_checkpoint.specs.UnevenDecoding.{signed_at};
 

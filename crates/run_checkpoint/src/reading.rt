@@ -1,7 +1,6 @@
 //! A packed state is filled with what bytes say that passed the tests. No memory is taken.
 
-ghost use Rattle.std.specs.Prelude.{◌≡◌, ◌+◌, ◌-◌, ◌*◌, ◌<◌, ◌≤◌, All, length, take, drop};
-ghost use Rattle.spin_model.specs.Lattice.{half_plane};
+ghost use Rattle.std.specs.Prelude.{◌≡◌, ◌+◌, ◌-◌, ◌*◌, ◌<◌, ◌≤◌, All, length, take};
 ghost use Rattle.run_checkpoint.specs.Lengths as lengths;
 ghost use Rattle.run_checkpoint.specs.UnevenDecoding as uneven;
 ghost use Rattle.run_checkpoint.specs.Unfilled.{HasWords, HasPlanes, HasReplicas};

@@ -1,6 +1,6 @@
 //! Reading of a checkpoint of either kind.
 
-ghost use Rattle.std.specs.Prelude.{◌≡◌, ℕ, ◌+◌, ◌*◌, ◌<◌, ◌≤◌, [], List, true, length, IfOk, IfErr, IfNone};
+ghost use Rattle.std.specs.Prelude.{◌≡◌, ℕ, ◌+◌, ◌*◌, ◌<◌, ◌≤◌, [], List, length, IfOk, IfErr, IfNone};
 ghost use Rattle.glass_edges.specs.Refusals.{GivesAfterTests};
 ghost use Rattle.spin_model.specs.Limits.{last_epoch};
 ghost use Rattle.plane_sweep.specs.Uneven.{level_stand, uneven_part, RaggedStandFits};

@@ -1,11 +1,9 @@
 //! Writing of a checkpoint whose slots may be at different epochs.
 
-ghost use Rattle.std.specs.Prelude.{◌≡◌, ◌+◌, ◌*◌, ◌<◌, ◌≤◌, ℕ, [], ◌++◌, All, length, map};
+ghost use Rattle.std.specs.Prelude.{◌≡◌, ◌+◌, ◌*◌, ◌≤◌, [], All, length, map};
 ghost use Rattle.std.specs.List.{flat_map};
 ghost use Rattle.plane_sweep.specs.Uneven.{position_of, uneven_part, FitsRecord, RaggedStandFits};
-ghost use Rattle.run_checkpoint.specs.Encoding.{sealed};
 ghost use Rattle.run_checkpoint.specs.Lengths.{uneven_len};
-ghost use Rattle.run_checkpoint.specs.PackedBytes as packed;
 ghost use Rattle.run_checkpoint.specs.Rooms.{Puts};
 ghost use Rattle.run_checkpoint.specs.UnevenEncoding as model;
 ghost use Rattle.scalar_rule.specs.Plan.{slots_of};

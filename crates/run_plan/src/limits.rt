@@ -1,4 +1,4 @@
-//! The limits of a run that no other crate tests.
+//! The limits of what a run file asks for.
 
 /// How many disorder samples a bank has.
 pub(crate) const BANK_SAMPLES: u32 = 64;

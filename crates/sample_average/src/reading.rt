@@ -5,9 +5,8 @@ ghost use Rattle.glass_edges.specs.Refusals.{Gives};
 ghost use Rattle.sample_average.specs.Averages.{IsRefusal};
 ghost use Rattle.sample_average.specs.LawfulReport.{IsLawfulHeader, IsReading};
 ghost use Rattle.sample_average.specs.ReadReport.{averages_in};
-ghost use Rattle.sample_average.specs.Tallies.{Tallies, IsRowOfReport};
+ghost use Rattle.sample_average.specs.Tallies.{Tallies};
 ghost use Rattle.sample_average.specs.declared.row.Row.{Row as RowValue};
-ghost use Rattle.std.specs.List.{AllByRecursion};
 
 use crate::averages::Averages;
 use crate::header::Header;
@@ -25,7 +24,8 @@ use std::alloc::Global;
 /// # Errors
 ///
 /// Line exactly where the bytes are not a lawful report, with its first wrong line. Blocks exactly
-/// where the report is lawful and has fewer samples than blocks.
+/// where the report is lawful and has fewer samples than blocks. NoMemory only where the report is
+/// lawful and has samples enough.
 #[tactic(auto, using(crate::proofs::ReadReports::gives_averages))]
 pub fn read_report(alloc: Global, bytes: &[u8], blocks: u32) -> Result<Averages, ReportRefused>
     requires limit { length bytes.now ≤ 67108864 }

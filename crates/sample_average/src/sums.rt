@@ -1,6 +1,6 @@
 //! Sums over rows.
 
-ghost use Rattle.std.specs.Prelude.{◌≡◌, ℕ, ◌+◌, ◌*◌, ◌≤◌, ◌+ℤ◌, unsigned_abs, []};
+ghost use Rattle.std.specs.Prelude.{◌≡◌, ◌+◌, ◌*◌, ◌≤◌, unsigned_abs, []};
 ghost use Rattle.sample_average.specs.Averages as sums;
 ghost use Rattle.sample_average.specs.Averages.{sums_of};
 ghost use Rattle.sample_average.specs.Tallies.{sums_after, sums_without, AreSmall};

@@ -1,9 +1,9 @@
 //! Tables of sums by temperature slot and block of samples.
 
-ghost use Rattle.std.specs.Prelude.{◌≡◌, ◌+◌, ◌*◌, ◌<◌, ◌≤◌, length, slice_set, slice_index_or};
+ghost use Rattle.std.specs.Prelude.{◌≡◌, ◌+◌, ◌*◌, ◌<◌, ◌≤◌, length};
 ghost use Rattle.std.specs.List.{AllByRecursion};
 ghost use Rattle.sample_average.specs.LawfulReport.{IsLawfulHeader};
-ghost use Rattle.sample_average.specs.Tallies.{cell_of, sums_after, IsRowOfReport, Tallies, AllNone};
+ghost use Rattle.sample_average.specs.Tallies.{cell_of, IsRowOfReport, Tallies, AllNone};
 
 use crate::header::Header;
 use crate::row::Row;

@@ -1,6 +1,6 @@
 //! The counts at a site that the spin rule needs.
 
-ghost use Rattle.std.specs.Prelude.{◌≡◌, ◌<◌, ◌≤◌, length, not};
+ghost use Rattle.std.specs.Prelude.{◌≡◌, ◌<◌, ◌≤◌, length};
 ghost use Rattle.spin_model.specs.Lattice.{volume};
 ghost use Rattle.spin_model.specs.Words.{one_if};
 ghost use Rattle.scalar_rule.specs.Neighbours as model;

@@ -1,13 +1,11 @@
 //! One replica of the ferromagnet under heat bath, from its start to its energy.
 
-ghost use Rattle.std.specs.Prelude.{◌≡◌, ◌+◌, ◌*◌, ◌<◌, ◌≤◌, ◌/◌, ◌%◌, length, IfOk};
+ghost use Rattle.std.specs.Prelude.{◌≡◌, ◌*◌, ◌<◌, length, IfOk};
 ghost use Rattle.spin_model.specs.Couplings.{plus};
 ghost use Rattle.spin_model.specs.Lattice.{volume};
 ghost use Rattle.scalar_rule.specs.Opening.{all_up, seeded_words};
-ghost use Rattle.scalar_rule.specs.PlainRun.{heat_bath_on, plain_configuration};
-ghost use Rattle.scalar_rule.specs.Replica.{configuration_of};
+ghost use Rattle.scalar_rule.specs.PlainRun.{plain_configuration};
 ghost use Rattle.scalar_rule.specs.Sums as sums;
-ghost use Rattle.scalar_rule.specs.Sweep as model;
 
 use crate::bonds::{Bonds, Ferromagnet};
 use crate::opening::{all_up, seeded_wheels};

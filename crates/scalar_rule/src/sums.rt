@@ -1,4 +1,4 @@
-//! The energy of one configuration, bond by bond.
+//! The energy of one configuration, bond by bond, and the overlap of two, site by site.
 
 ghost use Rattle.std.specs.Prelude.{◌≡◌, ℕ, ◌+◌, ◌*◌, ◌<◌, ◌≤◌, ◌-ℤ◌, pos, length};
 ghost use Rattle.spin_model.specs.Lattice.{volume, bond_count};

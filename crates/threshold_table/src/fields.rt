@@ -1,6 +1,6 @@
 //! The fields of one record.
 
-ghost use Rattle.std.specs.Prelude.{◌≡◌, ℕ, ◌≤◌, ◌∷◌, ◌++◌, length, drop, option_map, OnOk};
+ghost use Rattle.std.specs.Prelude.{◌≡◌, ◌≤◌, ◌∷◌, ◌++◌, length, drop, option_map, OnOk};
 ghost use Rattle.std.specs.List.{position_or_len};
 ghost use Rattle.glass_edges.specs.Refusals.{first_found, refusal_of};
 ghost use Rattle.threshold_table.specs.TableText.{is_comma, fields, field_refusal, record_values};

@@ -1,6 +1,6 @@
 //! The bytes of a table cut into its records, one after the other.
 
-ghost use Rattle.std.specs.Prelude.{◌≡◌, ℕ, ◌<◌, length, option_map, IfSome};
+ghost use Rattle.std.specs.Prelude.{◌≡◌, ◌<◌, length, option_map, IfSome};
 ghost use Rattle.std.specs.List.{list_all, position_or_len};
 ghost use Rattle.threshold_table.specs.TableText.{without_mark, is_line_end, is_lawful, records};
 ghost use Rattle.threshold_table.specs.Pieces.{with_line, records_left};

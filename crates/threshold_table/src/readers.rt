@@ -1,6 +1,6 @@
 //! The two readers of tables.
 
-ghost use Rattle.std.specs.Prelude.{ℕ, ◌≤◌};
+ghost use Rattle.std.specs.Prelude.{◌≤◌};
 ghost use Rattle.glass_edges.specs.Refusals.{Gives};
 ghost use Rattle.threshold_table.specs.Tables.{rule_table, swap_table};
 

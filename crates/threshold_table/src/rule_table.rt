@@ -1,8 +1,8 @@
 //! The rule table: the thresholds of the spin update, by temperature slot.
 
-ghost use Rattle.std.specs.Prelude.{◌≡◌, ℕ, ◌<◌, ◌≤◌, List, IsTrue, IfOk, length, map, slice_index};
-ghost use Rattle.std.specs.List.{All, list_all};
-ghost use Rattle.threshold_table.specs.Tables.{cases_of, padded, rule_width, thresholds_in, thresholds_of, threshold_of, is_lawful_row, IsLawfulRow, IsLawfulRules};
+ghost use Rattle.std.specs.Prelude.{◌≡◌, ℕ, ◌<◌, ◌≤◌, IsTrue, IfOk, length, map, slice_index};
+ghost use Rattle.std.specs.List.{list_all};
+ghost use Rattle.threshold_table.specs.Tables.{padded, rule_width, thresholds_in, thresholds_of, threshold_of, is_lawful_row, IsLawfulRow, IsLawfulRules};
 
 use crate::bounds::Bounds;
 use glass_edges::NoMemory;

@@ -1,7 +1,7 @@
 //! The swap table: the thresholds of the replica exchange, by pair of neighbouring slots.
 
 ghost use Rattle.std.specs.Prelude.{◌≡◌, ℕ, ◌<◌, ◌≤◌, List, IsTrue, IfOk, length};
-ghost use Rattle.std.specs.List.{All, list_all};
+ghost use Rattle.std.specs.List.{list_all};
 ghost use Rattle.spin_model.specs.Limits.{certain};
 ghost use Rattle.threshold_table.specs.Tables.{entry_count, swap_threshold, are_thresholds, IsLawfulSwaps};
 

@@ -1,4 +1,4 @@
-ghost use Rattle.std.specs.Prelude.{◌≡◌, [], ◌∷◌, Some};
+ghost use Rattle.std.specs.Prelude.{[], ◌∷◌, Some};
 ghost use Rattle.turn_cell.specs.Seats.{cell_id, IsFree, IsIdle};
 
 use super::{Words, stored};
