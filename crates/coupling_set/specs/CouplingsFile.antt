@@ -9,6 +9,7 @@ use Rattle.glass_edges.specs.Refusals.{or_else, unless}
 use Rattle.glass_edges.specs.Sealed.{body_of, digest_of}
 use Rattle.spin_model.specs.Couplings.{Bonds, plus}
 use Rattle.spin_model.specs.Lattice.{bond_count, IsLawfulSize}
+use Rattle.spin_model.specs.Limits.{most_samples}
 use Rattle.spin_model.specs.Steps.{table}
 use Rattle.spin_model.specs.Words.{is_set}
 use Rattle.coupling_set.specs.BondsAsWords.{word_of, couplings_with, bank_of}
@@ -91,7 +92,7 @@ other_size l bytes = if size_in bytes == l then None else Some (refused.Size (si
 -- no sample, or more than 256
 unfoldable pub other_samples : List ℕ → Option CouplingsRefused
 other_samples bytes =
-    if nat_le 1 (samples_in bytes) && nat_le (samples_in bytes) 256 then None else Some (refused.Samples (samples_in bytes))
+    if nat_le 1 (samples_in bytes) && nat_le (samples_in bytes) most_samples then None else Some (refused.Samples (samples_in bytes))
 
 -- another length than so many samples have
 unfoldable pub other_length : ℕ → List ℕ → Option CouplingsRefused
@@ -122,6 +123,6 @@ couplings_in l bank bytes = unless (file_refusal l bytes) (couplings_with l (ban
 pub record IsFileOf (l n : ℕ) (bonds : ℕ → Bonds) (bytes : List ℕ) : Type 0 where
   pub lawful : IsLawfulSize l
   pub some : 1 ≤ n
-  pub few : n ≤ 256
+  pub few : n ≤ most_samples
   pub same : bytes ≡ file_bytes l n bonds
   pub others : (b m : ℕ) → n ≤ b → bonds b m ≡ plus b m

@@ -12,6 +12,7 @@ use crate::drawing::draw_samples;
 use glass_edges::NoMemory;
 use lattice_geometry::Lattice;
 use plain_list::Items;
+use spin_model::BANK_SAMPLES;
 use std::alloc::Global;
 use std::marker::Model;
 
@@ -79,7 +80,7 @@ impl Couplings {
         ensures size { IfOk result (λ couplings. couplings.size ≡ lattice) }
         ensures bonds { IfOk result (λ couplings. HasBonds couplings (bank_of bank (random seed))) }
     {
-        Couplings::random_from(alloc, lattice, seed, 64 * bank)
+        Couplings::random_from(alloc, lattice, seed, BANK_SAMPLES * bank)
     }
 
     // The random couplings of 64 samples, of which sample 0 has this number.

@@ -15,6 +15,7 @@ use crate::file_writing::{file_of, samples_of};
 use crate::refused::CouplingsRefused;
 use glass_edges::NoMemory;
 use lattice_geometry::Lattice;
+use spin_model::BANK_SAMPLES;
 use std::alloc::Global;
 
 impl Couplings {
@@ -104,7 +105,7 @@ fn stored(alloc: Global, lattice: Lattice, bank: u32, bytes: &[u8]) -> Result<Co
         HasBonds couplings (bank_of bank (of_file lattice bytes.now))) }
 {
     let mut words = vec![in alloc; 0u64; word_count(&lattice)]?;
-    read_samples(words.as_mut_slice(), &lattice, bytes, 64 * bank);
+    read_samples(words.as_mut_slice(), &lattice, bytes, BANK_SAMPLES * bank);
     Ok(Couplings::of(lattice, words))
 }
 

@@ -8,9 +8,7 @@ ghost use Rattle.spin_model.specs.Lattice.{IsLawfulSize};
 use crate::refused::CouplingsRefused;
 use glass_edges::{stored_digest, u32_at};
 use sha2::{Digest, Sha256};
-
-/// The most samples that a file has.
-const MOST_SAMPLES: u32 = 256;
+use spin_model::MOST_SAMPLES;
 
 /// The number of bytes that one sample takes.
 pub(crate) fn sample_bytes(size: u32) -> u32

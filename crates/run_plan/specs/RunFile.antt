@@ -10,7 +10,7 @@ use Rattle.glass_edges.specs.Refusals.{or_else, first_found, unless}
 use Rattle.scalar_rule.specs.declared.sample.Start.{Start}
 use Rattle.scalar_rule.specs.declared.sample.Start.TheVariants as starts
 use Rattle.spin_model.specs.Lattice.{IsLawfulSize}
-use Rattle.spin_model.specs.Limits.{last_epoch, most_sweeps}
+use Rattle.spin_model.specs.Limits.{bank_samples, last_epoch, most_samples, most_sweeps}
 use Rattle.threshold_table.specs.declared.rule_table.RuleKind.{RuleKind}
 use Rattle.threshold_table.specs.declared.rule_table.RuleKind.TheVariants as kinds
 use Rattle.run_plan.specs.declared.key.Key.{Key}
@@ -68,7 +68,7 @@ row_of Swaps = name
 row_of Couplings = source
 row_of Sweeps = integer (pos 1) (pos most_sweeps)
 row_of Seed = integer (pos 0) (pos 9223372036854775807)
-row_of Samples = integer (pos 1) (pos 256)
+row_of Samples = integer (pos 1) (pos most_samples)
 row_of Epochs = integer (pos 0) (pos last_epoch)
 row_of Every = integer (pos 1) (pos last_epoch)
 row_of StartKey = word (codes "up") (codes "random")
@@ -221,11 +221,11 @@ pub record AreOrdersUpTo (most : ℕ) (orders : Orders) : Type 0 where
 
 -- orders of one bank of 64 samples
 abbrev pub AreLawfulOrders : Orders → Type 0
-AreLawfulOrders orders = AreOrdersUpTo 64 orders
+AreLawfulOrders orders = AreOrdersUpTo bank_samples orders
 
 -- orders of up to four banks, as a run file may give them
 abbrev pub AreOrdersOfBanks : Orders → Type 0
-AreOrdersOfBanks orders = AreOrdersUpTo 256 orders
+AreOrdersOfBanks orders = AreOrdersUpTo most_samples orders
 
 -- a run file within its limits
 pub record IsLawfulRunFile (file : RunFile) : Type 0 where

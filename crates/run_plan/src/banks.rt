@@ -4,9 +4,9 @@ ghost use Rattle.std.specs.Prelude.{◌≡◌, ◌≤◌, false, IfOk};
 ghost use Rattle.glass_edges.specs.Refusals.{unless};
 ghost use Rattle.run_plan.specs.Banks.{banks_refusal};
 
-use crate::limits::BANK_SAMPLES;
 use crate::refused::PlanRefused;
 use crate::run_file::Orders;
+use spin_model::BANK_SAMPLES;
 
 /// Tests whether a command can run the samples of these orders: those of one bank, or with `many`
 /// those of all banks. Takes no memory.

@@ -7,10 +7,9 @@ ghost use Rattle.glass_edges.specs.Refusals.{first_found};
 ghost use Rattle.run_plan.specs.RunFile as model;
 
 use crate::key::{Key, is_key, keys};
-use crate::limits::MOST_SAMPLES;
 use crate::refused::PlanRefused;
 use glass_edges::is_file_name;
-use spin_model::{LAST_EPOCH, MOST_SWEEPS};
+use spin_model::{LAST_EPOCH, MOST_SAMPLES, MOST_SWEEPS};
 use toml::{Table, Value};
 
 // Why an integer outside two bounds, or no integer, is refused.

@@ -17,6 +17,14 @@ greatest_demo = 1000000
 abbrev pub most_rows : ℕ
 most_rows = 4194304
 
+-- the disorder samples of a bank, a bit each of a word
+abbrev pub bank_samples : ℕ
+bank_samples = 64
+
+-- the most disorder samples of a run and of a couplings file: those of four banks
+abbrev pub most_samples : ℕ
+most_samples = 256
+
 -- the greatest threshold, of probability 1: each draw, a word of 32 bits, is below it
 abbrev pub certain : ℕ
 certain = 4294967296

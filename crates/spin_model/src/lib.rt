@@ -14,4 +14,6 @@ pub use laws::{
     advancing_adds_up, draws_of_advanced, neighbours_have_other_colour, state_is_window,
     stream_is_recurrence,
 };
-pub use limits::{CERTAIN, GREATEST_DEMO, LAST_EPOCH, MOST_ROWS, MOST_SWEEPS};
+pub use limits::{
+    BANK_SAMPLES, CERTAIN, GREATEST_DEMO, LAST_EPOCH, MOST_ROWS, MOST_SAMPLES, MOST_SWEEPS,
+};

@@ -12,5 +12,11 @@ pub const GREATEST_DEMO: u64 = 1000000;
 /// The most rows of a report.
 pub const MOST_ROWS: u64 = 4194304;
 
+/// The disorder samples of a bank, a bit each of a word.
+pub const BANK_SAMPLES: u32 = 64;
+
+/// The most disorder samples of a run and of a couplings file: those of four banks.
+pub const MOST_SAMPLES: u32 = 256;
+
 /// The greatest threshold, of probability 1: each draw, a word of 32 bits, is below it.
 pub const CERTAIN: u64 = 4294967296;
