@@ -10,6 +10,9 @@ use glass_edges::{stored_digest, u32_at};
 use sha2::{Digest, Sha256};
 use spin_model::MOST_SAMPLES;
 
+/// What a file begins with.
+pub(crate) const MAGIC: &[u8; 8] = b"GLASSCJ1";
+
 /// The number of bytes that one sample takes.
 pub(crate) fn sample_bytes(size: u32) -> u32
     requires { IsLawfulSize size }
@@ -47,7 +50,7 @@ fn other_kind(bytes: &[u8]) -> Option<CouplingsRefused>
     ensures value { result ≡ model.other_kind bytes.now }
     ensures named { IfSome result IsNamed }
 {
-    if &bytes[..8] == b"GLASSCJ1".as_slice() {
+    if &bytes[..8] == MAGIC.as_slice() {
         None
     } else {
         Some(CouplingsRefused::Magic)

@@ -8,7 +8,7 @@ ghost use Rattle.coupling_set.specs.CouplingsFile.{sample_bytes, coupling_bytes,
 ghost use Rattle.spin_model.specs.Words.{is_set, one_if};
 
 use crate::couplings::Couplings;
-use crate::file_checks::sample_bytes;
+use crate::file_checks::{MAGIC, sample_bytes};
 use glass_edges::NoMemory;
 use sha2::{Digest, Sha256};
 use std::alloc::Global;
@@ -23,7 +23,7 @@ pub(crate) fn file_of(
     ensures { IfOk result (λ bytes. bytes.items ≡ file_with size samples stored.now) }
 {
     let mut bytes = Vec::new(alloc);
-    bytes.extend_from_slice(b"GLASSCJ1".as_slice())?;
+    bytes.extend_from_slice(MAGIC.as_slice())?;
     bytes.extend_from_slice(size.to_be_bytes().as_slice())?;
     bytes.extend_from_slice(samples.to_be_bytes().as_slice())?;
     bytes.extend_from_slice(stored)?;
