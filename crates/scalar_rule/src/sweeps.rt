@@ -75,11 +75,7 @@ fn slot_rule(plan: &Plan, slot: u32) -> SlotRule
     requires { slot < slots_of plan.now }
     ensures { HasThresholds plan.now.rules slot result }
 {
-    let rules = plan.rules();
-    SlotRule {
-        kind: rules.kind(),
-        row: *rules.row(slot),
-    }
+    plan.rules().rule(slot)
 }
 
 /// That many sweeps.

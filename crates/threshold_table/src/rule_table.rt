@@ -122,6 +122,21 @@ impl RuleTable {
     {
         self.rows.at(slot as usize)
     }
+
+    /// The spin rule of a slot: the table's dynamics, with the slot's thresholds.
+    pub fn rule(&self, slot: u32) -> SlotRule
+        requires { slot < length self.now.rows }
+        ensures kind { result.kind ≡ self.now.kind }
+        ensures values { result.row.values ≡ padded (thresholds_of self.now slot) }
+        ensures thresholds { (case : ℕ) →
+            slice_index result.row.values case ≡ threshold_of self.now slot case }
+        ensures lawful { IsLawfulRow (rule_width self.now.kind) (thresholds_of self.now slot) }
+    {
+        SlotRule {
+            kind: self.kind,
+            row: *self.row(slot),
+        }
+    }
 }
 
 /// How many numbers a record of this kind has.
