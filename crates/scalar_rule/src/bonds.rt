@@ -8,7 +8,7 @@ use lattice_geometry::Lattice;
 use multispin_word::bit;
 
 /// The couplings of one disorder sample: of each bond, whether J is -1.
-pub trait Bonds {
+pub(crate) trait Bonds {
     /// The size of the lattice.
     ghost size: { Self → ℕ };
 
@@ -24,8 +24,8 @@ pub trait Bonds {
 
 /// The ferromagnet: J is +1 at every bond.
 #[derive(Clone, Copy)]
-pub struct Ferromagnet {
-    pub lattice: Lattice,
+pub(crate) struct Ferromagnet {
+    pub(crate) lattice: Lattice,
 }
 
 impl Bonds for Ferromagnet {

@@ -16,7 +16,6 @@ mod spin_rule;
 mod sums;
 mod sweeps;
 
-pub use bonds::{Bonds, Ferromagnet};
 pub use exchange::is_swapped;
 pub use laws::{
     completed_slots_rest, energies_have_one_parity, level_end_is_serial,
