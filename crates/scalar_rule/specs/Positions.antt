@@ -1,11 +1,11 @@
 -- The positions of slots that stand at different epochs: what they keep, how many epochs are completed, and the records
 -- kept ahead of the least completed epoch.
-use Rattle.std.specs.Prelude.{◌≡◌, ℕ, zero, suc, ◌+◌, ◌*◌, ◌-◌, ◌/◌, ◌%◌, ◌<◌, ◌↔◌, min, max, Bool, true, false, ◌&&◌, nat_lt, if◌then◌else◌, List, length, slice_index_or, pos}
+use Rattle.std.specs.Prelude.{◌≡◌, ℕ, zero, suc, ◌+◌, ◌*◌, ◌-◌, ◌/◌, ◌%◌, ◌<◌, ◌↔◌, min, max, Bool, true, false, ◌&&◌, nat_lt, if◌then◌else◌, List, length, slice_index_or}
 use Rattle.spin_model.specs.Words.{one_if}
 use Rattle.spin_model.specs.Steps.{table, count_below}
 use Rattle.scalar_rule.specs.Plan.{Plan, slots_of}
 use Rattle.scalar_rule.specs.Epoch.{has_turn, has_partner, record_of}
-use Rattle.scalar_rule.specs.Records.{is_recorded, in_order}
+use Rattle.scalar_rule.specs.Records.{is_recorded, record_at, in_order}
 use Rattle.scalar_rule.specs.Ragged.{Position, UnevenState, position_at, ready, arrived}
 use Rattle.scalar_rule.specs.declared.sample.PlainSlot.{PlainSlot}
 use Rattle.scalar_rule.specs.declared.sample.Record.{Record}
@@ -88,10 +88,7 @@ pending_count samples every ps = pending_before samples every ps ((deepest_of ps
 -- the record of sample b at epoch f in slot t among them
 abbrev pub pending_record : ℕ → ℕ → List Position → List Record → ℕ → ℕ → ℕ → Record
 pending_record samples every ps pending b f t =
-    slice_index_or pending (pending_before samples every ps (cell_number (floor_of ps) samples (length ps) f b t)) none
-  where
-    none : Record
-    none = record { first_energy = pos 0; second_energy = pos 0; overlap = pos 0; first_replica = 0; second_replica = 0 }
+    record_at pending (pending_before samples every ps (cell_number (floor_of ps) samples (length ps) f b t))
 
 -- the record of slot t in sample b at epoch f, from states whose slots may stand at different epochs, which are those of
 -- sample 0: the pending one where the slot has it behind it; else what it measures
