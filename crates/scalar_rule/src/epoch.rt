@@ -15,6 +15,7 @@ use crate::plan::Plan;
 use crate::sample::{PlainPair, PlainSlot, Record, Sample};
 use crate::sums::{agreeing, energy, excess};
 use crate::sweeps::epoch_sweeps;
+use crate::turns::has_turn;
 use plain_list::Items;
 
 impl Sample {
@@ -113,7 +114,7 @@ fn exchange_pairs(
     }
 }
 
-// Pair k has its turn at epoch e where k and e are equal modulo 2.
+// The exchange of a pair, where it has its turn at the epoch.
 #[tactic(auto, unfolding(crate::specs::Turns::after_turn, crate::specs::Turns::drawn_in_turn))]
 fn exchange_in_turn(
     slots: &mut Items<PlainSlot>,
@@ -132,7 +133,7 @@ fn exchange_in_turn(
     ensures slots { slots.new ≡ after_turn plan.now bit pair epoch pairs.old slots.old }
     ensures pairs { pairs.new ≡ drawn_in_turn pair epoch pairs.old }
 {
-    if (pair as u64 + epoch) % 2 == 0 {
+    if has_turn(pair, epoch) {
         exchange_pair(slots, pairs.at_mut(pair as usize), plan, bit, pair);
     }
 }

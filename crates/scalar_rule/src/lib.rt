@@ -15,6 +15,7 @@ mod sample;
 mod spin_rule;
 mod sums;
 mod sweeps;
+mod turns;
 
 pub use exchange::is_swapped;
 pub use laws::{
@@ -30,3 +31,4 @@ pub use plan::Plan;
 pub use sample::{Beginning, PlainPair, PlainSlot, Record, Sample, Start};
 pub use sums::{agreeing, excess, unsatisfied};
 pub use sweeps::{half_sweep, sweep};
+pub use turns::{has_partner, has_turn, is_recorded};
