@@ -3,7 +3,7 @@ use Rattle.std.specs.Prelude.{ℕ, ◌+◌, ◌*◌, ◌-◌, ℤ, pos, neg_ℤ,
 use Rattle.std.specs.Char.{is_ascii_digit}
 use Rattle.std.specs.List.{prefix_len}
 use Rattle.glass_edges.specs.Decimal.{value_of}
-use Rattle.spin_model.specs.Limits.{last_epoch}
+use Rattle.spin_model.specs.Limits.{last_epoch, most_samples}
 use Rattle.sample_average.specs.LawfulReport.{sites}
 use Rattle.sample_average.specs.declared.header.Header.{Header}
 use Rattle.sample_average.specs.declared.header.Rule.{Rule}
@@ -56,7 +56,7 @@ counts_at bytes = do
   b1 ← after (codes "slots=") size.1
   slots ← number_at 32 32 b1
   b2 ← after (codes "samples=") slots.1
-  samples ← number_at 256 32 b2
+  samples ← number_at most_samples 32 b2
   Some ((size.0, slots.0, samples.0), samples.1)
 
 -- the dynamics, and the epochs from which and to which the run goes

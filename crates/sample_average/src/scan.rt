@@ -11,7 +11,7 @@ use crate::header_line::header_at;
 use crate::next_line::next_line;
 use crate::place::Place;
 use crate::row::Row;
-use spin_model::LAST_EPOCH;
+use spin_model::{LAST_EPOCH, MOST_SAMPLES};
 
 /// The header of a report and the number of its rows.
 #[derive(Clone, Copy, Debug, PartialEq, Eq)]
@@ -30,7 +30,7 @@ fn is_lawful(header: &Header) -> bool
         && header.slots >= 1
         && header.slots <= 32
         && header.samples >= 1
-        && header.samples <= 256
+        && header.samples <= MOST_SAMPLES
         && header.from <= header.to
         && header.to <= LAST_EPOCH
 }
