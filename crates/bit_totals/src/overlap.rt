@@ -11,9 +11,7 @@ ghost use Rattle.spin_model.specs.Lattice.{half_plane, volume};
 use crate::tally::Tally;
 use multispin_word::Planes;
 use plane_sweep::Replica;
-
-// The most words of a plane.
-const PLANE: usize = 2048;
+use spin_model::GREATEST_HALF_PLANE;
 
 /// Q of each disorder sample: at how many of V sites two replicas of one size from 4 to 64 agree.
 /// Takes no memory.
@@ -36,7 +34,7 @@ fn count_planes(a: &Replica, b: &Replica) -> Tally
     if a.planes.len() <= 32 {
         count_by(a, b, &[u64::MAX; 128])
     } else {
-        count_by(a, b, &[u64::MAX; PLANE])
+        count_by(a, b, &[u64::MAX; GREATEST_HALF_PLANE])
     }
 }
 

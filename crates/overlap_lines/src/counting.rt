@@ -14,9 +14,7 @@ use bit_totals::{Tally, words_of};
 use lattice_geometry::Lattice;
 use multispin_word::Planes;
 use plane_sweep::Duo;
-
-/// The most words of a plane.
-const PLANE: usize = 2048;
+use spin_model::GREATEST_HALF_PLANE;
 
 /// In each disorder sample the number of bonds with q q' = +1, of 3V, where q is the product of the two
 /// replicas' spins at a site. Takes no memory.
@@ -88,8 +86,8 @@ fn add_line(tally: &mut Tally, duo: &Duo, lattice: &Lattice, shift: Shift)
         lattice,
         shift,
     };
-    let mut overlaps = [0u64; PLANE];
-    let mut ahead = [0u64; PLANE];
+    let mut overlaps = [0u64; GREATEST_HALF_PLANE];
+    let mut ahead = [0u64; GREATEST_HALF_PLANE];
     add_planes(tally, &pairs, &mut overlaps, &mut ahead);
 }
 
@@ -98,8 +96,8 @@ fn add_planes(tally: &mut Tally, pairs: &Pairs, overlaps: &mut [u64], ahead: &mu
     requires fits { FitsDuo pairs.now.lattice.now pairs.now.duo.now }
     requires direction { pairs.now.shift.direction < 3 }
     requires distance { pairs.now.shift.distance ≤ pairs.now.lattice.now / 2 }
-    requires overlaps { length overlaps.old ≡ PLANE }
-    requires ahead { length ahead.old ≡ PLANE }
+    requires overlaps { length overlaps.old ≡ GREATEST_HALF_PLANE }
+    requires ahead { length ahead.old ≡ GREATEST_HALF_PLANE }
     requires room { (b : ℕ) → b < 64
         → tallied tally.old.rows b + volume pairs.now.lattice.now + 64 < 2 ^ 20 }
     ensures counted { (b : ℕ) → b < 64 → tallied tally.new.rows b ≡ tallied tally.old.rows b

@@ -4,6 +4,7 @@ use Rattle.coupling_set.specs.CouplingWords.{CouplingsView}
 use Rattle.local_rule.specs.SiteBits.{site_bits, set_count}
 use Rattle.scalar_rule.specs.Neighbours.{agree}
 use Rattle.spin_model.specs.Lattice.{half_plane, next, previous, IsLawfulSize}
+use Rattle.spin_model.specs.Limits.{greatest_half_plane}
 use Rattle.spin_model.specs.SiteRule.{Rule, new_spin}
 use Rattle.spin_model.specs.Stream.{advanced, draws}
 use Rattle.spin_model.specs.Words.{is_set}
@@ -40,7 +41,7 @@ pub record IsRow (l c z y : ℕ) (row : Row) : Type 0 where
 
 -- the words lent have as many items as those of the plane itself, and the three rows lie within them
 pub record HasRows (n : ℕ) (s : Surroundings) (row : Row) : Type 0 where
-  pub few : n ≤ 2048
+  pub few : n ≤ greatest_half_plane
   pub above : length s.above.now ≡ n
   pub below : length s.below.now ≡ n
   pub ahead_x : length s.ahead_x.now ≡ n

@@ -5,6 +5,7 @@ use Rattle.plane_sweep.specs.declared.replica.Plane.{Plane}
 use Rattle.plane_sweep.specs.declared.replica.Replica.{Replica}
 use Rattle.plane_sweep.specs.declared.replica.Duo.{Duo}
 use Rattle.plane_sweep.specs.declared.stand.PairWheels.{PairWheels}
+use Rattle.spin_model.specs.Limits.{greatest_half_plane}
 use Rattle.spin_model.specs.Words.{words_32, words_64}
 
 unfoldable pub packed_plane : Plane → List ℕ
@@ -24,7 +25,7 @@ packed_contents slots pairs = flat_map packed_slot slots ++ flat_map packed_pair
 
 -- a plane has at most the words of the greatest lattice's planes
 abbrev pub IsShort : Plane → Type 0
-IsShort plane = length plane.words ≤ 2048
+IsShort plane = length plane.words ≤ greatest_half_plane
 
 abbrev pub HasShortPlanes : Duo → Type 0
 HasShortPlanes slot = All IsShort slot.first.planes × All IsShort slot.second.planes

@@ -3,6 +3,7 @@
 ghost use Rattle.std.specs.Prelude.{◌≡◌, ◌+◌, ◌*◌, ◌≤◌, [], drop, length, IfOk};
 ghost use Rattle.byteorder.specs.Endian.{big_bytes};
 ghost use Rattle.sha2.specs.Sha256.{sha256};
+ghost use Rattle.spin_model.specs.Limits.{greatest_half_plane};
 ghost use Rattle.spin_model.specs.Words.{words_32, words_64};
 ghost use Rattle.run_checkpoint.specs.Rooms.{Puts};
 ghost use Rattle.run_checkpoint.specs.UnevenEncoding.{signed_bytes};
@@ -11,6 +12,7 @@ use crate::places::behind;
 use byteorder::{BigEndian, ByteOrder};
 use glass_edges::NoMemory;
 use sha2::{Digest, Sha256};
+use spin_model::GREATEST_HALF_PLANE;
 use std::alloc::Global;
 use std::marker::Model;
 
@@ -105,12 +107,11 @@ impl Room {
 
     // Puts the spin words of a plane.
     pub(crate) fn put_spins(&mut self, words: &[u64])
-        requires few { length words.now ≤ 2048 }
+        requires few { length words.now ≤ greatest_half_plane }
         requires room { 8 * length words.now ≤ self.old.spare }
         ensures { Puts self.old self.new (words_64 words.now) }
     {
-        // The greatest plane, that of size 64, has 2048 words.
-        let mut block = [0u8; 16384];
+        let mut block = [0u8; 8 * GREATEST_HALF_PLANE];
         let piece = &mut block[..8 * words.len()];
         BigEndian::write_u64_into(words, piece);
         self.put(piece);

@@ -11,10 +11,8 @@ use crate::bonds::Bonds;
 use crate::plain_copy::PlainCopy;
 use crate::spin_rule::new_spin;
 use lattice_geometry::Lattice;
+use spin_model::GREATEST_HALF_PLANE;
 use threshold_table::SlotRule;
-
-/// The greatest number of sites of one colour in a plane.
-const PLANE: usize = 2048;
 
 /// What a half sweep depends on: the lattice, its bonds, the spin rule and the colour swept.
 #[derive(Drop)]
@@ -45,7 +43,7 @@ pub(crate) fn half_sweep_by<B: Bonds>(
     ensures wheels { length replica.new.wheels ≡ length replica.old.wheels }
     ensures label { replica.new.replica ≡ replica.old.replica }
 {
-    let mut draws = [0u32; PLANE];
+    let mut draws = [0u32; GREATEST_HALF_PLANE];
     let sweep = HalfSweep {
         lattice,
         bonds,
@@ -61,7 +59,7 @@ fn half_sweep_with<B: Bonds>(replica: &mut PlainCopy, sweep: &HalfSweep<B>, draw
     requires spins { length replica.old.spins ≡ volume sweep.now.lattice.now }
     requires wheels { length replica.old.wheels ≡ 2 * sweep.now.lattice.now }
     requires colour { sweep.now.colour < 2 }
-    requires room { length draws.old ≡ PLANE }
+    requires room { length draws.old ≡ GREATEST_HALF_PLANE }
     ensures swept { configuration_of replica.new ≡ model.half_sweep
         (dynamics_with sweep.now.lattice.now sweep.now.rule.now (B.negative sweep.now.bonds.now))
         sweep.now.colour

@@ -25,6 +25,10 @@ bank_samples = 64
 abbrev pub most_samples : ℕ
 most_samples = 256
 
+-- the most sites of one colour in a plane: those at side 64
+abbrev pub greatest_half_plane : ℕ
+greatest_half_plane = 2048
+
 -- the greatest threshold, of probability 1: each draw, a word of 32 bits, is below it
 abbrev pub certain : ℕ
 certain = 4294967296

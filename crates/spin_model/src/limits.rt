@@ -18,5 +18,8 @@ pub const BANK_SAMPLES: u32 = 64;
 /// The most disorder samples of a run and of a couplings file: those of four banks.
 pub const MOST_SAMPLES: u32 = 256;
 
+/// The most sites of one colour in a plane: those at size 64.
+pub const GREATEST_HALF_PLANE: usize = 2048;
+
 /// The greatest threshold, of probability 1: each draw, a word of 32 bits, is below it.
 pub const CERTAIN: u64 = 4294967296;
