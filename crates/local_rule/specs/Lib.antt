@@ -1,3 +1,4 @@
+pub mod ReadyRules
 pub mod RowOrder
 pub mod SiteBits
 pub mod TurnedCounts

@@ -6,12 +6,12 @@ ghost use Rattle.spin_model.specs.SiteRule as rule;
 ghost use Rattle.local_rule.specs.RowOrder.{is_falling, is_rising};
 ghost use Rattle.local_rule.specs.SiteBits.{equal_count, lane_words, set_count};
 
-use crate::row_order::{is_falling, is_rising};
+use crate::ready_rule::ReadyRule;
 use crate::vectors::{
     accepted_lanes, below_lanes, choose_lanes, count_lanes, differing_lanes, equal_lanes,
     fallen_lanes, joined_lanes, load, raised_lanes,
 };
-use threshold_table::RuleRow;
+use threshold_table::{RuleKind, RuleRow, SlotRule};
 
 /// The new spins of eight sites by heat bath, written to `out`: in lane i those of the site with draw
 /// i, from word i of each of the six rows.
@@ -22,7 +22,11 @@ pub fn heat_bath_lanes(draws: &[u32; 8], row: &RuleRow, aligned: &[[u64; 8]; 6],
         ≡ rule.heat_bath row.now.values (set_count (lane_words aligned.now i) b)
         (slice_index draws.now i) }
 {
-    *out = heat_bath_sites(draws, row, aligned);
+    let ready = ReadyRule::of(&SlotRule {
+        kind: RuleKind::Heat,
+        row: *row,
+    });
+    *out = heat_bath_sites(draws, &ready, aligned);
 }
 
 /// Replaces the spins of eight sites by Metropolis: in lane i those of the site with draw i, from
@@ -39,7 +43,11 @@ pub fn metropolis_lanes(
         ≡ rule.metropolis row.now.values (set_count (lane_words satisfied.now i) b)
         (slice_index draws.now i) (is_set (slice_index spins.old i) b) }
 {
-    *spins = flipped_sites(draws, row, satisfied, &[u64::MAX; 8], spins);
+    let ready = ReadyRule::of(&SlotRule {
+        kind: RuleKind::Metropolis,
+        row: *row,
+    });
+    *spins = flipped_sites(draws, &ready, satisfied, &[u64::MAX; 8], spins);
 }
 
 /// The new spins of N sites by heat bath: in lane i those of the site with draw i, from word i of
@@ -47,20 +55,21 @@ pub fn metropolis_lanes(
 #[inline(always)]
 pub fn heat_bath_sites<const N: usize>(
     draws: &[u32; N],
-    row: &RuleRow,
+    ready: &ReadyRule,
     aligned: &[[u64; N]; 6],
 ) -> [u64; N]
+    requires { ready.now.kind ≡ RuleKind.Heat }
     ensures { (i b : ℕ) → i < N → b < 64
         → is_set (slice_index result i) b
-        ≡ rule.heat_bath row.now.values (set_count (lane_words aligned.now i) b)
+        ≡ rule.heat_bath ready.now.row.values (set_count (lane_words aligned.now i) b)
         (slice_index draws.now i) }
 {
-    let in_order = is_rising(row);
-    if in_order {
-        heat_bath_rising(draws, row, aligned)
+    let rising = ready.is_in_order();
+    if rising {
+        heat_bath_rising(draws, ready, aligned)
     } else {
-        let (draws, row, aligned) = (*draws, *row, *aligned);
-        heat_bath_any(&draws, &row, &aligned)
+        let (draws, ready, aligned) = (*draws, ready.copy(), *aligned);
+        heat_bath_any(&draws, &ready, &aligned)
     }
 }
 
@@ -68,35 +77,34 @@ pub fn heat_bath_sites<const N: usize>(
 #[inline(always)]
 fn heat_bath_rising<const N: usize>(
     draws: &[u32; N],
-    row: &RuleRow,
+    ready: &ReadyRule,
     aligned: &[[u64; N]; 6],
 ) -> [u64; N]
-    requires { is_rising row.now.values ≡ true }
+    requires { is_rising ready.now.row.values ≡ true }
     ensures { (i b : ℕ) → i < N → b < 64
         → is_set (slice_index result i) b
-        ≡ rule.heat_bath row.now.values (set_count (lane_words aligned.now i) b)
+        ≡ rule.heat_bath ready.now.row.values (set_count (lane_words aligned.now i) b)
         (slice_index draws.now i) }
 {
-    let cases = &row.values;
     let [one, two, four] = count_lanes(aligned);
     let (ones, twos, fours) = (load(&one), load(&two), load(&four));
     let zero_one = raised_lanes(
         ones,
-        below_lanes(draws, cases[1]),
-        below_lanes(draws, cases[0]),
+        below_lanes(draws, ready, 1),
+        below_lanes(draws, ready, 0),
     );
     let two_three = raised_lanes(
         ones,
-        below_lanes(draws, cases[3]),
-        below_lanes(draws, cases[2]),
+        below_lanes(draws, ready, 3),
+        below_lanes(draws, ready, 2),
     );
     let four_five = raised_lanes(
         ones,
-        below_lanes(draws, cases[5]),
-        below_lanes(draws, cases[4]),
+        below_lanes(draws, ready, 5),
+        below_lanes(draws, ready, 4),
     );
     let up_to_three = raised_lanes(twos, two_three, zero_one);
-    let from_four = raised_lanes(twos, below_lanes(draws, cases[6]), four_five);
+    let from_four = raised_lanes(twos, below_lanes(draws, ready, 6), four_five);
     raised_lanes(fours, from_four, up_to_three).to_array()
 }
 
@@ -105,34 +113,33 @@ fn heat_bath_rising<const N: usize>(
 #[inline(never)]
 fn heat_bath_any<const N: usize>(
     draws: &[u32; N],
-    row: &RuleRow,
+    ready: &ReadyRule,
     aligned: &[[u64; N]; 6],
 ) -> [u64; N]
     ensures { (i b : ℕ) → i < N → b < 64
         → is_set (slice_index result i) b
-        ≡ rule.heat_bath row.now.values (set_count (lane_words aligned.now i) b)
+        ≡ rule.heat_bath ready.now.row.values (set_count (lane_words aligned.now i) b)
         (slice_index draws.now i) }
 {
-    let cases = &row.values;
     let [ones, twos, fours] = count_lanes(aligned);
     let (ones, twos) = (load(&ones), load(&twos));
     let zero_one = choose_lanes(
         ones,
-        below_lanes(draws, cases[1]),
-        below_lanes(draws, cases[0]),
+        below_lanes(draws, ready, 1),
+        below_lanes(draws, ready, 0),
     );
     let two_three = choose_lanes(
         ones,
-        below_lanes(draws, cases[3]),
-        below_lanes(draws, cases[2]),
+        below_lanes(draws, ready, 3),
+        below_lanes(draws, ready, 2),
     );
     let four_five = choose_lanes(
         ones,
-        below_lanes(draws, cases[5]),
-        below_lanes(draws, cases[4]),
+        below_lanes(draws, ready, 5),
+        below_lanes(draws, ready, 4),
     );
     let up_to_three = choose_lanes(twos, two_three, zero_one);
-    let from_four = choose_lanes(twos, below_lanes(draws, cases[6]), four_five);
+    let from_four = choose_lanes(twos, below_lanes(draws, ready, 6), four_five);
     choose_lanes(load(&fours), from_four, up_to_three).to_array()
 }
 
@@ -142,40 +149,42 @@ fn heat_bath_any<const N: usize>(
 #[inline(always)]
 pub fn metropolis_sites<const N: usize>(
     draws: &[u32; N],
-    row: &RuleRow,
+    ready: &ReadyRule,
     aligned: &[[u64; N]; 6],
     spins: &[u64; N],
 ) -> [u64; N]
+    requires { ready.now.kind ≡ RuleKind.Metropolis }
     ensures { (i b : ℕ) → i < N → b < 64
         → is_set (slice_index result i) b
-        ≡ rule.metropolis row.now.values
+        ≡ rule.metropolis ready.now.row.values
         (equal_count (lane_words aligned.now i) (slice_index spins.now i) b)
         (slice_index draws.now i) (is_set (slice_index spins.now i) b) }
 {
-    flipped_sites(draws, row, aligned, spins, spins)
+    flipped_sites(draws, ready, aligned, spins, spins)
 }
 
 // The same, where those bonds of a sample are satisfied whose bits are equal to that of `same`.
 #[inline(always)]
 fn flipped_sites<const N: usize>(
     draws: &[u32; N],
-    row: &RuleRow,
+    ready: &ReadyRule,
     six: &[[u64; N]; 6],
     same: &[u64; N],
     spins: &[u64; N],
 ) -> [u64; N]
+    requires { ready.now.kind ≡ RuleKind.Metropolis }
     ensures { (i b : ℕ) → i < N → b < 64
         → is_set (slice_index result i) b
-        ≡ rule.metropolis row.now.values
+        ≡ rule.metropolis ready.now.row.values
         (equal_count (lane_words six.now i) (slice_index same.now i) b)
         (slice_index draws.now i) (is_set (slice_index spins.now i) b) }
 {
-    let in_order = is_falling(row);
-    if in_order {
-        flipped_falling(draws, row, six, same, spins)
+    let falling = ready.is_in_order();
+    if falling {
+        flipped_falling(draws, ready, six, same, spins)
     } else {
-        let (draws, row, six, same, spins) = (*draws, *row, *six, *same, *spins);
-        flipped_any(&draws, &row, &six, &same, &spins)
+        let (draws, ready, six, same, spins) = (*draws, ready.copy(), *six, *same, *spins);
+        flipped_any(&draws, &ready, &six, &same, &spins)
     }
 }
 
@@ -183,26 +192,25 @@ fn flipped_sites<const N: usize>(
 #[inline(always)]
 fn flipped_falling<const N: usize>(
     draws: &[u32; N],
-    row: &RuleRow,
+    ready: &ReadyRule,
     six: &[[u64; N]; 6],
     same: &[u64; N],
     spins: &[u64; N],
 ) -> [u64; N]
-    requires { is_falling row.now.values ≡ true }
+    requires { is_falling ready.now.row.values ≡ true }
     ensures { (i b : ℕ) → i < N → b < 64
         → is_set (slice_index result i) b
-        ≡ rule.metropolis row.now.values
+        ≡ rule.metropolis ready.now.row.values
         (equal_count (lane_words six.now i) (slice_index same.now i) b)
         (slice_index draws.now i) (is_set (slice_index spins.now i) b) }
 {
-    let cases = &row.values;
     let [one, no_two, no_four] = equal_lanes(six, same);
     let flipped = fallen_lanes(
         load(&one),
         load(&no_two),
-        below_lanes(draws, cases[0]),
-        below_lanes(draws, cases[1]),
-        below_lanes(draws, cases[2]),
+        below_lanes(draws, ready, 0),
+        below_lanes(draws, ready, 1),
+        below_lanes(draws, ready, 2),
     );
     differing_lanes(load(spins), joined_lanes(load(&no_four), flipped)).to_array()
 }
@@ -211,25 +219,24 @@ fn flipped_falling<const N: usize>(
 #[inline(never)]
 fn flipped_any<const N: usize>(
     draws: &[u32; N],
-    row: &RuleRow,
+    ready: &ReadyRule,
     six: &[[u64; N]; 6],
     same: &[u64; N],
     spins: &[u64; N],
 ) -> [u64; N]
     ensures { (i b : ℕ) → i < N → b < 64
         → is_set (slice_index result i) b
-        ≡ rule.metropolis row.now.values
+        ≡ rule.metropolis ready.now.row.values
         (equal_count (lane_words six.now i) (slice_index same.now i) b)
         (slice_index draws.now i) (is_set (slice_index spins.now i) b) }
 {
-    let cases = &row.values;
     let [ones, no_twos, no_fours] = equal_lanes(six, same);
     let accepted = accepted_lanes(
         load(&ones),
         load(&no_twos),
-        below_lanes(draws, cases[0]),
-        below_lanes(draws, cases[1]),
-        below_lanes(draws, cases[2]),
+        below_lanes(draws, ready, 0),
+        below_lanes(draws, ready, 1),
+        below_lanes(draws, ready, 2),
     );
     differing_lanes(load(spins), joined_lanes(load(&no_fours), accepted)).to_array()
 }

@@ -4,12 +4,14 @@
 
 pub use lane_rule::{heat_bath_lanes, heat_bath_sites, metropolis_lanes, metropolis_sites};
 pub use laws::{heat_bath_both_ways, metropolis_both_ways};
+pub use ready_rule::ReadyRule;
 pub use row_order::{is_falling, is_rising};
 pub use vectors::{full_adder_lanes, load};
 pub use word_rule::{heat_bath, metropolis};
 
 mod lane_rule;
 mod laws;
+mod ready_rule;
 mod row_order;
 #[cfg(test)]
 mod tests;

@@ -1,5 +1,7 @@
+ghost use Rattle.std.specs.Prelude.{◌≡◌};
+
 use super::*;
-use threshold_table::RuleRow;
+use threshold_table::{RuleKind, RuleRow, SlotRule};
 
 /// Set in the samples 1 to 5 in 1, 2, 6, 4 and 5 of them, and in no other sample.
 const SIX_WORDS: [u64; 6] = [62, 60, 56, 56, 40, 8];
@@ -30,6 +32,26 @@ fn falling_row() -> RuleRow {
     RuleRow {
         values: [200, 101, 100, 0, 0, 0, 0],
     }
+}
+
+/// A row by heat bath, ready for sweeps.
+fn ready_heat(row: RuleRow) -> ReadyRule
+    ensures { result.kind ≡ RuleKind.Heat }
+{
+    ReadyRule::of(&SlotRule {
+        kind: RuleKind::Heat,
+        row,
+    })
+}
+
+/// A row by Metropolis, ready for sweeps.
+fn ready_metropolis(row: RuleRow) -> ReadyRule
+    ensures { result.kind ≡ RuleKind.Metropolis }
+{
+    ReadyRule::of(&SlotRule {
+        kind: RuleKind::Metropolis,
+        row,
+    })
 }
 
 #[test]
@@ -80,15 +102,16 @@ fn rules_on_six_words_in_each_lane(rt: HostRuntime) {
 #[test]
 fn bonds_are_satisfied_where_the_aligned_bit_is_the_spins(rt: HostRuntime) {
     let rows = [[62; 4], [60; 4], [56; 4], [56; 4], [40; 4], [8; 4]];
-    for word in heat_bath_sites(&[100; 4], &heat_row(), &rows) {
+    for word in heat_bath_sites(&[100; 4], &ready_heat(heat_row()), &rows) {
         assert_eq!(rt; word, 12);
     }
     // With all spins down the samples 0 to 5 have 6, 5, 4, 0, 2 and 1 satisfied bonds, and flip but
     // for 0 and 2; with all up they have 0, 1, 2, 6, 4 and 5, and flip but for 3 and 4.
-    for word in metropolis_sites(&[100; 4], &metropolis_row(), &rows, &[0; 4]) {
+    let ready = ready_metropolis(metropolis_row());
+    for word in metropolis_sites(&[100; 4], &ready, &rows, &[0; 4]) {
         assert_eq!(rt; word, 58);
     }
-    for word in metropolis_sites(&[100; 4], &metropolis_row(), &rows, &[u64::MAX; 4]) {
+    for word in metropolis_sites(&[100; 4], &ready, &rows, &[u64::MAX; 4]) {
         assert_eq!(rt; word, 24);
     }
 }
@@ -99,14 +122,16 @@ fn rows_in_order_are_told_and_used(rt: HostRuntime) {
     assert!(rt; is_falling(&falling_row()) && !is_falling(&metropolis_row()));
     let rows = [[62; 4], [60; 4], [56; 4], [56; 4], [40; 4], [8; 4]];
     // The samples 1 to 5 count 1, 2, 6, 4 and 5 aligned neighbours, the others none.
-    let heat = heat_bath_sites(&[0, 100, 150, 4294967295], &rising_row(), &rows);
+    let ready = ready_heat(rising_row());
+    let heat = heat_bath_sites(&[0, 100, 150, 4294967295], &ready, &rows);
     assert_eq!(rt; heat, [62, 60, 56, 8]);
     // With all spins down the samples 3, 4 and 5 flip, and 2, 1 and all others by their draws; with
     // all up 4, 5 and 3 flip by their draws, and all others by themselves.
     let draws = [99, 100, 150, 200];
-    let from_down = metropolis_sites(&draws, &falling_row(), &rows, &[0; 4]);
+    let ready = ready_metropolis(falling_row());
+    let from_down = metropolis_sites(&draws, &ready, &rows, &[0; 4]);
     assert_eq!(rt; from_down, [u64::MAX, 62, 60, 56]);
-    let from_up = metropolis_sites(&draws, &falling_row(), &rows, &[u64::MAX; 4]);
+    let from_up = metropolis_sites(&draws, &ready, &rows, &[u64::MAX; 4]);
     assert_eq!(rt; from_up, [0, 8, 40, 56]);
 }
 

@@ -1,12 +1,13 @@
 //! Operations on N words at a time. In a clause a vector is the list of its words.
 
-ghost use Rattle.std.specs.Prelude.{◌≡◌, ℕ, ◌+◌, ◌*◌, ◌^◌, ◌<◌, ◌&&◌, ◌||◌, nat_lt, int_lt, pos, if◌then◌else◌, length, slice_index};
+ghost use Rattle.std.specs.Prelude.{◌≡◌, ℕ, ◌+◌, ◌*◌, ◌<◌, ◌&&◌, ◌||◌, nat_lt, if◌then◌else◌, length, slice_index};
 ghost use Rattle.std.specs.Int.{bit_at};
 ghost use Rattle.multispin_word.specs.Planes.{differs, is_set, number};
 ghost use Rattle.local_rule.specs.RowOrder.{fallen, raised};
 ghost use Rattle.local_rule.specs.SiteBits.{equal_count, lane_words, set_count};
 ghost use Rattle.local_rule.specs.TurnedCounts.{accepted, turned_number};
 
+use crate::ready_rule::ReadyRule;
 use std::simd::prelude::*;
 
 /// N words as a vector.
@@ -78,31 +79,18 @@ pub fn choose_lanes<const N: usize>(
     outside ^ (mask & (inside ^ outside))
 }
 
-/// All samples of the lanes whose draw is below the threshold, and none of the others.
+/// All samples of the lanes whose draw is below the threshold of a case, and none of the others.
 #[inline(always)]
-pub fn below_lanes<const N: usize>(draws: &[u32; N], threshold: u64) -> Simd<u64, N>
+pub fn below_lanes<const N: usize>(draws: &[u32; N], ready: &ReadyRule, case: usize) -> Simd<u64, N>
+    requires { case < 7 }
     ensures length { length result ≡ N }
-    ensures below { (i b : ℕ) → i < N → b < 64
-        → is_set (slice_index result i) b ≡ nat_lt (slice_index draws.now i) threshold }
+    ensures below { (i b : ℕ) → i < N → b < 64 → is_set (slice_index result i) b
+        ≡ nat_lt (slice_index draws.now i) (slice_index ready.now.row.values case) }
 {
-    let limit = with_sign(threshold);
+    let limit = ready.limit(case);
     let wide: Simd<i64, N> = Simd::<u32, N>::from_array(*draws).cast();
     wide.simd_lt(Simd::<i64, N>::splat(limit))
         .select(Simd::<u64, N>::splat(u64::MAX), Simd::<u64, N>::splat(0))
-}
-
-// A number with a sign that is above the same draws as a threshold. The processors compare with a sign
-// alone. For 0 it is -1, since a compiler that knows of numbers without a sign compares them as such, by
-// an instruction more for each draw and each threshold.
-#[inline(always)]
-fn with_sign(threshold: u64) -> i64
-    ensures { (d : ℕ) → d < 2 ^ 32 → int_lt (pos d) result ≡ nat_lt d threshold }
-{
-    if threshold == 0 {
-        -1
-    } else {
-        threshold.min(1 << 32) as i64
-    }
 }
 
 /// Of a count above three, by its plane of 1 and that of 2 turned over: the bits for five, for six, or

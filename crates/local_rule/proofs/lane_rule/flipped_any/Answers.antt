@@ -26,4 +26,4 @@ returns g c = λ i b h l.
       c.load-3.ensures.same,
       c.load-4.ensures.same,
     )
-    (turn (λ n. nat_lt (slice_index c.args.draws.now i) (slice_index c.args.row.now.values n)) (bit 0) (bit 1) (bit 2) (is_set (slice_index c.args.spins.now i) b) count digits most)
+    (turn (λ n. nat_lt (slice_index c.args.draws.now i) (slice_index c.args.ready.now.row.values n)) (bit 0) (bit 1) (bit 2) (is_set (slice_index c.args.spins.now i) b) count digits most)

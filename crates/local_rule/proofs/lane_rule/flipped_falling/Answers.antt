@@ -26,4 +26,4 @@ returns g c = λ i b h l.
       c.load-3.ensures.same,
       c.load-4.ensures.same,
     )
-    (turn-falling (slice_index c.args.draws.now i) c.args.row.now.values (bit 0) (bit 1) (bit 2) (is_set (slice_index c.args.spins.now i) b) count (falls c.args.row.now.values c.requires) digits most)
+    (turn-falling (slice_index c.args.draws.now i) c.args.ready.now.row.values (bit 0) (bit 1) (bit 2) (is_set (slice_index c.args.spins.now i) b) count (falls c.args.ready.now.row.values c.requires) digits most)

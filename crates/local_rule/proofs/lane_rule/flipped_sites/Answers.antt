@@ -1,7 +1,7 @@
 use Rattle.local_rule.proofs.lane_rule.flipped_sites.Goals as goal
 
-pub returns-then-in_order : goal.returns-then-in_order
-returns-then-in_order g c = c.flipped_falling.ensures
+pub returns-then-falling : goal.returns-then-falling
+returns-then-falling g c = c.flipped_falling.ensures
 
-pub returns-else-in_order : goal.returns-else-in_order
-returns-else-in_order g c = c.flipped_any.ensures
+pub returns-else-falling : goal.returns-else-falling
+returns-else-falling g c = λ i b h l. rw c.copy-ready.ensures at (c.flipped_any.ensures i b h l)

@@ -31,4 +31,4 @@ returns g c = λ i b h l.
       c.load-twos.ensures.same,
       c.load.ensures.same,
     )
-    (seven (λ n. nat_lt (slice_index c.args.draws.now i) (slice_index c.args.row.now.values n)) (bit 0) (bit 1) (bit 2) (set_count six b) digits most)
+    (seven (λ n. nat_lt (slice_index c.args.draws.now i) (slice_index c.args.ready.now.row.values n)) (bit 0) (bit 1) (bit 2) (set_count six b) digits most)

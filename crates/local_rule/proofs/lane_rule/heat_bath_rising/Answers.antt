@@ -31,4 +31,4 @@ returns g c = λ i b h l.
       c.load-twos.ensures.same,
       c.load-fours.ensures.same,
     )
-    (seven-rising (slice_index c.args.draws.now i) c.args.row.now.values (bit 0) (bit 1) (bit 2) (set_count six b) (rises c.args.row.now.values c.requires) digits most)
+    (seven-rising (slice_index c.args.draws.now i) c.args.ready.now.row.values (bit 0) (bit 1) (bit 2) (set_count six b) (rises c.args.ready.now.row.values c.requires) digits most)

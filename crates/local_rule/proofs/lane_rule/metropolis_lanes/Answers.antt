@@ -10,4 +10,4 @@ returns c = λ i b h l.
     let six = lane_words c.args.satisfied.now i in
     let ones = get_or-replicate {A = ℕ} 8 i (2 ^ 64 - 1) 0 h in
     let count = ap (λ o. equal_count six o b) ones ∙ equal-ones six b l in
-    rw (← count) (c.flipped_sites.ensures i b h l)
+    rw (← count) (rw c.of-ready.ensures at (c.flipped_sites.ensures i b h l))

@@ -7,12 +7,12 @@ use Rattle.local_rule.proofs.Lanes.{lower-long, lower-at}
 use Rattle.local_rule.proofs.vectors.below_lanes.Goals as goal
 
 pub returns-clause-length : goal.returns-clause-length
-returns-clause-length g c = lower-long g.row.N c.args.draws.now (of_z w64 c.with_sign-limit.result) c.told-draws
+returns-clause-length g c = lower-long g.row.N c.args.draws.now (of_z w64 c.limit-limit.result) c.told-draws
 
 pub returns-clause-below : goal.returns-clause-below
 returns-clause-below g c = λ i b h l.
     let draws = c.args.draws.now in
-    let fits : SFits w64 c.with_sign-limit.result = record { sfits = c.with_sign-limit.type_inv } in
+    let fits : SFits w64 c.limit-limit.result = record { sfits = c.limit-limit.type_inv } in
     let each : Each1 (Fits w32) draws = search rules in
     let few : slice_index draws i < 2 ^ 32 = (Each1-get_or (Fits w32) draws i 0 (omega arith) each).fits in
-    lower-at g.row.N draws c.with_sign-limit.result i b c.told-draws fits h l few ∙ c.with_sign-limit.ensures (slice_index draws i) few
+    lower-at g.row.N draws c.limit-limit.result i b c.told-draws fits h l few ∙ c.limit-limit.ensures (slice_index draws i) few
