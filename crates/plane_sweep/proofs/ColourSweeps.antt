@@ -1,11 +1,12 @@
 -- A sweep: the planes of colour 0, and then those of colour 1.
-use Rattle.std.proofs.Common.{◌≡◌, ℕ, ◌+◌, ◌-◌, ◌*◌, ◌<◌, ◌≤◌, List, [], ◌++◌, All, length, get_or, take, drop, refl, sym, ap, subst, ◌∙◌, arith, get_or-drop, length-drop, length-append}
+use Rattle.std.proofs.Common.{◌≡◌, ℕ, ◌+◌, ◌-◌, ◌*◌, ◌<◌, ◌≤◌, List, ◌++◌, All, length, get_or, take, drop, refl, sym, ap, subst, ◌∙◌, arith, get_or-drop, length-drop, length-append}
 use Rattle.std.proofs.lemmas.List.{take_at, drop_at, get_or-take, get_or_append_left, get_or-append_right, length-take-le, take-append-drop}
 use Rattle.std.proofs.lemmas.List.Elements.{All-append}
 use Rattle.coupling_set.specs.CouplingWords.{CouplingsView}
 use Rattle.spin_model.specs.Lattice.{IsLawfulSize}
 use Rattle.scalar_rule.specs.Plan.{Plan, dynamics_of}
 use Rattle.scalar_rule.specs.Replica.{configuration_of, with_configuration}
+use Rattle.scalar_rule.specs.SlotRules.{HasThresholds}
 use Rattle.scalar_rule.specs.Sweep.{Dynamics, half_sweep, sweep, sweeps}
 use Rattle.scalar_rule.specs.declared.plain_copy.PlainCopy.{PlainCopy}
 use Rattle.spin_model.proofs.Stepping.{steps-zero, steps-more}
@@ -111,13 +112,9 @@ colours-swept couplings rule b old new lawful below count swept =
     half-swept couplings rule b 1 _ _ new lawful below (omega arith) (second-half couplings rule old new count swept)
     ∙ ap (half_sweep (dynamics_by couplings rule b) 1) (half-swept couplings rule b 0 _ old _ lawful below (omega arith) (first-half couplings rule old new count swept))
 
--- the slot's rule in the plan
-pub record IsSlotRule (plan : Plan) (slot : ℕ) (rule : SlotRule) : Type 0 where
-  pub kind : rule.kind ≡ plan.rules.kind
-  pub cases : (k : ℕ) → get_or rule.row.values k 0 ≡ get_or (get_or plan.rules.rows slot []) k 0
-
+-- by the slot's rule in the plan
 pub swept-part : (plan : Plan) (slot b : ℕ) (rule : SlotRule) (old new : Replica) → IsLawfulSize plan.couplings.size → plan.couplings.size ≡ plan.size → b < 64 → length old.planes ≡ 2 * plan.couplings.size
-    → IsSlotRule plan slot rule → new.labels ≡ old.labels → SweepsColours plan.couplings rule old.planes new.planes
+    → HasThresholds plan.rules slot rule → new.labels ≡ old.labels → SweepsColours plan.couplings rule old.planes new.planes
     → part_copy plan.size b new ≡ with_configuration (part_copy plan.size b old) (sweep (dynamics_of plan b slot) (configuration_of (part_copy plan.size b old)))
 swept-part plan slot b rule old new lawful side below count is labels swept =
     let l = plan.couplings.size in

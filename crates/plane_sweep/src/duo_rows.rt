@@ -8,9 +8,9 @@ ghost use Rattle.spin_model.specs.Lattice.{half_plane, IsLawfulSize};
 
 use crate::dynamics::HalfPlane;
 use crate::replica::Plane;
-use crate::rows::{first_row, is_in_order, kind_of, row_behind, sweep_any, sweep_row, sweep_words};
+use crate::rows::{first_row, kind_of, row_behind, sweep_any, sweep_row, sweep_words};
 use crate::surroundings::lend;
-use threshold_table::{RuleKind, SlotRule};
+use threshold_table::RuleKind;
 
 /// The planes of the other colour in both replicas.
 #[derive(Drop)]
@@ -75,7 +75,7 @@ fn sweep_sized<const SIZE: usize>(
     ensures second { SweepsWords sites.now.couplings.now others.now.second.now sites.now.rule.now drawn.now.second.now sites.now.colour sites.now.z (half_plane sites.now.couplings.now.size) second.old second.new }
 {
     let even = (sites.colour + sites.z) % 2 == 0;
-    match sites.rule.kind {
+    match sites.rule.kind() {
         RuleKind::Heat if even => {
             sweep_rows_of_duo::<SIZE, true, true>(first, second, others, sites, drawn)
         }
@@ -112,8 +112,7 @@ fn sweep_rows_of_duo<const SIZE: usize, const HEAT: bool, const EVEN: bool>(
     ensures first { SweepsWords sites.now.couplings.now others.now.first.now sites.now.rule.now drawn.now.first.now sites.now.colour sites.now.z (half_plane sites.now.couplings.now.size) first.old first.new }
     ensures second { SweepsWords sites.now.couplings.now others.now.second.now sites.now.rule.now drawn.now.second.now sites.now.colour sites.now.z (half_plane sites.now.couplings.now.size) second.old second.new }
 {
-    let (kind, row) = (kind_of(HEAT), sites.rule.row);
-    if !is_in_order(kind, &row) {
+    if !sites.rule.is_in_order() {
         sweep_any(first, others.first, sites, drawn.first);
         sweep_any(second, others.second, sites, drawn.second);
         return;
@@ -121,7 +120,7 @@ fn sweep_rows_of_duo<const SIZE: usize, const HEAT: bool, const EVEN: bool>(
     let around = lend(others.first, sites.couplings, sites.colour, sites.z, SIZE);
     let beyond = lend(others.second, sites.couplings, sites.colour, sites.z, SIZE);
     // Its own, as in the sweep of one replica.
-    let rule = SlotRule { kind, row };
+    let rule = sites.rule.copy_in_order(kind_of(HEAT));
     let (draws, more) = (drawn.first, drawn.second);
     let words = SIZE * (SIZE / 2);
     let mut row = first_row(SIZE, EVEN);

@@ -6,17 +6,18 @@ ghost use Rattle.plane_sweep.specs.Packed.{part_copy, FitsDuo, FitsPlane};
 ghost use Rattle.plane_sweep.specs.PlaneSweep.{SweepsAt, SweepsColours, SweepsPlane};
 ghost use Rattle.scalar_rule.specs.Plan.{dynamics_of, slots_of};
 ghost use Rattle.scalar_rule.specs.Replica.{configuration_of, with_configuration};
+ghost use Rattle.scalar_rule.specs.SlotRules.{HasThresholds};
 ghost use Rattle.scalar_rule.specs.Sweep as model;
 ghost use Rattle.spin_model.specs.Lattice.{half_plane, IsLawfulSize};
 
 use crate::draws::DUO_DRAWS;
 use crate::duo_rows::{Drawn, Others, sweep_words_of_duo};
-use crate::dynamics::{Dynamics, HalfPlane};
+use crate::dynamics::{Dynamics, HalfPlane, rule_of_slot};
 use crate::replica::{Duo, Plane};
 use crate::sweeping::{LEAST_FORKED, sweep_often};
+use local_rule::ReadyRule;
 use scalar_rule::Plan;
 use std::thread::Threads;
-use threshold_table::SlotRule;
 
 /// The least size at which both replicas of a slot are swept by turns: a smaller lattice's couplings
 /// stay near the processor from the sweep of the one to that of the other.
@@ -66,30 +67,28 @@ fn sweep_in_turn(duo: &mut Duo, plan: &Plan, slot: u32, count: u32)
         (model.sweeps (dynamics_of plan.now b slot) count (configuration_of (part_copy plan.now.size b duo.old.second))) }
     ensures fits { FitsDuo plan.now.size duo.new }
 {
+    let rule = rule_of_slot(plan, slot);
     'sweeps: for _ in 0..count {
-        sweep_once(duo, plan, slot);
+        sweep_once(duo, plan, &rule);
     }
 }
 
-// One sweep of both.
-fn sweep_once(duo: &mut Duo, plan: &Plan, slot: u32)
+// One sweep of both, by the rule of a slot.
+fn sweep_once(duo: &mut Duo, plan: &Plan, rule: &ReadyRule)
     requires duo { FitsDuo plan.now.size duo.old }
-    requires slot { slot < slots_of plan.now }
-    ensures first { (b : ℕ) → b < 64 → part_copy plan.now.size b duo.new.first
+    ensures first { (slot b : ℕ) → HasThresholds plan.now.rules slot rule.now → b < 64
+        → part_copy plan.now.size b duo.new.first
         ≡ with_configuration (part_copy plan.now.size b duo.old.first)
         (model.sweep (dynamics_of plan.now b slot) (configuration_of (part_copy plan.now.size b duo.old.first))) }
-    ensures second { (b : ℕ) → b < 64 → part_copy plan.now.size b duo.new.second
+    ensures second { (slot b : ℕ) → HasThresholds plan.now.rules slot rule.now → b < 64
+        → part_copy plan.now.size b duo.new.second
         ≡ with_configuration (part_copy plan.now.size b duo.old.second)
         (model.sweep (dynamics_of plan.now b slot) (configuration_of (part_copy plan.now.size b duo.old.second))) }
     ensures fits { FitsDuo plan.now.size duo.new }
 {
-    let rule = SlotRule {
-        kind: plan.rules().kind(),
-        row: *plan.rules().row(slot),
-    };
     let dynamics = Dynamics {
         couplings: plan.couplings(),
-        rule: &rule,
+        rule,
     };
     let size = plan.lattice().size() as usize;
     let first = duo.first.planes.as_mut_slice();

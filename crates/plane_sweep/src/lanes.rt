@@ -9,16 +9,16 @@ ghost use Rattle.threshold_table.specs.Tables.{rule_of};
 
 use crate::rows::Row;
 use crate::surroundings::Surroundings;
-use local_rule::{heat_bath_sites, load, metropolis_sites};
+use local_rule::{ReadyRule, heat_bath_sites, load, metropolis_sites};
 use std::simd::prelude::*;
-use threshold_table::{RuleKind, SlotRule};
+use threshold_table::RuleKind;
 
 /// The new words of the four sites of a row from column k on, each by its draw.
 #[inline(always)]
 pub(crate) fn sweep_four(
     own: &mut [u64],
     around: &Surroundings,
-    rule: &SlotRule,
+    rule: &ReadyRule,
     draws: &[u32],
     row: &Row,
     k: usize,
@@ -36,7 +36,7 @@ pub(crate) fn sweep_four(
 /// The new words of the four sites from a place on, each by its draw. Lane i has J times the spins of
 /// the neighbours of site i.
 #[inline(always)]
-pub fn update_four(own: &mut [u64], rule: &SlotRule, draws: &[u32], at: usize, six: &[[u64; 4]; 6])
+pub fn update_four(own: &mut [u64], rule: &ReadyRule, draws: &[u32], at: usize, six: &[[u64; 4]; 6])
     requires own { at + 4 ≤ length own.old }
     requires draws { at + 4 ≤ length draws.now }
     ensures { SweepsFour (lane_words six.now) rule.now draws.now at own.old own.new }
@@ -175,13 +175,13 @@ fn one_back(before: u64x4, words: u64x4) -> u64x4
 
 // The new spins of four sites, by their draws.
 #[inline(always)]
-fn new_words(rule: &SlotRule, draws: &[u32; 4], six: &[[u64; 4]; 6], words: &[u64; 4]) -> [u64; 4]
+fn new_words(rule: &ReadyRule, draws: &[u32; 4], six: &[[u64; 4]; 6], words: &[u64; 4]) -> [u64; 4]
     ensures { (i b : ℕ) → i < 4 → b < 64 → is_set (slice_index result i) b
         ≡ new_spin (rule_of rule.now.kind) rule.now.row.values (set_count (lane_words six.now i) b)
         (agreeing_count (lane_words six.now i) (slice_index words.now i) b) (slice_index draws.now i) (is_set (slice_index words.now i) b) }
 {
-    match rule.kind {
-        RuleKind::Heat => heat_bath_sites(draws, &rule.row, six),
-        RuleKind::Metropolis => metropolis_sites(draws, &rule.row, six, words),
+    match rule.kind() {
+        RuleKind::Heat => heat_bath_sites(draws, rule, six),
+        RuleKind::Metropolis => metropolis_sites(draws, rule, six, words),
     }
 }

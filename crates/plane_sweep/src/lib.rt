@@ -24,14 +24,14 @@ mod uneven;
 pub use cells::{Cell, cell_at, deepest, has_record, shallowest};
 pub use draws::{DUO_DRAWS, PLANE_DRAWS, SMALL_DRAWS, SMALL_SIZE};
 pub use duos::{LEAST_IN_TURN, sweep_ahead, sweep_duo_often};
-pub use dynamics::{Dynamics, HalfPlane};
+pub use dynamics::{Dynamics, HalfPlane, rule_of_slot};
 pub use lanes::{pulls_of_four, update_four, words_at};
 pub use laws::{
     labels_permute_after_epochs, labels_permute_after_exchange, parts_are_starting_states,
 };
 pub use parts::site_word;
 pub use replica::{Duo, Plane, Replica};
-pub use rows::{Row, first_row, is_in_order, kind_of, pulls_of, row_behind, sweep_words};
+pub use rows::{Row, first_row, kind_of, pulls_of, row_behind, sweep_words};
 pub use stand::{PairWheels, Stand};
 pub use surroundings::{Surroundings, lend};
 pub use sweeping::{LEAST_FORKED, sweep, sweep_often, sweep_plane};

@@ -1,7 +1,6 @@
 //! The new words of a plane's sites, row by row.
 
 ghost use Rattle.std.specs.Prelude.{◌≡◌, ℕ, ◌+◌, ◌-◌, ◌*◌, ◌/◌, ◌%◌, ◌<◌, ◌≤◌, ◌==◌, if◌then◌else◌, length, All};
-ghost use Rattle.local_rule.specs.RowOrder.{is_falling, is_rising};
 ghost use Rattle.local_rule.specs.SiteBits.{set_count};
 ghost use Rattle.plane_sweep.specs.PlaneSweep.{agreeing_count, left_column, pulls_lent, right_column, SweepsRow, SweepsWord, SweepsWords, IsRow, HasRows};
 ghost use Rattle.plane_sweep.specs.Packed.{FitsPlane};
@@ -14,8 +13,8 @@ use crate::dynamics::HalfPlane;
 use crate::lanes::sweep_four;
 use crate::replica::Plane;
 use crate::surroundings::{Surroundings, lend, next, previous};
-use local_rule::{heat_bath, is_falling, is_rising, metropolis};
-use threshold_table::{RuleKind, RuleRow, SlotRule};
+use local_rule::{ReadyRule, heat_bath, metropolis};
+use threshold_table::RuleKind;
 
 /// A row of a plane, and the two rows beside it.
 #[derive(Clone, Copy)]
@@ -74,7 +73,7 @@ fn sweep_sized<const SIZE: usize>(
     ensures { SweepsWords sites.now.couplings.now other.now sites.now.rule.now draws.now sites.now.colour sites.now.z (half_plane sites.now.couplings.now.size) own.old own.new }
 {
     let even = (sites.colour + sites.z) % 2 == 0;
-    match sites.rule.kind {
+    match sites.rule.kind() {
         RuleKind::Heat if even => { sweep_rows::<SIZE, true, true>(own, other, sites, draws) }
         RuleKind::Heat => { sweep_rows::<SIZE, true, false>(own, other, sites, draws) }
         RuleKind::Metropolis if even => {
@@ -105,14 +104,13 @@ fn sweep_rows<const SIZE: usize, const HEAT: bool, const EVEN: bool>(
     requires plane { sites.now.z < sites.now.couplings.now.size }
     ensures { SweepsWords sites.now.couplings.now other.now sites.now.rule.now draws.now sites.now.colour sites.now.z (half_plane sites.now.couplings.now.size) own.old own.new }
 {
-    let (kind, row) = (kind_of(HEAT), sites.rule.row);
-    if !is_in_order(kind, &row) {
+    if !sites.rule.is_in_order() {
         sweep_any(own, other, sites, draws);
         return;
     }
     let around = lend(other, sites.couplings, sites.colour, sites.z, SIZE);
-    // Its own, not the one lent beside the words that are written: so the thresholds stay in registers.
-    let rule = SlotRule { kind, row };
+    // Its own, not the one lent beside the words that are written: so the limits stay in registers.
+    let rule = sites.rule.copy_in_order(kind_of(HEAT));
     let words = SIZE * (SIZE / 2);
     let mut row = first_row(SIZE, EVEN);
     'pairs: for i in 0..SIZE / 2 {
@@ -135,18 +133,6 @@ pub fn kind_of(heat: bool) -> RuleKind
     }
 }
 
-/// Whether a row of a table is in the order that the code of a size asks for.
-#[inline(always)]
-pub fn is_in_order(kind: RuleKind, row: &RuleRow) -> bool
-    ensures heat { kind ≡ RuleKind.Heat → result ≡ is_rising row.now.values }
-    ensures metropolis { kind ≡ RuleKind.Metropolis → result ≡ is_falling row.now.values }
-{
-    match kind {
-        RuleKind::Heat => is_rising(row),
-        RuleKind::Metropolis => is_falling(row),
-    }
-}
-
 /// The same as `sweep_words`, by one code for all sizes and tables.
 pub(crate) fn sweep_any(own: &mut [u64], other: &[Plane], sites: &HalfPlane, draws: &[u32])
     requires lawful { IsLawfulSize sites.now.couplings.now.size }
@@ -160,7 +146,7 @@ pub(crate) fn sweep_any(own: &mut [u64], other: &[Plane], sites: &HalfPlane, dra
 {
     let size = sites.couplings.size() as usize;
     let around = lend(other, sites.couplings, sites.colour, sites.z, size);
-    let rule = *sites.rule;
+    let rule = sites.rule.copy();
     let words = size * (size / 2);
     let mut row = first_row(size, (sites.colour + sites.z) % 2 == 0);
     'rows: for y in 0..size {
@@ -174,7 +160,7 @@ pub(crate) fn sweep_any(own: &mut [u64], other: &[Plane], sites: &HalfPlane, dra
 pub(crate) fn sweep_row(
     own: &mut [u64],
     around: &Surroundings,
-    rule: &SlotRule,
+    rule: &ReadyRule,
     draws: &[u32],
     row: &Row,
 )
@@ -196,7 +182,7 @@ pub(crate) fn sweep_row(
 fn sweep_one(
     own: &mut [u64],
     around: &Surroundings,
-    rule: &SlotRule,
+    rule: &ReadyRule,
     draws: &[u32],
     row: &Row,
     k: usize,
@@ -292,12 +278,12 @@ fn behind_column(row: &Row, k: usize) -> usize
 
 // The new spins of a site, by its draw.
 #[inline(always)]
-fn new_word(rule: &SlotRule, draw: u32, six: &[u64; 6], word: u64) -> u64
+fn new_word(rule: &ReadyRule, draw: u32, six: &[u64; 6], word: u64) -> u64
     ensures { SweepsWord (rule_of rule.now.kind) rule.now.row.values six.now draw word result }
 {
-    match rule.kind {
-        RuleKind::Heat => heat_bath(draw, &rule.row, six),
-        RuleKind::Metropolis => metropolis(draw, &rule.row, &agreeing(six, word), word),
+    match rule.kind() {
+        RuleKind::Heat => heat_bath(draw, rule.row(), six),
+        RuleKind::Metropolis => metropolis(draw, rule.row(), &agreeing(six, word), word),
     }
 }
 

@@ -6,17 +6,18 @@ ghost use Rattle.plane_sweep.specs.PlaneSweep.{CanSweep, SweepsPlane, SweepsAt, 
 ghost use Rattle.plane_sweep.specs.Storing.{Changed};
 ghost use Rattle.scalar_rule.specs.Plan.{dynamics_of, slots_of};
 ghost use Rattle.scalar_rule.specs.Replica.{configuration_of, with_configuration};
+ghost use Rattle.scalar_rule.specs.SlotRules.{HasThresholds};
 ghost use Rattle.scalar_rule.specs.Sweep as model;
 ghost use Rattle.spin_model.specs.Lattice.{half_plane, IsLawfulSize};
 
 use crate::draws::{PLANE_DRAWS, SMALL_DRAWS, SMALL_SIZE};
-use crate::dynamics::{Dynamics, HalfPlane};
+use crate::dynamics::{Dynamics, HalfPlane, rule_of_slot};
 use crate::replica::{Plane, Replica};
 use crate::rows::sweep_words;
+use local_rule::ReadyRule;
 use scalar_rule::Plan;
 use std::thread;
 use std::thread::Threads;
-use threshold_table::SlotRule;
 
 /// The least size whose planes are cut in pieces, which threads sweep: a smaller lattice is done sooner than
 /// they start.
@@ -36,7 +37,8 @@ pub fn sweep<R: Threads + Sync>(rt: &R, replica: &mut Replica, plan: &Plan, slot
         (model.sweep (dynamics_of plan.now b slot) (configuration_of (part_copy plan.now.size b replica.old))) }
     ensures fits { FitsReplica plan.now.size replica.new }
 {
-    sweep_replica(rt, replica, plan, slot, pieces as usize);
+    let rule = rule_of_slot(plan, slot);
+    sweep_replica(rt, replica, plan, &rule, pieces as usize);
 }
 
 /// That many sweeps of a replica of a temperature slot, as `sweep` makes one.
@@ -57,34 +59,31 @@ pub fn sweep_often<R: Threads + Sync>(
         (model.sweeps (dynamics_of plan.now b slot) count (configuration_of (part_copy plan.now.size b replica.old))) }
     ensures fits { FitsReplica plan.now.size replica.new }
 {
+    let rule = rule_of_slot(plan, slot);
     'sweeps: for _ in 0..count {
-        sweep(rt, replica, plan, slot, pieces);
+        sweep_replica(rt, replica, plan, &rule, pieces as usize);
     }
 }
 
-// A sweep by the rule of the slot.
+// A sweep by the rule of a slot.
 fn sweep_replica<R: Threads + Sync>(
     rt: &R,
     replica: &mut Replica,
     plan: &Plan,
-    slot: u32,
+    rule: &ReadyRule,
     pieces: usize,
 )
     requires replica { FitsReplica plan.now.size replica.old }
-    requires slot { slot < slots_of plan.now }
     requires pieces { 1 ≤ pieces }
-    ensures swept { (b : ℕ) → b < 64 → part_copy plan.now.size b replica.new
+    ensures swept { (slot b : ℕ) → HasThresholds plan.now.rules slot rule.now → b < 64
+        → part_copy plan.now.size b replica.new
         ≡ with_configuration (part_copy plan.now.size b replica.old)
         (model.sweep (dynamics_of plan.now b slot) (configuration_of (part_copy plan.now.size b replica.old))) }
     ensures fits { FitsReplica plan.now.size replica.new }
 {
-    let rule = SlotRule {
-        kind: plan.rules().kind(),
-        row: *plan.rules().row(slot),
-    };
     let dynamics = Dynamics {
         couplings: plan.couplings(),
-        rule: &rule,
+        rule,
     };
     let size = plan.lattice().size() as usize;
     let planes = replica.planes.as_mut_slice();

@@ -1,6 +1,5 @@
-use Rattle.std.proofs.Common.{◌≡◌, ℕ, ◌+◌, ◌*◌, ◌/◌, sym, ap, ◌∙◌, subst, arith}
+use Rattle.std.proofs.Common.{◌≡◌, ℕ, ◌+◌, ◌*◌, ◌/◌, sym, ap, subst, arith}
 use Rattle.spin_model.specs.Lattice.{half_plane}
-use Rattle.threshold_table.specs.declared.rule_table.RuleKind.{RuleKind}
 use Rattle.threshold_table.specs.declared.rule_table.SlotRule.{SlotRule}
 use Rattle.plane_sweep.specs.PlaneSweep.{SweepsWords, IsRow}
 use Rattle.plane_sweep.proofs.RowSteps.{here-within, up-within}
@@ -62,7 +61,7 @@ row_behind-row-requires-clause-up g c =
 
 pub pairs-init : goal.pairs-init
 pairs-init g c =
-    let rule : SlotRule = record { kind = c.kind_of-kind.result; row = c.args.sites.now.rule.now.row } in
+    let rule : SlotRule = c.copy_in_order-rule.result in
     let R : ℕ → Type 0 = λ n. IsRow n c.args.sites.now.colour c.args.sites.now.z 0 c.first_row-row.result in
     record {
       first = rows-none c.args.sites.now.couplings.now c.args.others.now.first.now rule c.args.drawn.now.first.now c.args.sites.now.colour c.args.sites.now.z c.args.first.now;
@@ -76,7 +75,7 @@ pairs-preserved g c =
     let couplings = c.args.sites.now.couplings.now in
     let l = couplings.size in
     let y = 2 * c.pairs.i in
-    let rule : SlotRule = record { kind = c.kind_of-kind.result; row = c.args.sites.now.rule.now.row } in
+    let rule : SlotRule = c.copy_in_order-rule.result in
     let whole = ap (λ n. n * (n / 2)) (sym c.requires.size) in
     let at = c.pairs.invariant.row in
     let next = c.row_behind-behind.ensures l c.args.sites.now.colour c.args.sites.now.z y lawful (omega arith) whole at in
@@ -109,10 +108,9 @@ returns-clause-first g c =
     let lawful = c.requires.lawful in
     let same = sym c.requires.size in
     let end : 2 * c.pairs.i ≡ l = omega arith in
-    let by : RuleKind → SlotRule = λ k. record { kind = k; row = c.args.sites.now.rule.now.row } in
-    let W : ℕ → Type 0 = λ n. SweepsWords c.args.sites.now.couplings.now c.args.others.now.first.now (by c.kind_of-kind.result) c.args.drawn.now.first.now c.args.sites.now.colour c.args.sites.now.z (n * (l / 2)) c.args.first.now c.pairs.first in
-    let K : RuleKind → Type 0 = λ k. SweepsWords c.args.sites.now.couplings.now c.args.others.now.first.now (by k) c.args.drawn.now.first.now c.args.sites.now.colour c.args.sites.now.z (half_plane l) c.args.first.now c.pairs.first in
-    subst K (c.kind_of-kind.ensures ∙ sym c.requires.kind) (subst W end c.pairs.invariant.first)
+    let W : ℕ → Type 0 = λ n. SweepsWords c.args.sites.now.couplings.now c.args.others.now.first.now c.copy_in_order-rule.result c.args.drawn.now.first.now c.args.sites.now.colour c.args.sites.now.z (n * (l / 2)) c.args.first.now c.pairs.first in
+    let K : SlotRule → Type 0 = λ rule. SweepsWords c.args.sites.now.couplings.now c.args.others.now.first.now rule c.args.drawn.now.first.now c.args.sites.now.colour c.args.sites.now.z (half_plane l) c.args.first.now c.pairs.first in
+    subst K c.copy_in_order-rule.ensures (subst W end c.pairs.invariant.first)
 
 pub returns-clause-second : goal.returns-clause-second
 returns-clause-second g c =
@@ -120,7 +118,6 @@ returns-clause-second g c =
     let lawful = c.requires.lawful in
     let same = sym c.requires.size in
     let end : 2 * c.pairs.i ≡ l = omega arith in
-    let by : RuleKind → SlotRule = λ k. record { kind = k; row = c.args.sites.now.rule.now.row } in
-    let W : ℕ → Type 0 = λ n. SweepsWords c.args.sites.now.couplings.now c.args.others.now.second.now (by c.kind_of-kind.result) c.args.drawn.now.second.now c.args.sites.now.colour c.args.sites.now.z (n * (l / 2)) c.args.second.now c.pairs.second in
-    let K : RuleKind → Type 0 = λ k. SweepsWords c.args.sites.now.couplings.now c.args.others.now.second.now (by k) c.args.drawn.now.second.now c.args.sites.now.colour c.args.sites.now.z (half_plane l) c.args.second.now c.pairs.second in
-    subst K (c.kind_of-kind.ensures ∙ sym c.requires.kind) (subst W end c.pairs.invariant.second)
+    let W : ℕ → Type 0 = λ n. SweepsWords c.args.sites.now.couplings.now c.args.others.now.second.now c.copy_in_order-rule.result c.args.drawn.now.second.now c.args.sites.now.colour c.args.sites.now.z (n * (l / 2)) c.args.second.now c.pairs.second in
+    let K : SlotRule → Type 0 = λ rule. SweepsWords c.args.sites.now.couplings.now c.args.others.now.second.now rule c.args.drawn.now.second.now c.args.sites.now.colour c.args.sites.now.z (half_plane l) c.args.second.now c.pairs.second in
+    subst K c.copy_in_order-rule.ensures (subst W end c.pairs.invariant.second)

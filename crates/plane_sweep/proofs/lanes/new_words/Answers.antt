@@ -4,9 +4,9 @@ use Rattle.plane_sweep.proofs.SixWords.{equal-agreeing}
 use Rattle.plane_sweep.proofs.lanes.new_words.Goals as goal
 
 pub returns-in-Heat : goal.returns-in-Heat
-returns-in-Heat c = λ i b lane below. rw c.in-Heat.is (c.heat_bath_sites.ensures i b lane below)
+returns-in-Heat c = λ i b lane below. rw (← c.kind.ensures, c.in-Heat.is) (c.heat_bath_sites.ensures i b lane below)
 
 pub returns-in-Metropolis : goal.returns-in-Metropolis
 returns-in-Metropolis c = λ i b lane below.
-    rw (c.in-Metropolis.is, ← equal-agreeing (lane_words c.args.six.now i) (slice_index c.args.words.now i) b)
+    rw (← c.kind.ensures, c.in-Metropolis.is, ← equal-agreeing (lane_words c.args.six.now i) (slice_index c.args.words.now i) b)
     (c.metropolis_sites.ensures i b lane below)

@@ -1,6 +1,5 @@
-use Rattle.std.proofs.Common.{◌≡◌, ℕ, ◌+◌, ◌*◌, ◌/◌, sym, ap, ◌∙◌, subst, arith}
+use Rattle.std.proofs.Common.{◌≡◌, ℕ, ◌+◌, ◌*◌, ◌/◌, sym, ap, subst, arith}
 use Rattle.spin_model.specs.Lattice.{half_plane}
-use Rattle.threshold_table.specs.declared.rule_table.RuleKind.{RuleKind}
 use Rattle.threshold_table.specs.declared.rule_table.SlotRule.{SlotRule}
 use Rattle.plane_sweep.specs.PlaneSweep.{SweepsWords, IsRow}
 use Rattle.plane_sweep.proofs.RowSteps.{here-within, up-within}
@@ -51,7 +50,7 @@ pub pairs-init : goal.pairs-init
 pairs-init g c =
     let R : ℕ → Type 0 = λ n. IsRow n c.args.sites.now.colour c.args.sites.now.z 0 c.first_row-row.result in
     record {
-      words = rows-none c.args.sites.now.couplings.now c.args.other.now (record { kind = c.kind_of-kind.result; row = c.args.sites.now.rule.now.row }) c.args.draws.now c.args.sites.now.colour c.args.sites.now.z c.args.own.now;
+      words = rows-none c.args.sites.now.couplings.now c.args.other.now c.copy_in_order-rule.result c.args.draws.now c.args.sites.now.colour c.args.sites.now.z c.args.own.now;
       row = subst R (sym c.requires.size) (c.first_row-row.ensures c.args.sites.now.colour c.args.sites.now.z c.requires.even);
     }
 
@@ -61,7 +60,7 @@ pairs-preserved g c =
     let couplings = c.args.sites.now.couplings.now in
     let l = couplings.size in
     let y = 2 * c.pairs.i in
-    let rule : SlotRule = record { kind = c.kind_of-kind.result; row = c.args.sites.now.rule.now.row } in
+    let rule : SlotRule = c.copy_in_order-rule.result in
     let whole = ap (λ n. n * (n / 2)) (sym c.requires.size) in
     let second = c.row_behind-behind.ensures l c.args.sites.now.colour c.args.sites.now.z y lawful (omega arith) whole c.pairs.invariant.row in
     let one =
@@ -84,7 +83,6 @@ returns g c =
     let lawful = c.requires.lawful in
     let same = sym c.requires.size in
     let end : 2 * c.pairs.i ≡ l = omega arith in
-    let by : RuleKind → SlotRule = λ k. record { kind = k; row = c.args.sites.now.rule.now.row } in
-    let W : ℕ → Type 0 = λ n. SweepsWords c.args.sites.now.couplings.now c.args.other.now (by c.kind_of-kind.result) c.args.draws.now c.args.sites.now.colour c.args.sites.now.z (n * (l / 2)) c.args.own.now c.pairs.own in
-    let K : RuleKind → Type 0 = λ k. SweepsWords c.args.sites.now.couplings.now c.args.other.now (by k) c.args.draws.now c.args.sites.now.colour c.args.sites.now.z (half_plane l) c.args.own.now c.pairs.own in
-    subst K (c.kind_of-kind.ensures ∙ sym c.requires.kind) (subst W end c.pairs.invariant.words)
+    let W : ℕ → Type 0 = λ n. SweepsWords c.args.sites.now.couplings.now c.args.other.now c.copy_in_order-rule.result c.args.draws.now c.args.sites.now.colour c.args.sites.now.z (n * (l / 2)) c.args.own.now c.pairs.own in
+    let K : SlotRule → Type 0 = λ rule. SweepsWords c.args.sites.now.couplings.now c.args.other.now rule c.args.draws.now c.args.sites.now.colour c.args.sites.now.z (half_plane l) c.args.own.now c.pairs.own in
+    subst K c.copy_in_order-rule.ensures (subst W end c.pairs.invariant.words)

@@ -8,6 +8,6 @@ sweeps-init g c = record { fits = c.requires.replica; swept = λ b small. sweeps
 
 pub sweeps-preserved : goal.sweeps-preserved
 sweeps-preserved g c = record {
-  fits = c.sweep.ensures.fits;
-  swept = λ b small. sweeps-more (dynamics_of c.args.plan.now b c.args.slot) c.sweeps.counter _ (part_copy c.args.plan.now.size b c.sweeps.replica) _ (c.sweep.ensures.swept b small) (c.sweeps.invariant.swept b small);
+  fits = c.sweep_replica.ensures.fits;
+  swept = λ b small. sweeps-more (dynamics_of c.args.plan.now b c.args.slot) c.sweeps.counter _ (part_copy c.args.plan.now.size b c.sweeps.replica) _ (c.sweep_replica.ensures.swept c.args.slot b c.rule_of_slot-rule.ensures small) (c.sweeps.invariant.swept b small);
 }
