@@ -11,17 +11,18 @@ ghost use Rattle.spin_model.specs.Lattice.{half_plane, IsLawfulSize};
 
 use crate::bonds::{BondCounts, add_carries, add_counts, add_last_carries, count_bonds};
 use crate::energy::{ColourPlane, count_plane};
+use local_rule::ReadyRule;
 use plane_sweep::{
-    Dynamics, HalfPlane, Plane, Row, Surroundings, first_row, is_in_order, kind_of, lend,
-    pulls_of_four, row_behind, sweep_words, update_four, words_at,
+    Dynamics, HalfPlane, Plane, Row, Surroundings, first_row, kind_of, lend, pulls_of_four,
+    row_behind, sweep_words, update_four, words_at,
 };
-use threshold_table::{RuleKind, SlotRule};
+use threshold_table::RuleKind;
 
 /// What the sites of a plane are swept by.
 #[derive(Drop)]
 struct Lent<'a, 'b> {
     around: Surroundings<'a>,
-    rule: SlotRule,
+    rule: ReadyRule,
     draws: &'b [u32],
 }
 
@@ -149,7 +150,7 @@ fn sweep_sized<const SIZE: usize>(
         + plane_count sites.now.couplings.now other.now sites.now.colour sites.now.z own.new b (half_plane sites.now.couplings.now.size) }
 {
     let even = (sites.colour + sites.z) % 2 == 0;
-    match sites.rule.kind {
+    match sites.rule.kind() {
         RuleKind::Heat if even => {
             sweep_rows::<SIZE, true, true>(counts, own, other, sites, draws)
         }
@@ -189,15 +190,14 @@ fn sweep_rows<const SIZE: usize, const HEAT: bool, const EVEN: bool>(
     ensures counted { (b : ℕ) → b < 64 → tallied counts.new b ≡ tallied counts.old b
         + plane_count sites.now.couplings.now other.now sites.now.colour sites.now.z own.new b (half_plane sites.now.couplings.now.size) }
 {
-    let (kind, row) = (kind_of(HEAT), sites.rule.row);
-    if !is_in_order(kind, &row) {
+    if !sites.rule.is_in_order() {
         sweep_then_count(counts, own, other, sites, draws);
         return;
     }
     let around = lend(other, sites.couplings, sites.colour, sites.z, SIZE);
-    // The rule is its own, not the one lent beside the words that are written: so the thresholds stay in
+    // The rule is its own, not the one lent beside the words that are written: so the limits stay in
     // registers.
-    let rule = SlotRule { kind, row };
+    let rule = sites.rule.copy_in_order(kind_of(HEAT));
     let lent = Lent {
         around,
         rule,

@@ -20,9 +20,8 @@ ghost use Rattle.spin_model.specs.Lattice.{bond_count, half_plane, IsLawfulSize}
 use crate::counted_rows::sweep_plane_counted;
 use crate::tally::Tally;
 use multispin_word::Planes;
-use plane_sweep::{DUO_DRAWS, Duo, Dynamics, Plane, sweep_ahead};
+use plane_sweep::{DUO_DRAWS, Duo, Dynamics, Plane, rule_of_slot, sweep_ahead};
 use scalar_rule::Plan;
-use threshold_table::SlotRule;
 
 /// A sweep of both replicas of a temperature slot, as `plane_sweep::sweep_duo_often` makes one in one
 /// piece, and U of each disorder sample after it, as `unsatisfied_duo` tells it. Takes no memory.
@@ -68,10 +67,7 @@ fn sweep_duo(duo: &mut Duo, plan: &Plan, slot: u32) -> (Tally, Tally)
         (spins_of plan.now.size b duo.new.second.planes) 1 (plan.now.size * half_plane plan.now.size) }
     ensures lawful { IsLawfulSize plan.now.size }
 {
-    let rule = SlotRule {
-        kind: plan.rules().kind(),
-        row: *plan.rules().row(slot),
-    };
+    let rule = rule_of_slot(plan, slot);
     let dynamics = Dynamics {
         couplings: plan.couplings(),
         rule: &rule,

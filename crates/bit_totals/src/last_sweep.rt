@@ -21,10 +21,10 @@ use crate::counted_rows::sweep_plane_counted;
 use crate::tally::Tally;
 use multispin_word::Planes;
 use plane_sweep::{
-    Dynamics, HalfPlane, PLANE_DRAWS, Plane, Replica, SMALL_DRAWS, SMALL_SIZE, sweep_plane,
+    Dynamics, HalfPlane, PLANE_DRAWS, Plane, Replica, SMALL_DRAWS, SMALL_SIZE, rule_of_slot,
+    sweep_plane,
 };
 use scalar_rule::Plan;
-use threshold_table::SlotRule;
 
 /// A sweep of one replica of a temperature slot, as `plane_sweep::sweep` makes it in one piece, and U of
 /// each disorder sample after it, as `unsatisfied` tells it. Takes no memory.
@@ -56,10 +56,7 @@ fn sweep_replica(replica: &mut Replica, plan: &Plan, slot: u32) -> Tally
         (spins_of plan.now.size b replica.new.planes) 1 (plan.now.size * half_plane plan.now.size) }
     ensures lawful { IsLawfulSize plan.now.size }
 {
-    let rule = SlotRule {
-        kind: plan.rules().kind(),
-        row: *plan.rules().row(slot),
-    };
+    let rule = rule_of_slot(plan, slot);
     let size = plan.lattice().size() as usize;
     let planes = replica.planes.as_mut_slice();
     let dynamics = Dynamics {

@@ -2,7 +2,6 @@
 use Rattle.std.proofs.Common.{◌≡◌, ℕ, ◌+◌, ◌*◌, ◌/◌, ◌≤◌, length, sym, ap, ◌∙◌, subst, arith}
 use Rattle.std.proofs.Math.Nat.{add-mul}
 use Rattle.spin_model.specs.Lattice.{half_plane}
-use Rattle.threshold_table.specs.declared.rule_table.RuleKind.{RuleKind}
 use Rattle.threshold_table.specs.declared.rule_table.SlotRule.{SlotRule}
 use Rattle.plane_sweep.specs.PlaneSweep.{SweepsRow, SweepsWords, IsRow}
 use Rattle.plane_sweep.proofs.RowSteps.{here-within, up-within}
@@ -111,7 +110,7 @@ pairs-init g c =
     let sites = c.args.sites.now in
     let R : ℕ → Type 0 = λ n. IsRow n sites.colour sites.z 0 c.first_row-row.result in
     record {
-      words = rows-none sites.couplings.now c.args.other.now (record { kind = c.kind_of-kind.result; row = sites.rule.now.row }) c.args.draws.now sites.colour sites.z c.args.own.now;
+      words = rows-none sites.couplings.now c.args.other.now c.copy_in_order-rule.result c.args.draws.now sites.colour sites.z c.args.own.now;
       row = subst R (sym c.requires.size) (c.first_row-row.ensures sites.colour sites.z c.requires.even);
       counted = λ b h. omega (arith, plane-none sites.couplings.now c.args.other.now sites.colour sites.z b c.args.own.now);
     }
@@ -127,7 +126,7 @@ pairs-preserved g c =
     let l = couplings.size in
     let y = 2 * c.pairs.i in
     let around = c.lend-around.result in
-    let rule : SlotRule = record { kind = c.kind_of-kind.result; row = sites.rule.now.row } in
+    let rule : SlotRule = c.copy_in_order-rule.result in
     let lent : Lent = record { around = around; rule = rule; draws = c.args.draws } in
     let row = c.pairs.row in
     let behind = c.row_behind-behind.result in
@@ -172,10 +171,9 @@ returns-clause-swept g c =
     let sites = c.args.sites.now in
     let l = sites.couplings.now.size in
     let end : 2 * c.pairs.i ≡ l = omega arith in
-    let by : RuleKind → SlotRule = λ k. record { kind = k; row = sites.rule.now.row } in
-    let W : ℕ → Type 0 = λ n. SweepsWords sites.couplings.now c.args.other.now (by c.kind_of-kind.result) c.args.draws.now sites.colour sites.z (n * (l / 2)) c.args.own.now c.pairs.own in
-    let K : RuleKind → Type 0 = λ k. SweepsWords sites.couplings.now c.args.other.now (by k) c.args.draws.now sites.colour sites.z (half_plane l) c.args.own.now c.pairs.own in
-    subst K (c.kind_of-kind.ensures ∙ sym c.requires.kind) (subst W end c.pairs.invariant.words)
+    let W : ℕ → Type 0 = λ n. SweepsWords sites.couplings.now c.args.other.now c.copy_in_order-rule.result c.args.draws.now sites.colour sites.z (n * (l / 2)) c.args.own.now c.pairs.own in
+    let K : SlotRule → Type 0 = λ rule. SweepsWords sites.couplings.now c.args.other.now rule c.args.draws.now sites.colour sites.z (half_plane l) c.args.own.now c.pairs.own in
+    subst K c.copy_in_order-rule.ensures (subst W end c.pairs.invariant.words)
 
 pub returns-clause-counted : goal.returns-clause-counted
 returns-clause-counted g c = λ b h.

@@ -1,12 +1,10 @@
 use Rattle.std.proofs.Common.{ℕ, ◌*◌, List, All, length, ap, sym, subst, refl, ◌∙◌}
 use Rattle.coupling_set.specs.CouplingWords.{CouplingsView}
-use Rattle.threshold_table.specs.Tables.{RuleView, threshold_of}
 use Rattle.scalar_rule.proofs.PlaneSweeps.{written_over}
 use Rattle.plane_sweep.specs.Packed.{FitsPlane, FitsReplica}
 use Rattle.plane_sweep.specs.PlaneSweep.{SweepsColours}
 use Rattle.plane_sweep.specs.declared.replica.Plane.{Plane}
-use Rattle.threshold_table.specs.declared.rule_table.SlotRule.{SlotRule}
-use Rattle.plane_sweep.proofs.ColourSweeps.{IsSlotRule, swept-part, swept-fits}
+use Rattle.plane_sweep.proofs.ColourSweeps.{swept-part, swept-fits}
 use Rattle.bit_totals.proofs.duo_sweep.sweep_duo.Goals as goal
 
 pub sweep_colours-requires-clause-size : goal.sweep_colours-requires-clause-size
@@ -41,16 +39,12 @@ returns-clause-swept_first c = λ b below.
     let old = c.args.duo.now.first in
     let new = c.sweep_colours.new.first in
     let lawful = c.lattice.ensures.lawful in
-    let rule : SlotRule = record { kind = c.kind.result; row = c.row.result.now } in
-    let is : IsSlotRule plan c.args.slot rule = record {
-      kind = c.kind.ensures ∙ ap (λ (r : RuleView). r.kind) c.rules.ensures.value;
-      cases = λ k. c.row.ensures.thresholds k ∙ ap (λ (r : RuleView). threshold_of r c.args.slot k) c.rules-2.ensures.value;
-    } in
+    let rule = c.rule_of_slot-rule.result in
     let S : CouplingsView → Type 0 = λ j. SweepsColours j rule c.as_mut_slice-first.result.now new in
     let T : List Plane → Type 0 = λ xs. SweepsColours plan.couplings rule xs new in
     let swept = subst T c.as_mut_slice-first.ensures.value (subst S c.couplings.ensures.value c.sweep_colours.ensures.swept_first) in
     rw (written_over old.planes new swept.sized)
-    (swept-part plan c.args.slot b rule old _ lawful.couplings.lawful lawful.lattice below (c.requires.duo.first.count ∙ ap (λ n. 2 * n) (sym lawful.lattice)) is refl swept)
+    (swept-part plan c.args.slot b rule old _ lawful.couplings.lawful lawful.lattice below (c.requires.duo.first.count ∙ ap (λ n. 2 * n) (sym lawful.lattice)) c.rule_of_slot-rule.ensures refl swept)
 
 pub returns-clause-swept_second : goal.returns-clause-swept_second
 returns-clause-swept_second c = λ b below.
@@ -58,22 +52,18 @@ returns-clause-swept_second c = λ b below.
     let old = c.args.duo.now.second in
     let new = c.sweep_colours.new.second in
     let lawful = c.lattice.ensures.lawful in
-    let rule : SlotRule = record { kind = c.kind.result; row = c.row.result.now } in
-    let is : IsSlotRule plan c.args.slot rule = record {
-      kind = c.kind.ensures ∙ ap (λ (r : RuleView). r.kind) c.rules.ensures.value;
-      cases = λ k. c.row.ensures.thresholds k ∙ ap (λ (r : RuleView). threshold_of r c.args.slot k) c.rules-2.ensures.value;
-    } in
+    let rule = c.rule_of_slot-rule.result in
     let S : CouplingsView → Type 0 = λ j. SweepsColours j rule c.as_mut_slice-second.result.now new in
     let T : List Plane → Type 0 = λ xs. SweepsColours plan.couplings rule xs new in
     let swept = subst T c.as_mut_slice-second.ensures.value (subst S c.couplings.ensures.value c.sweep_colours.ensures.swept_second) in
     rw (written_over old.planes new swept.sized)
-    (swept-part plan c.args.slot b rule old _ lawful.couplings.lawful lawful.lattice below (c.requires.duo.second.count ∙ ap (λ n. 2 * n) (sym lawful.lattice)) is refl swept)
+    (swept-part plan c.args.slot b rule old _ lawful.couplings.lawful lawful.lattice below (c.requires.duo.second.count ∙ ap (λ n. 2 * n) (sym lawful.lattice)) c.rule_of_slot-rule.ensures refl swept)
 
 pub returns-clause-fits : goal.returns-clause-fits
 returns-clause-fits c =
     let plan = c.args.plan.now in
     let lawful = c.lattice.ensures.lawful in
-    let rule : SlotRule = record { kind = c.kind.result; row = c.row.result.now } in
+    let rule = c.rule_of_slot-rule.result in
     let old_first = c.args.duo.now.first in
     let new_first = c.sweep_colours.new.first in
     let S_first : CouplingsView → Type 0 = λ j. SweepsColours j rule c.as_mut_slice-first.result.now new_first in
