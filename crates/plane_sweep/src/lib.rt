@@ -15,6 +15,7 @@ mod parts;
 mod random_words;
 mod replica;
 mod rows;
+mod sized;
 mod stand;
 mod storing;
 mod surroundings;

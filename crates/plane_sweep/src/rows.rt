@@ -86,7 +86,7 @@ fn sweep_sized<const SIZE: usize>(
 // The same by heat bath or Metropolis, two rows at a time: an even plane's first row begins at x = 0.
 // Not expanded where it is called, since no hint brings so much code into one function.
 #[inline(never)]
-fn sweep_rows<const SIZE: usize, const HEAT: bool, const EVEN: bool>(
+pub(crate) fn sweep_rows<const SIZE: usize, const HEAT: bool, const EVEN: bool>(
     own: &mut [u64],
     other: &[Plane],
     sites: &HalfPlane,

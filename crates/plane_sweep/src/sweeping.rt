@@ -14,10 +14,12 @@ use crate::draws::{PLANE_DRAWS, SMALL_DRAWS, SMALL_SIZE};
 use crate::dynamics::{Dynamics, HalfPlane, rule_of_slot};
 use crate::replica::{Plane, Replica};
 use crate::rows::sweep_words;
+use crate::sized::follow_sized;
 use local_rule::ReadyRule;
 use scalar_rule::Plan;
 use std::thread;
 use std::thread::Threads;
+use threshold_table::RuleKind;
 
 /// The least size whose planes are cut in pieces, which threads sweep: a smaller lattice is done sooner than
 /// they start.
@@ -125,7 +127,37 @@ fn sweep_both(planes: &mut [Plane], dynamics: &Dynamics, draws: &mut [u32], size
     ensures { SweepsColours dynamics.now.couplings.now dynamics.now.rule.now planes.old planes.new }
 {
     let (first, second) = planes.split_at_mut(size);
-    sweep_following(first, second, dynamics, draws, size);
+    sweep_halves(first, second, dynamics, draws, size);
+}
+
+// The planes of both colours, by code of its own for the sizes that are multiples of 8.
+fn sweep_halves(
+    first: &mut [Plane],
+    second: &mut [Plane],
+    dynamics: &Dynamics,
+    draws: &mut [u32],
+    size: usize,
+)
+    requires size { size ≡ dynamics.now.couplings.now.size }
+    requires lawful { IsLawfulSize dynamics.now.couplings.now.size }
+    requires room { half_plane dynamics.now.couplings.now.size ≤ length draws.old }
+    requires counts { (length first.old ≡ dynamics.now.couplings.now.size) × (length second.old ≡ dynamics.now.couplings.now.size) }
+    requires firsts { All (FitsPlane dynamics.now.couplings.now.size) first.old }
+    requires seconds { All (FitsPlane dynamics.now.couplings.now.size) second.old }
+    ensures first { Changed (SweepsPlane dynamics.now.couplings.now second.old dynamics.now.rule.now 0) dynamics.now.couplings.now.size first.old first.new }
+    ensures second { Changed (SweepsPlane dynamics.now.couplings.now first.new dynamics.now.rule.now 1) dynamics.now.couplings.now.size second.old second.new }
+{
+    match (size, dynamics.rule.kind()) {
+        (8, RuleKind::Heat) => follow_sized::<8, true>(first, second, dynamics, draws),
+        (8, RuleKind::Metropolis) => follow_sized::<8, false>(first, second, dynamics, draws),
+        (16, RuleKind::Heat) => follow_sized::<16, true>(first, second, dynamics, draws),
+        (16, RuleKind::Metropolis) => follow_sized::<16, false>(first, second, dynamics, draws),
+        (24, RuleKind::Heat) => follow_sized::<24, true>(first, second, dynamics, draws),
+        (24, RuleKind::Metropolis) => follow_sized::<24, false>(first, second, dynamics, draws),
+        (32, RuleKind::Heat) => follow_sized::<32, true>(first, second, dynamics, draws),
+        (32, RuleKind::Metropolis) => follow_sized::<32, false>(first, second, dynamics, draws),
+        _ => sweep_following(first, second, dynamics, draws, size),
+    }
 }
 
 // The planes of both colours. Each plane of colour 1 is swept as soon as those beside it of colour 0

@@ -7,4 +7,4 @@ returns c =
     sweeps-colours c.args.dynamics.now.couplings.now c.args.dynamics.now.rule.now c.args.planes.now _ _ _ _
     (c.split_at_mut-first.ensures.front ∙ ap (λ n. take n c.args.planes.now) c.requires.size)
     (c.split_at_mut-first.ensures.back ∙ ap (λ n. drop n c.args.planes.now) c.requires.size)
-    c.requires.count c.sweep_following.ensures.first c.sweep_following.ensures.second
+    c.requires.count c.sweep_halves.ensures.first c.sweep_halves.ensures.second
