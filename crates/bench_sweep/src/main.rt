@@ -1,5 +1,5 @@
-//! The Rattle side of bench/sweep.sh: times the packed sweep of one replica. Given no size, rule, sweeps
-//! and passes it prints one line and does no work.
+//! The Rattle side of bench/sweep.sh: times the packed sweep of one replica, or of both of a slot. Given no
+//! size, rule, sweeps and passes it prints one line and does no work.
 #![tactic(auto)]
 
 mod inputs;
@@ -14,19 +14,25 @@ use std::thread::Threads;
 use std::time::Clock;
 use threshold_table::RuleKind;
 
-/// Prints the least nanoseconds of a pass, and the spins that all passes left in one number.
+/// Prints the least nanoseconds of a pass, those of both replicas halved, and the spins that all passes
+/// left in the first replica in one number.
 fn measure<R: AllocGlobal + Print + Clock + Threads + Sync>(
     rt: &R,
     size: u32,
     kind: RuleKind,
     sweeps: u32,
     passes: u32,
+    both: bool,
 ) -> Result<()> {
     let plan = inputs::plan_of(rt.alloc(), Lattice::of(size)?, kind)?;
     let mut stand = Stand::opening(rt.alloc(), &plan, Start::Random)?;
-    let replica = &mut stand.slots.at_mut(0).first;
-    let least = timing::least_of(rt, replica, &plan, sweeps, passes)?;
-    println!(rt; "{least} {}", timing::all_words(replica))?;
+    let duo = stand.slots.at_mut(0);
+    let least = if both {
+        timing::least_of_both(rt, duo, &plan, sweeps, passes)? / 2
+    } else {
+        timing::least_of(rt, &mut duo.first, &plan, sweeps, passes)?
+    };
+    println!(rt; "{least} {}", timing::all_words(&duo.first))?;
     Ok(())
 }
 
@@ -50,10 +56,11 @@ fn main(rt: HostRuntime) -> Result<()> {
             kind,
             sweeps.as_str().parse::<u32>()?,
             passes.as_str().parse::<u32>()?,
+            words.nth(0).is_some_and(|word| word.as_str() == "both"),
         ),
         _ => {
             println!(rt;
-                "bench_sweep: give a size, metropolis or heat, the sweeps of a pass and the number of passes"
+                "bench_sweep: give a size, metropolis or heat, the sweeps of a pass, the number of passes, and both for both replicas"
             )?;
             Ok(())
         }
