@@ -1,5 +1,5 @@
-# What the benchmark scripts share. A script sources it after it has set passes and limit, sizes too where
-# it takes them, and a function usage.
+# What the benchmark scripts share. A script sources it after it has set passes and limit, sizes and replicas
+# too where it takes them, and a function usage.
 set -euo pipefail
 
 script=${0##*/}
@@ -25,6 +25,10 @@ check_words() {
         x86-64-v2 | x86-64-v3) ;;
         *) fail "--cpu takes x86-64-v2 or x86-64-v3, not '$cpu'" ;;
     esac
+    case "${replicas-1}" in
+        1 | 2) ;;
+        *) fail "--replicas takes 1 or 2, not '$replicas'" ;;
+    esac
     case "$limit" in
         '' | . | *[!0-9.]* | *.*.*) fail "--limit takes a ratio such as 1.5, not '$limit'" ;;
     esac
@@ -41,6 +45,8 @@ read_words() {
             --turns) turns=$(number --turns "${2-}") ;;
             --sweeps) [ -n "${sweeps-}" ] || fail "unknown word '$1' (see --help)"
                 sweeps=$(number --sweeps "${2-}") ;;
+            --replicas) [ -n "${replicas-}" ] || fail "unknown word '$1' (see --help)"
+                replicas=${2-} ;;
             --sizes) [ -n "${sizes-}" ] || fail "unknown word '$1' (see --help)"; sizes=${2-} ;;
             *) fail "unknown word '$1' (see --help)" ;;
         esac

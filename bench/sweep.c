@@ -93,6 +93,24 @@ INLINE void fill(draw_row wheel[RING], draw_row *out, size_t count) {
         wheel[k] = ring[(k + done) % RING];
 }
 
+/* The same of a multiple of 8: row by row in memory, where the ring stands begins elsewhere each time. */
+INLINE void fill_rows(draw_row wheel[RING], draw_row *out, size_t count) {
+    draw_row ring[2 * RING];
+    size_t rows = 4 * count / BYTES, done = rows % RING;
+    for (; rows >= RING; rows -= RING) {
+#pragma GCC unroll 16
+        for (int k = 0; k < RING; k++)
+            *out++ = turn(wheel, k);
+    }
+#pragma GCC unroll 16
+    for (int k = 0; k < RING; k++)
+        if ((size_t)k < done)
+            *out++ = turn(wheel, k);
+    memcpy(ring, wheel, sizeof ring / 2);
+    memcpy(ring + RING, wheel, sizeof ring / 2);
+    memcpy(wheel, ring + done, sizeof ring / 2);
+}
+
 /* The new spins of a site of each lane, from J times its six neighbours' spins, by thresholds in order. */
 INLINE lanes new_spins(int heat, const uint32_t *draws, const thresholds t, const lanes six[6], lanes spin) {
     signed_lanes draw = widened(draws);
@@ -113,6 +131,32 @@ INLINE lanes new_spins(int heat, const uint32_t *draws, const thresholds t, cons
     lanes no_fours = choose(either_twos, no_carry, front_twos ^ spin);
     lanes accepted = below(draw, t[2]) | (no_twos & (below(draw, t[1]) | (below(draw, t[0]) & ~ones)));
     return spin ^ (no_fours | accepted);
+}
+
+INLINE uint64_t below_one(uint32_t draw, int64_t threshold) { return -(uint64_t)(draw < threshold); }
+
+INLINE uint64_t choose_one(uint64_t mask, uint64_t inside, uint64_t outside) {
+    return outside ^ (mask & (inside ^ outside));
+}
+
+/* The same of one site, for what is left of a row. */
+INLINE uint64_t new_word(int heat, uint32_t draw, const thresholds t, const uint64_t six[6], uint64_t spin) {
+    uint64_t front = six[0] ^ six[1] ^ six[2], back = six[3] ^ six[4] ^ six[5];
+    uint64_t front_twos = (six[0] & six[1]) | ((six[0] ^ six[1]) & six[2]);
+    uint64_t back_twos = (six[3] & six[4]) | ((six[3] ^ six[4]) & six[5]);
+    uint64_t ones = front ^ back, either_twos = front_twos ^ back_twos;
+    if (heat) {
+        uint64_t carry = front & ~ones, twos = either_twos ^ carry;
+        uint64_t fours = choose_one(either_twos, carry, front_twos);
+        uint64_t zero_one = below_one(draw, t[0]) | (ones & below_one(draw, t[1]));
+        uint64_t two_three = below_one(draw, t[2]) | (ones & below_one(draw, t[3]));
+        uint64_t four_five = below_one(draw, t[4]) | (ones & below_one(draw, t[5]));
+        return zero_one | (twos & two_three) | (fours & (four_five | (twos & below_one(draw, t[6]))));
+    }
+    uint64_t no_carry = ones | (front ^ spin), no_twos = either_twos ^ no_carry;
+    uint64_t no_fours = choose_one(either_twos, no_carry, front_twos ^ spin);
+    uint64_t four_five = below_one(draw, t[1]) | (below_one(draw, t[0]) & ~ones);
+    return spin ^ (no_fours | below_one(draw, t[2]) | (no_twos & four_five));
 }
 
 /* Where the words of one colour and their neighbours' stand. */
@@ -145,28 +189,54 @@ INLINE void visit(int heat, size_t size, places at, lanes ahead, lanes behind, c
     *(lanes_anywhere *)(spins + at.own) = new_spins(heat, state.draws + at.draw, t, six, load(spins + at.own));
 }
 
+INLINE void visit_one(int heat, size_t size, places at, uint64_t ahead, uint64_t behind, const thresholds t) {
+    uint64_t *spins = state.spins;
+    const uint64_t *x = state.couplings, *y = x + direction_step(size), *z = y + direction_step(size);
+    const uint64_t six[6] = {
+        ahead ^ x[at.own],           behind,
+        spins[at.up] ^ y[at.own],    spins[at.down] ^ y[at.down],
+        spins[at.above] ^ z[at.own], spins[at.below] ^ z[at.below],
+    };
+    spins[at.own] = new_word(heat, state.draws[at.draw], t, six, spins[at.own]);
+}
+
 /* A row that begins at x = 0: of the neighbours in x the one behind stands one word back. */
 INLINE void even_row(int heat, size_t size, places at, const thresholds t) {
     const uint64_t *spins = state.spins, *x = state.couplings;
     size_t last = at.here + size / 2 - WIDTH;
     lanes before = load(spins + last) ^ load(x + last), first = load(spins + at.here);
     visit(heat, size, at, first, FROM_LAST(before, first ^ load(x + at.here)), t);
-    for (size_t k = WIDTH; k < size / 2; k += WIDTH) {
+    size_t k = WIDTH;
+    for (; k + WIDTH <= size / 2; k += WIDTH) {
         at = moved(at, WIDTH);
         visit(heat, size, at, load(spins + at.here), load(spins + at.here - 1) ^ load(x + at.here - 1), t);
+    }
+    at = moved(at, WIDTH);
+    for (; k < size / 2; k++) {
+        visit_one(heat, size, at, spins[at.here], spins[at.here - 1] ^ x[at.here - 1], t);
+        at = moved(at, 1);
     }
 }
 
 /* A row that begins at x = 1: the one ahead stands one word on. */
 INLINE void odd_row(int heat, size_t size, places at, const thresholds t) {
     const uint64_t *spins = state.spins, *x = state.couplings;
-    lanes first = load(spins + at.here);
-    for (size_t k = WIDTH; k < size / 2; k += WIDTH) {
+    size_t row = at.here, k = 0;
+    lanes first = load(spins + row);
+    for (; k + WIDTH < size / 2; k += WIDTH) {
         visit(heat, size, at, load(spins + at.here + 1), load(spins + at.here) ^ load(x + at.here), t);
         at = moved(at, WIDTH);
     }
-    lanes here = load(spins + at.here);
-    visit(heat, size, at, FROM_1(here, first), here ^ load(x + at.here), t);
+    if (k + WIDTH == size / 2) {
+        lanes here = load(spins + at.here);
+        visit(heat, size, at, FROM_1(here, first), here ^ load(x + at.here), t);
+        return;
+    }
+    for (; k < size / 2; k++) {
+        uint64_t ahead = spins[k + 1 < size / 2 ? at.here + 1 : row];
+        visit_one(heat, size, at, ahead, spins[at.here] ^ x[at.here], t);
+        at = moved(at, 1);
+    }
 }
 
 INLINE void sweep_plane(int heat, size_t size, size_t colour, size_t z, const thresholds t) {
@@ -191,7 +261,11 @@ INLINE void sweep_plane(int heat, size_t size, size_t colour, size_t z, const th
 }
 
 INLINE void sweep_at(int heat, size_t size, size_t colour, size_t z, const thresholds t) {
-    fill(state.wheels[colour * size + z], (draw_row *)state.draws, size * size / 2);
+    draw_row *wheel = state.wheels[colour * size + z], *draws = (draw_row *)state.draws;
+    if (size % 8 == 0)
+        fill(wheel, draws, size * size / 2);
+    else
+        fill_rows(wheel, draws, size * size / 2);
     sweep_plane(heat, size, colour, z, t);
 }
 
@@ -269,8 +343,8 @@ static uint64_t all_words(size_t size) {
 
 int main(int argc, char **argv) {
     size_t size = argc == 5 ? strtoul(argv[1], NULL, 10) : 0;
-    if (size % 8 != 0 || size < 8 || size > 64) {
-        fputs("usage: sweep_c 8|16|..|64 metropolis|heat SWEEPS PASSES\n", stderr);
+    if (size % 4 != 0 || size < 8 || size > 64) {
+        fputs("usage: sweep_c 8|12|..|64 metropolis|heat SWEEPS PASSES\n", stderr);
         return 2;
     }
     int heat = strcmp(argv[2], "heat") == 0;

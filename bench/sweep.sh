@@ -3,7 +3,7 @@
 
 usage() {
     cat <<'END'
-usage: bench/sweep.sh [--cpu CPU] [--sizes "SIZE .."] [--passes N] [--turns N] [--limit RATIO]
+usage: bench/sweep.sh [--cpu CPU] [--sizes "SIZE .."] [--replicas N] [--passes N] [--turns N] [--limit RATIO]
 
 Times sweep of the crate plane_sweep, in one thread, at each size and by both rules, against the same form
 in C (bench/sweep.c, gcc -O3). The two programs run by turns from the same state. For each size and rule
@@ -11,7 +11,9 @@ it prints the least picoseconds of a spin update on both sides and their ratio. 
 spin in one of the 64 samples, the random numbers included.
 
   --cpu CPU      x86-64-v2 (as if left out) or x86-64-v3, for both compilers
-  --sizes ..     of 8, 16, 24 and so on to 64; 8, 16, 32 and 64 if left out
+  --sizes ..     of 8, 12, 16 and so on to 64; 8, 16, 32 and 64 if left out
+  --replicas N   1 (as if left out), or 2: sweep_duo_often of both replicas of a slot, as a run makes it, for
+                 Rattle alone; a spin update takes half the time of one of each
   --passes N     passes of a turn, 100 if left out, each of 262144 / SIZE^3 sweeps
   --turns N      turns, 5 if left out
   --limit RATIO  the greatest ratio that is right, 1.4 if left out
@@ -24,16 +26,18 @@ END
 passes=100
 limit=1.4
 sizes="8 16 32 64"
+replicas=1
 . "$(dirname "$0")/common.sh"
 read_words "$@"
-check_sizes "8 16 24 32 40 48 56 64"
+check_sizes "8 12 16 20 24 28 32 36 40 44 48 52 56 60 64"
 build_sides sweep bench_sweep
 
 # One run of a side, in picoseconds.
 run_side() {
     local side=$1 program=$2 size=$3 rule=$4
-    local sweeps=$((262144 / size ** 3))
-    "$program" "$size" "$rule" "$sweeps" "$passes" \
+    local sweeps=$((262144 / size ** 3)) words=
+    [ "$side $replicas" != "Rattle 2" ] || words=both
+    "$program" "$size" "$rule" "$sweeps" "$passes" $words \
         | awk -v name="$side $size $rule" -v updates=$((64 * size ** 3 * sweeps)) \
             '{ print name, $1 * 1000 / updates, $2 }'
 }
