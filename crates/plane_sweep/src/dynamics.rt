@@ -7,7 +7,6 @@ ghost use Rattle.scalar_rule.specs.SlotRules.{HasThresholds};
 use coupling_set::Couplings;
 use local_rule::ReadyRule;
 use scalar_rule::Plan;
-use threshold_table::SlotRule;
 
 /// What the sweep of a replica depends on besides spins and draws.
 #[derive(Clone, Copy)]
@@ -32,9 +31,5 @@ pub fn rule_of_slot(plan: &Plan, slot: u32) -> ReadyRule
     requires { slot < slots_of plan.now }
     ensures { HasThresholds plan.now.rules slot result }
 {
-    let rules = plan.rules();
-    ReadyRule::of(&SlotRule {
-        kind: rules.kind(),
-        row: *rules.row(slot),
-    })
+    ReadyRule::of(&plan.rules().rule(slot))
 }

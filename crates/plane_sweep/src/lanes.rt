@@ -4,6 +4,7 @@ ghost use Rattle.std.specs.Prelude.{◌≡◌, ℕ, ◌+◌, ◌<◌, ◌≤◌,
 ghost use Rattle.local_rule.specs.SiteBits.{lane_words, set_count};
 ghost use Rattle.multispin_word.specs.Planes.{is_set};
 ghost use Rattle.plane_sweep.specs.PlaneSweep.{agreeing_count, left_column, pulls_lent, right_column, HasRows, SweepsFour, SweepsRow};
+ghost use Rattle.spin_model.specs.Limits.{greatest_half_plane};
 ghost use Rattle.spin_model.specs.SiteRule.{new_spin};
 ghost use Rattle.threshold_table.specs.Tables.{rule_of};
 
@@ -113,7 +114,7 @@ fn ahead_in_x(around: &Surroundings, row: &Row, k: usize) -> u64x4
 #[inline(always)]
 fn four_ahead(words: &[u64], row: &Row, k: usize) -> u64x4
     requires rows { row.now.here + row.now.half ≤ length words.now }
-    requires few { length words.now ≤ 2048 }
+    requires few { length words.now ≤ greatest_half_plane }
     requires within { k + 4 ≤ row.now.half }
     ensures length { length result ≡ 4 }
     ensures words { (i : ℕ) → i < 4 → slice_index result i

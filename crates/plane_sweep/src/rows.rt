@@ -6,6 +6,7 @@ ghost use Rattle.plane_sweep.specs.PlaneSweep.{agreeing_count, left_column, pull
 ghost use Rattle.plane_sweep.specs.Packed.{FitsPlane};
 ghost use Rattle.scalar_rule.specs.Neighbours.{agree};
 ghost use Rattle.spin_model.specs.Lattice.{half_plane, next, previous, IsLawfulSize};
+ghost use Rattle.spin_model.specs.Limits.{greatest_half_plane};
 ghost use Rattle.spin_model.specs.Words.{is_set};
 ghost use Rattle.threshold_table.specs.Tables.{rule_of};
 
@@ -216,7 +217,7 @@ pub fn first_row(size: usize, even: bool) -> Row
 /// The row behind a row, in a plane of so many words.
 #[inline(always)]
 pub fn row_behind(row: &Row, words: usize) -> Row
-    requires few { words ≤ 2048 }
+    requires few { words ≤ greatest_half_plane }
     requires here { row.now.here + row.now.half ≤ words }
     requires up { row.now.up + row.now.half ≤ words }
     ensures { (l c z y : ℕ) → IsLawfulSize l → y < l → words ≡ half_plane l → IsRow l c z y row.now
