@@ -3,7 +3,7 @@
 ghost use Rattle.std.specs.Prelude.{◌≡◌, ◌+◌, ◌*◌, ◌<◌, true, false, ◌==◌, ◌&&◌, if◌then◌else◌, length, slice_set, IfSome, IfNone};
 ghost use Rattle.std.specs.Arc.{arc_value};
 ghost use Rattle.spin_model.specs.Limits.{last_epoch};
-ghost use Rattle.scalar_rule.specs.Epoch.{has_turn, has_partner, partner};
+ghost use Rattle.scalar_rule.specs.Epoch.{has_partner, partner};
 ghost use Rattle.exchange_board.specs.Machine.{epochs, phases, met, after, IsPhased, IsBehind};
 ghost use Rattle.exchange_board.specs.Views.{place_at, out_at, ready_at, arrived_at, placed, progress};
 
@@ -12,7 +12,7 @@ use crate::job::Swept;
 use crate::rows::{SlotEpoch, record_slot};
 use crate::totals::totals_of;
 use crate::trading::{PlanPair, Side, meet};
-use scalar_rule::Plan;
+use scalar_rule::{Plan, has_partner, has_turn};
 
 /// What a hand-back has done.
 #[derive(Clone, Copy, Debug, PartialEq, Eq)]
@@ -23,25 +23,6 @@ pub enum Arrival {
     Settled { pair: u32 },
     /// The slot has no partner at its epoch, and is at rest at the next one.
     Alone,
-}
-
-// Whether a slot is the colder one of its pair at an epoch.
-fn is_colder(slot: u32, epoch: u64) -> bool
-    ensures { result ≡ has_turn slot epoch }
-{
-    slot as u64 % 2 == epoch % 2
-}
-
-/// Whether a slot has a partner at an epoch.
-pub(crate) fn has_partner(slot: u32, epoch: u64, slots: u32) -> bool
-    requires { slot < slots }
-    ensures { result ≡ has_partner slots slot epoch }
-{
-    if is_colder(slot, epoch) {
-        slot + 1 < slots
-    } else {
-        slot > 0
-    }
 }
 
 // The colder slot of a pair.
@@ -108,11 +89,14 @@ impl Board {
         ensures phased { IsPhased self.now.places }
         ensures behind { IsBehind self.now.places slot epoch }
     {
-        let n = self.slots.len() as u32;
-        if is_colder(slot, epoch) {
-            if slot + 1 < n { Some(slot + 1) } else { None }
+        let slots = self.slots.len() as u32;
+        if !has_partner(slots, slot, epoch) {
+            return None;
+        }
+        if has_turn(slot, epoch) {
+            Some(slot + 1)
         } else {
-            if slot > 0 { Some(slot - 1) } else { None }
+            Some(slot - 1)
         }
     }
 
@@ -192,7 +176,7 @@ impl Board {
         let at = SlotEpoch { slot, epoch };
         record_slot(&mut self.records, &duo, &sums, plan, &self.origin, at);
         let totals = totals_of(&duo, &sums, plan);
-        let is_low = is_colder(slot, epoch);
+        let is_low = has_turn(slot, epoch);
         let pair = colder(slot, other, is_low);
         let wheels = self.pairs.at_mut(pair as usize);
         let mate = self.slots.at_mut(other as usize);

@@ -4,7 +4,6 @@ ghost use Rattle.std.specs.Prelude.{◌≡◌, ◌+◌, ◌*◌, ◌<◌, ◌≤
 ghost use Rattle.spin_model.specs.Limits.{most_rows};
 ghost use Rattle.plane_sweep.specs.Packed.{part_slot, FitsDuo};
 ghost use Rattle.scalar_rule.specs.Epoch as model;
-ghost use Rattle.scalar_rule.specs.Records as rule;
 ghost use Rattle.exchange_board.specs.Content.{slots_in, floor_in, row_total, IsLawfulOrigin};
 ghost use Rattle.exchange_board.specs.Meeting.{AreRowsOf, RowsAfter, RecordsAfter};
 ghost use Rattle.exchange_board.specs.Totals.{AreSums};
@@ -13,7 +12,7 @@ use crate::origin::Origin;
 use crate::totals::{Sums, measure, record_of};
 use plain_list::Items;
 use plane_sweep::Duo;
-use scalar_rule::{Plan, Record};
+use scalar_rule::{Plan, Record, is_recorded};
 
 /// Where the records of a slot at an epoch go, where the epoch is recorded: `at` is the number of
 /// recorded epochs before it, times the samples.
@@ -38,14 +37,6 @@ impl Rows {
     }
 }
 
-/// Whether an epoch is recorded: the last of each `every`.
-pub(crate) fn is_recorded(epoch: u64, every: u64) -> bool
-    requires { 1 ≤ every }
-    ensures { result ≡ rule.is_recorded every epoch }
-{
-    epoch % every == every - 1
-}
-
 /// The places of the records of a slot at an epoch.
 pub(crate) fn rows_of(origin: &Origin, slot: u32, epoch: u64) -> Rows
     requires lawful { IsLawfulOrigin origin.now }
@@ -58,7 +49,7 @@ pub(crate) fn rows_of(origin: &Origin, slot: u32, epoch: u64) -> Rows
     let every = origin.window.every;
     let before = epoch / every - origin.base.floor() / every;
     Rows {
-        is_recorded: is_recorded(epoch, every),
+        is_recorded: is_recorded(every, epoch),
         at: before as usize * origin.window.samples as usize,
         samples: origin.window.samples,
         slots: origin.base.slots.len(),

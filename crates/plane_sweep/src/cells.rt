@@ -9,6 +9,7 @@ ghost use Rattle.scalar_rule.specs.Positions as model;
 
 use crate::uneven::Place;
 use plain_list::Items;
+use scalar_rule::is_recorded;
 
 /// A place of the table.
 #[derive(Clone, Copy, Debug, PartialEq, Eq)]
@@ -44,7 +45,7 @@ pub fn has_record(cell: &Cell, places: &Items<Place>, every: u64) -> bool
     ensures { (c samples i : ℕ) → table.IsCell c samples (length (map uneven.position_of places.now)) i cell.now
         → result ≡ table.is_kept places.now c samples every i }
 {
-    cell.epoch % every == every - 1 && cell.epoch < places.at(cell.slot as usize).done()
+    is_recorded(every, cell.epoch) && cell.epoch < places.at(cell.slot as usize).done()
 }
 
 /// The greatest number of epochs that a slot has completed, counted from epoch 0.

@@ -4,12 +4,12 @@ ghost use Rattle.std.specs.Prelude.{◌≡◌, ◌*◌, ◌<◌, ◌≤◌, min,
 ghost use Rattle.plane_sweep.specs.Uneven.{position_of};
 ghost use Rattle.run_checkpoint.specs.UnevenDecoding as model;
 ghost use Rattle.spin_model.specs.Words.{one_if};
-ghost use Rattle.scalar_rule.specs.Epoch.{has_turn, has_partner};
 ghost use Rattle.scalar_rule.specs.Positions.{turns, done, position_in, floor_of, deepest_of, pending_count, is_pending};
 
 use crate::places::u64_at;
 use crate::refused::CheckpointRefused;
 use glass_edges::u32_at;
+use scalar_rule::{has_partner, has_turn, is_recorded};
 use spin_model::LAST_EPOCH;
 
 // The first slot with a wrong place, in the bytes of the positions.
@@ -53,7 +53,7 @@ fn is_wrong_place(bytes: &[u8], slots: usize, slot: usize) -> bool
     if !(phase == 0 || phase == 2) || epoch > LAST_EPOCH {
         return true;
     }
-    if phase == 2 && !has_partner(slots, slot, epoch) {
+    if phase == 2 && !has_partner(slots as u32, slot as u32, epoch) {
         return true;
     }
     if slot == 0 {
@@ -62,27 +62,8 @@ fn is_wrong_place(bytes: &[u8], slots: usize, slot: usize) -> bool
     let pair = slot - 1;
     let colder = u64_at(bytes, 9 * pair);
     turns(pair, colder) != turns(pair, epoch)
-        || (bytes[9 * pair + 8] == 2 && (phase == 2 && (colder == epoch && has_turn(pair, epoch))))
-}
-
-// Whether the pair has its turn at the epoch.
-fn has_turn(pair: usize, epoch: u64) -> bool
-    requires { pair ≤ 32 }
-    ensures { result ≡ has_turn pair epoch }
-{
-    (pair % 2 + (epoch % 2) as usize) % 2 == 0
-}
-
-// Whether the slot is in a pair that has its turn at the epoch.
-fn has_partner(slots: usize, slot: usize, epoch: u64) -> bool
-    requires { slot ≤ 32 }
-    ensures { result ≡ has_partner slots slot epoch }
-{
-    if has_turn(slot, epoch) {
-        slot + 1 < slots
-    } else {
-        0 < slot
-    }
+        || (bytes[9 * pair + 8] == 2
+            && (phase == 2 && (colder == epoch && has_turn(pair as u32, epoch))))
 }
 
 // How many of the epochs below one are turns of the pair; no epoch is too great.
@@ -179,7 +160,7 @@ fn is_pending(
     ensures { result ≡ is_pending (λ t. done (position_in (map position_of (model.places_in slots bytes.now)) t)) floor samples every slots cell }
 {
     let epoch = floor + (cell / slots / samples) as u64;
-    epoch % every == every - 1 && epoch < done_at(bytes, slots, cell % slots)
+    is_recorded(every, epoch) && epoch < done_at(bytes, slots, cell % slots)
 }
 
 // The least number of epochs that a slot has completed.
