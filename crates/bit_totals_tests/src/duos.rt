@@ -110,7 +110,7 @@ fn calls_agree<R: Threads + Sync>(
 
 #[test]
 fn sums_of_both_replicas_are_those_of_each(rt: HostRuntime) -> Result<(), Fail> {
-    for size in [6, 8, 48] {
+    for size in [6, 8, 32, 48] {
         calls_agree(&rt, rt.alloc(), size, RuleKind::Heat)?;
         calls_agree(&rt, rt.alloc(), size, RuleKind::Metropolis)?;
     }
