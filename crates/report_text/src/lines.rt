@@ -92,8 +92,8 @@ pub fn row<O: Sink>(
     line.put(out)
 }
 
-/// Adds the same behind a text that is still to be put. Where it might not fit there, the text goes out
-/// first.
+/// Adds the line of `row` behind a text that is still to be put. Where it might not fit there, the text
+/// goes out first.
 ///
 /// # Errors
 ///
