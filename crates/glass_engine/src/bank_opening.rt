@@ -18,6 +18,7 @@ use plane_sweep::{RaggedStand, Stand};
 use run_checkpoint::{Room, length};
 use run_plan::Orders;
 use scalar_rule::Plan;
+use spin_model::BANK_SAMPLES;
 use std::alloc::Global;
 use std::sync::Arc;
 
@@ -82,8 +83,8 @@ fn open_runs(
     let mut runs = Vec::with_capacity(alloc, plans.len())?;
     'banks: for stand in stands {
         let bank = runs.len();
-        let left = orders.samples - 64 * bank as u32;
-        let own = of_samples(orders, left.min(64));
+        let left = orders.samples - BANK_SAMPLES * bank as u32;
+        let own = of_samples(orders, left.min(BANK_SAMPLES));
         runs.push(open_bank(alloc, &plans[bank], &own, stand, until, workers)?)?;
     }
     Ok(runs)

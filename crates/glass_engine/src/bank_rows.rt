@@ -13,7 +13,7 @@ use crate::done::Done;
 use crate::rows::add_sample;
 use glass_edges::{Fault, Line, Sink};
 use run_plan::Orders;
-use scalar_rule::Record;
+use scalar_rule::{Record, is_recorded};
 
 /// What the rows of all banks are read from: the banks that were driven, the orders of the whole, and
 /// the number of slots.
@@ -98,7 +98,7 @@ fn add_bank_recorded<O: Sink>(
         else []))) }
     ensures cause { HasCause (O.faults out.old) (O.faults out.new) result }
 {
-    if epoch % rows.orders.every != rows.orders.every - 1 {
+    if !is_recorded(rows.orders.every, epoch) {
         return Ok(0);
     }
     add_bank_epoch(out, line, rows, epoch, passed)?;

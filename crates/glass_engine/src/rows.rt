@@ -12,7 +12,7 @@ ghost use Rattle.glass_engine.specs.Report as text;
 use exchange_board::Origin;
 use glass_edges::{Fault, Line, Sink};
 use report_text::add_row;
-use scalar_rule::Record;
+use scalar_rule::{Record, is_recorded};
 
 /// Which rows a run has: those of the first samples in every slot, of each so many epochs in the last.
 #[derive(Clone, Copy)]
@@ -106,7 +106,7 @@ fn add_recorded<O: Sink>(
         then piece_rows epoch shape.now.samples shape.now.slots records.now else []))) }
     ensures cause { HasCause (O.faults out.old) (O.faults out.new) result }
 {
-    if epoch % shape.every != shape.every - 1 {
+    if !is_recorded(shape.every, epoch) {
         return Ok(0);
     }
     add_epoch(out, line, shape, epoch, records)?;
