@@ -21,11 +21,9 @@ use coupling_set::CouplingsRefused;
 use glass_edges::Shelf;
 use plain_list::Items;
 use run_plan::{CouplingSource, RunFile};
+use spin_model::BANK_SAMPLES;
 use std::alloc::Global;
 use threshold_table::{RuleTable, TableRefused, read_rule, read_swap};
-
-/// The samples of a bank.
-const BANK_SAMPLES: u32 = 64;
 
 /// Reads the run file of a name, then the tables and couplings that it names, for a command that runs many
 /// banks of 64 samples or but one.

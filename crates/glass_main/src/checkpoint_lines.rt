@@ -1,6 +1,7 @@
 //! The lines of a refused checkpoint.
 
 ghost use Rattle.std.specs.Prelude.{◌++◌, codes, decimal};
+ghost use Rattle.hex.specs.Hex.{encode_lower};
 ghost use Rattle.glass_main.specs.Lines.{file_front, checkpoint_line};
 ghost use Rattle.glass_main.specs.Outside.{output};
 ghost use Rattle.glass_main.specs.Statuses.{Says};
@@ -8,6 +9,7 @@ ghost use Rattle.glass_main.specs.Statuses.{Says};
 use crate::digest_lines::{say_damage, say_digests};
 use crate::lines::{
     Numbers, add_file, say, say_end, say_file_number, say_file_numbers, say_number,
+    say_other_number,
 };
 use crate::role::Role;
 use glass_edges::{Line, Sink};
@@ -30,56 +32,46 @@ pub(crate) fn say_checkpoint<E: Sink>(err: &mut E, refused: &CheckpointRefused)
             say_file_numbers(err, file, numbers, b" has size ", b" and ", b" slots\n");
         }
         CheckpointRefused::Length { found, wanted } => {
-            let numbers = Numbers::of(found, wanted);
-            say_file_numbers(err, file, numbers, b" has ", b" bytes, not ", b"\n");
+            say_other_number(err, file, found, b" bytes, not ", wanted);
         }
         CheckpointRefused::Digest { stored, computed } => say_damage(err, file, &stored, &computed),
-        CheckpointRefused::OtherPlan { stored, mine } => {
-            say_digests(
-                err,
-                file,
-                b" is of another plan: ",
-                &stored,
-                &mine,
-                b" here\n",
-            );
-        }
+        CheckpointRefused::OtherPlan { stored, mine } => say_other_plan(err, &stored, &mine),
         CheckpointRefused::Replicas { slot, copy, sample } => say_label(err, slot, copy, sample),
         CheckpointRefused::Late { epoch, until } => {
             let numbers = Numbers::of(epoch, until);
             say_file_numbers(err, file, numbers, b" is at epoch ", b", past ", b"\n");
         }
         CheckpointRefused::NoMemory => say(err, b"glass: no memory\n"),
-        CheckpointRefused::Places { slot } => {
-            say_file_number(
-                err,
-                file,
-                b" has a wrong place at slot ",
-                slot as u64,
-                b"\n",
-            );
-        }
+        CheckpointRefused::Places { slot } => say_place(err, slot),
         CheckpointRefused::Orders { samples, every } => {
             let numbers = Numbers::of(samples as u64, every);
             say_file_numbers(err, file, numbers, b" is of samples=", b" every=", b"\n");
         }
         CheckpointRefused::Pending { found, wanted } => {
-            let numbers = Numbers::of(found, wanted);
-            say_file_numbers(
-                err,
-                file,
-                numbers,
-                b" has ",
-                b" pending records, not ",
-                b"\n",
-            );
+            say_other_number(err, file, found, b" pending records, not ", wanted);
         }
         CheckpointRefused::BankCount { found, wanted } => {
-            let numbers = Numbers::of(found as u64, wanted as u64);
-            say_file_numbers(err, file, numbers, b" has ", b" banks, not ", b"\n");
+            say_other_number(err, file, found as u64, b" banks, not ", wanted as u64);
         }
         CheckpointRefused::BankEpoch { bank, epoch, first } => say_bank(err, bank, epoch, first),
     }
+}
+
+fn say_other_plan<E: Sink>(err: &mut E, stored: &[u8; 32], mine: &[u8; 32])
+    ensures { Says (file_front Role.Checkpoint ++ codes " is of another plan: " ++ encode_lower stored.now
+        ++ codes " stored, " ++ encode_lower mine.now ++ codes " here\n")
+        (output E.taken E.faults err.old) (output E.taken E.faults err.new) }
+{
+    let before = b" is of another plan: ";
+    say_digests(err, Role::Checkpoint, before, stored, mine, b" here\n");
+}
+
+fn say_place<E: Sink>(err: &mut E, slot: u32)
+    ensures { Says (file_front Role.Checkpoint ++ codes " has a wrong place at slot " ++ decimal slot
+        ++ codes "\n") (output E.taken E.faults err.old) (output E.taken E.faults err.new) }
+{
+    let before = b" has a wrong place at slot ";
+    say_file_number(err, Role::Checkpoint, before, slot as u64, b"\n");
 }
 
 fn say_label<E: Sink>(err: &mut E, slot: u32, copy: u32, sample: u32)

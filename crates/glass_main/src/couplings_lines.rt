@@ -5,7 +5,7 @@ ghost use Rattle.glass_main.specs.Outside.{output};
 ghost use Rattle.glass_main.specs.Statuses.{Says};
 
 use crate::digest_lines::say_damage;
-use crate::lines::{Numbers, say, say_end, say_file_number, say_file_numbers};
+use crate::lines::{say, say_end, say_file_number, say_other_number};
 use crate::role::Role;
 use coupling_set::CouplingsRefused;
 use glass_edges::Sink;
@@ -29,8 +29,7 @@ pub(crate) fn say_couplings<E: Sink>(err: &mut E, refused: &CouplingsRefused)
             say_file_number(err, file, b" has ", found as u64, b" samples\n");
         }
         CouplingsRefused::Length { found, wanted } => {
-            let numbers = Numbers::of(found, wanted);
-            say_file_numbers(err, file, numbers, b" has ", b" bytes, not ", b"\n");
+            say_other_number(err, file, found, b" bytes, not ", wanted);
         }
         CouplingsRefused::Digest { stored, computed } => say_damage(err, file, &stored, &computed),
         CouplingsRefused::NoMemory => say(err, b"glass: no memory\n"),

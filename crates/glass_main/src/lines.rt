@@ -1,6 +1,6 @@
 //! The lines on the error output.
 
-ghost use Rattle.std.specs.Prelude.{◌≡◌, ◌+◌, ◌≤◌, ◌++◌, [], decimal, length};
+ghost use Rattle.std.specs.Prelude.{◌≡◌, ◌+◌, ◌≤◌, ◌++◌, [], codes, decimal, length};
 ghost use Rattle.glass_main.specs.Lines.{role_name, file_front, line_of, refusal_line};
 ghost use Rattle.glass_main.specs.Outside.{output};
 ghost use Rattle.glass_main.specs.Statuses.{status_of, Says, Told};
@@ -153,6 +153,23 @@ pub(crate) fn say_file_numbers<E: Sink>(
     line.add(before);
     line.number(numbers.first);
     say_number(err, &mut line, between, numbers.second, after);
+}
+
+/// Writes a line on a file that has another number of something than it should: what it has, the text
+/// between, and what is wanted.
+pub(crate) fn say_other_number<E: Sink>(
+    err: &mut E,
+    role: Role,
+    found: u64,
+    between: &[u8],
+    wanted: u64,
+)
+    requires { length between.now ≤ 80 }
+    ensures { Says (file_front role ++ codes " has " ++ decimal found ++ between.now ++ decimal wanted
+        ++ codes "\n") (output E.taken E.faults err.old) (output E.taken E.faults err.new) }
+{
+    let numbers = Numbers::of(found, wanted);
+    say_file_numbers(err, role, numbers, b" has ", between, b"\n");
 }
 
 /// Writes what the buffer has, and behind it a number between two texts.

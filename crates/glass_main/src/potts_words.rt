@@ -12,7 +12,7 @@ use crate::command_line::{read_numbers, size_word};
 use crate::words::{number_word, word_at};
 use lattice_geometry::Lattice;
 use potts_glass::{PottsRow, PottsStart};
-use spin_model::{CERTAIN, MOST_SWEEPS};
+use spin_model::{BANK_SAMPLES, CERTAIN, MOST_SWEEPS};
 
 /// The couplings of a Potts glass.
 #[derive(Clone, Copy, Debug, PartialEq, Eq)]
@@ -48,7 +48,7 @@ pub(crate) fn read_potts(words: &[String]) -> Option<PottsOrder>
     let lattice = size_word(word_at(words, 1))?;
     let sweeps = number_word(word_at(words, 2), 0, MOST_SWEEPS)? as u32;
     let seed = number_word(word_at(words, 3), 0, 9223372036854775807)?;
-    let samples = number_word(word_at(words, 4), 1, 64)? as u32;
+    let samples = number_word(word_at(words, 4), 1, BANK_SAMPLES as u64)? as u32;
     let couplings = couplings_word(word_at(words, 5))?;
     let start = start_word(word_at(words, 6))?;
     let row = row_words(words)?;

@@ -1,11 +1,11 @@
 //! The lines of a refused table.
 
 ghost use Rattle.std.specs.Prelude.{◌≡◌, ◌+◌, ◌≤◌, ◌++◌, [], codes, decimal, length};
-ghost use Rattle.glass_main.specs.Lines.{file_front, record_front, field_front, table_line};
+ghost use Rattle.glass_main.specs.Lines.{record_front, field_front, table_line};
 ghost use Rattle.glass_main.specs.Outside.{output};
 ghost use Rattle.glass_main.specs.Statuses.{Says};
 
-use crate::lines::{add_file, say, say_end, say_number};
+use crate::lines::{add_file, say, say_end, say_number, say_other_number};
 use crate::role::Role;
 use glass_edges::{Line, Sink};
 use threshold_table::TableRefused;
@@ -21,7 +21,9 @@ pub(crate) fn say_table<E: Sink>(err: &mut E, table: Role, refused: &TableRefuse
         TableRefused::Fields { at, found, wanted } => say_fields(err, table, at, found, wanted),
         TableRefused::Number { at, field } => say_no_number(err, table, at, field),
         TableRefused::TooGreat { at, field, value } => say_too_great(err, table, at, field, value),
-        TableRefused::Records { found, wanted } => say_records(err, table, found, wanted),
+        TableRefused::Records { found, wanted } => {
+            say_other_number(err, table, found, b" records, not ", wanted);
+        }
         TableRefused::NoMemory => say(err, b"glass: no memory\n"),
     }
 }
@@ -55,18 +57,6 @@ fn say_too_great<E: Sink>(err: &mut E, table: Role, at: u64, field: u64, value: 
     let mut line = Line::new();
     add_field(&mut line, table, at, field);
     say_number(err, &mut line, b" is too great: ", value, b"\n");
-}
-
-fn say_records<E: Sink>(err: &mut E, table: Role, found: u64, wanted: u64)
-    ensures { Says (file_front table ++ codes " has " ++ decimal found ++ codes " records, not "
-        ++ decimal wanted ++ codes "\n")
-        (output E.taken E.faults err.old) (output E.taken E.faults err.new) }
-{
-    let mut line = Line::new();
-    add_file(&mut line, table);
-    line.add(b" has ");
-    line.number(found);
-    say_number(err, &mut line, b" records, not ", wanted, b"\n");
 }
 
 // Adds the front of a line on a record.
