@@ -93,7 +93,7 @@ INLINE void fill(draw_row wheel[RING], draw_row *out, size_t count) {
         wheel[k] = ring[(k + done) % RING];
 }
 
-/* The same of a multiple of 8: row by row in memory, where the ring stands begins elsewhere each time. */
+/* The same of a multiple of 8, row by row in memory: the ring then begins at any of its rows. */
 INLINE void fill_rows(draw_row wheel[RING], draw_row *out, size_t count) {
     draw_row ring[2 * RING];
     size_t rows = 4 * count / BYTES, done = rows % RING;
