@@ -3,7 +3,7 @@ use Rattle.std.proofs.Common.{◌≡◌, ℕ, ◌<◌, Bool, true, false, Option
 use Rattle.std.specs.Prelude.{◌&&◌, nat_lt, if◌then◌else◌}
 use Rattle.std.proofs.lemmas.Bool.Decides.{nat_tests}
 use Rattle.glass_edges.specs.Refusals.{or_else, unless}
-use Rattle.run_plan.specs.Amounts.{spin_bits, row_count, spins_refusal, rows_refusal, amount_refusal}
+use Rattle.run_plan.specs.Amounts.{most_spins, spin_bits, row_count, spins_refusal, rows_refusal, amount_refusal}
 use Rattle.run_plan.specs.declared.refused.PlanRefused.{PlanRefused}
 use Rattle.run_plan.specs.declared.refused.PlanRefused.TheVariants.{Rows, Spins}
 use Rattle.run_plan.specs.declared.run_file.Orders.{Orders}
@@ -28,7 +28,7 @@ either-past : (first later : Option PlanRefused) → IfSome first (λ d. IsOfAmo
 either-past None later p q = q
 either-past (Some e) later p q = p
 
-bits-past : (ordered : Bool) (bits : ℕ) → (ordered && nat_lt 268435456 bits) ≡ true → 268435456 < bits
+bits-past : (ordered : Bool) (bits : ℕ) → (ordered && nat_lt most_spins bits) ≡ true → most_spins < bits
 bits-past ordered bits test = grind (arith, nat_tests)
 
 count-past : (count : ℕ) → nat_lt 4194304 count ≡ true → 4194304 < count
@@ -38,7 +38,7 @@ amount-past : (plan : model.Plan) (orders : Orders) (from until : ℕ) → IfSom
 unfolding amount_refusal
 amount-past plan orders from until =
     either-past (spins_refusal plan orders) (rows_refusal plan orders from until)
-    (tested-past (orders.spins && nat_lt 268435456 (spin_bits plan orders)) (Spins (spin_bits plan orders)) (bits-past orders.spins (spin_bits plan orders)))
+    (tested-past (orders.spins && nat_lt most_spins (spin_bits plan orders)) (Spins (spin_bits plan orders)) (bits-past orders.spins (spin_bits plan orders)))
     (tested-past (nat_lt 4194304 (row_count plan orders from until)) (Rows (row_count plan orders from until)) (count-past (row_count plan orders from until)))
 
 refused-past : (found : Option PlanRefused) (tested : Result (Unit {0}) PlanRefused) (e : PlanRefused) → IfSome found (λ d. IsOfAmount (Plan d)) → tested ≡ Err e → tested ≡ unless found tt → IsOfAmount (Plan e)

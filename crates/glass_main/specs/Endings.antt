@@ -14,6 +14,7 @@ use Rattle.run_checkpoint.specs.Decoding.{level_refusal}
 use Rattle.run_checkpoint.specs.UnevenDecoding.{any_refusal}
 use Rattle.run_checkpoint.specs.declared.refused.CheckpointRefused.{CheckpointRefused}
 use Rattle.run_checkpoint.specs.declared.refused.CheckpointRefused.TheVariants as checkpoint
+use Rattle.run_plan.specs.Amounts.{most_spins}
 use Rattle.run_plan.specs.RunFile.{run_file}
 use Rattle.run_plan.specs.declared.refused.PlanRefused.{PlanRefused}
 use Rattle.run_plan.specs.declared.refused.PlanRefused.TheVariants as plan
@@ -97,7 +98,7 @@ TellsLength lengths told = Unit {0}
 -- a refusal of what a run prints; the amount that is told is above its limit
 abbrev pub IsOfAmount : Refusal → Type 0
 IsOfAmount (refused.Plan (plan.Rows count)) = most_rows < count
-IsOfAmount (refused.Plan (plan.Spins bits)) = 268435456 < bits
+IsOfAmount (refused.Plan (plan.Spins bits)) = most_spins < bits
 IsOfAmount told = ⊥
 
 -- ---- files that are fetched

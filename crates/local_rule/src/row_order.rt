@@ -7,7 +7,7 @@ use threshold_table::{RuleKind, RuleRow, SlotRule};
 
 /// Whether no threshold of heat bath is above that of one more aligned neighbour.
 #[inline(always)]
-pub fn is_rising(row: &RuleRow) -> bool
+pub(crate) fn is_rising(row: &RuleRow) -> bool
     ensures { result ≡ is_rising row.now.values }
 {
     let t = &row.values;
@@ -16,7 +16,7 @@ pub fn is_rising(row: &RuleRow) -> bool
 
 /// Whether no threshold of Metropolis is above that of one satisfied bond less.
 #[inline(always)]
-pub fn is_falling(row: &RuleRow) -> bool
+pub(crate) fn is_falling(row: &RuleRow) -> bool
     ensures { result ≡ is_falling row.now.values }
 {
     let t = &row.values;

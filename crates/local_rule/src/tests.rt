@@ -1,6 +1,7 @@
 ghost use Rattle.std.specs.Prelude.{◌≡◌};
 
 use super::*;
+use crate::row_order::{is_falling, is_rising};
 use threshold_table::{RuleKind, RuleRow, SlotRule};
 
 /// Set in the samples 1 to 5 in 1, 2, 6, 4 and 5 of them, and in no other sample.

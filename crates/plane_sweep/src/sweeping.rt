@@ -130,7 +130,7 @@ fn sweep_both(planes: &mut [Plane], dynamics: &Dynamics, draws: &mut [u32], size
     sweep_halves(first, second, dynamics, draws, size);
 }
 
-// The planes of both colours, by code of its own for the sizes that are multiples of 8.
+// The planes of both colours, by code of its own at sizes 8, 16, 24 and 32.
 fn sweep_halves(
     first: &mut [Plane],
     second: &mut [Plane],

@@ -8,6 +8,10 @@ use Rattle.run_plan.specs.declared.run_file.Orders.{Orders}
 use Rattle.run_plan.specs.declared.refused.PlanRefused.{PlanRefused}
 use Rattle.run_plan.specs.declared.refused.PlanRefused.TheVariants as refused
 
+-- the most spins that a run prints
+abbrev pub most_spins : ℕ
+most_spins = 268435456
+
 -- the spins of a state: of each printed sample and slot those of two replicas
 abbrev pub spin_bits : Plan → Orders → ℕ
 spin_bits plan orders = orders.samples * slots_of plan * 2 * volume plan.size
@@ -20,10 +24,10 @@ recorded_epochs every from until = until / every - from / every
 abbrev pub row_count : Plan → Orders → ℕ → ℕ → ℕ
 row_count plan orders from until = orders.samples * slots_of plan * recorded_epochs orders.every from until
 
--- spins are refused where they are to be printed and would be more than 2 ^ 28
+-- spins are refused where they are to be printed and would be too many
 abbrev pub spins_refusal : Plan → Orders → Option PlanRefused
 spins_refusal plan orders =
-    if orders.spins && nat_lt 268435456 (spin_bits plan orders) then Some (refused.Spins (spin_bits plan orders)) else None
+    if orders.spins && nat_lt most_spins (spin_bits plan orders) then Some (refused.Spins (spin_bits plan orders)) else None
 
 -- rows are refused where they would be more than 2 ^ 22
 abbrev pub rows_refusal : Plan → Orders → ℕ → ℕ → Option PlanRefused
