@@ -6,7 +6,7 @@ use Rattle.std.proofs.lemmas.List.{length-map, length-drop, length-take-le, get_
 use Rattle.std.proofs.lemmas.List.Sums.{sum_by-cons}
 use Rattle.std.proofs.lemmas.Nat.{div-add-mod', div-mul-add, mod-mul-add, div_below, mod_below}
 use Rattle.coupling_set.specs.CouplingWords.{CouplingsView, bonds_of}
-use Rattle.local_rule.specs.SiteBits.{site_bits}
+use Rattle.local_rule.specs.SiteBits.{equal_count, site_bits}
 use Rattle.multispin_word.specs.Planes.{differs, is_set}
 use Rattle.spin_model.specs.Couplings.{Bonds}
 use Rattle.spin_model.specs.Lattice.{IsLawfulSize, half_plane, half_volume, from_compact}
@@ -16,12 +16,12 @@ use Rattle.scalar_rule.proofs.Extremes.{sum-same, sum-most}
 use Rattle.plane_sweep.specs.Beginnings.{site_of}
 use Rattle.plane_sweep.specs.Neighbourhood.{pulls, Surrounds}
 use Rattle.plane_sweep.specs.Packed.{plane_at, spins_of, FitsPlane}
-use Rattle.plane_sweep.specs.PlaneSweep.{agreeing_count, pulls_lent, IsRow}
+use Rattle.plane_sweep.specs.PlaneSweep.{pulls_lent, IsRow}
 use Rattle.plane_sweep.specs.declared.replica.Plane.{Plane}
 use Rattle.plane_sweep.specs.declared.rows.Row.{Row}
 use Rattle.plane_sweep.specs.declared.surroundings.Surroundings.{Surroundings}
 use Rattle.plane_sweep.proofs.SamplePulls.{AreOthers, spin-place, has-counts}
-use Rattle.plane_sweep.proofs.SixWords.{equal-agreeing, pulls-lent}
+use Rattle.plane_sweep.proofs.SixWords.{pulls-lent}
 use Rattle.bit_totals.specs.Counted.{unsatisfied_at, unsatisfied_from}
 use Rattle.bit_totals.specs.RowBonds.{against_count, plane_count, row_count}
 use Rattle.bit_totals.proofs.ColourBonds.{sum-behind}
@@ -42,11 +42,11 @@ count-rest {X} p (x ∷ xs) =
     omega arith
 
 -- a bond is unsatisfied or not
-against-rest : (six : List ℕ) (w b : ℕ) → against_count six w b + agreeing_count six w b ≡ length six
+against-rest : (six : List ℕ) (w b : ℕ) → against_count six w b + equal_count six w b ≡ length six
 against-rest six w b =
     let rest = count-rest (λ bit. differs bit (is_set w b)) (site_bits six b) in
     let bits = length-map six (λ word. is_set word b) in
-    omega (arith, rest, bits, equal-agreeing six w b)
+    omega (arith, rest, bits)
 
 at-rest : (l : ℕ) (bonds : Bonds) (spins : List Bool) (i : ℕ) → satisfied l bonds spins i + unsatisfied_at l bonds spins i ≡ 6
 unfolding satisfied unsatisfied_at

@@ -6,14 +6,14 @@ use Rattle.std.proofs.lemmas.Nat.{div-mul-add, mod-mul-add}
 use Rattle.std.proofs.Math.Nat.{add-mul}
 use borrow.Rule.Slice.PartMut.{put_mid}
 use Rattle.coupling_set.specs.CouplingWords.{CouplingsView}
-use Rattle.local_rule.specs.SiteBits.{lane_words, set_count}
+use Rattle.local_rule.specs.SiteBits.{equal_count, lane_words, set_count}
 use Rattle.spin_model.specs.Lattice.{IsLawfulSize, half_plane}
 use Rattle.spin_model.specs.SiteRule.{new_spin}
 use Rattle.spin_model.specs.Words.{is_set}
 use Rattle.spin_model.proofs.CompactOrder.{in_plane}
 use Rattle.threshold_table.specs.Tables.{rule_of}
 use Rattle.plane_sweep.specs.Neighbourhood.{pulls, Surrounds}
-use Rattle.plane_sweep.specs.PlaneSweep.{agreeing_count, SweepsWord, SweepsWords, SweepsFour, SweepsRow, IsRow, pulls_lent}
+use Rattle.plane_sweep.specs.PlaneSweep.{SweepsWord, SweepsWords, SweepsFour, SweepsRow, IsRow, pulls_lent}
 use Rattle.plane_sweep.specs.declared.replica.Plane.{Plane}
 use Rattle.plane_sweep.specs.declared.rows.Row.{Row}
 use Rattle.threshold_table.specs.declared.rule_table.SlotRule.{SlotRule}
@@ -29,7 +29,7 @@ row-same m l c z y row same at = let P : ℕ → Type 0 = λ n. IsRow n c z y ro
 pub four-written : (rule : SlotRule) (draws : List ℕ) (at m : ℕ) (words drawn before after : List ℕ) (rows : List (List ℕ)) → m ≡ 4 → at + 4 ≤ length words
     → ((i : ℕ) → i < 4 → get_or before i 0 ≡ get_or words (at + i) 0) → ((i : ℕ) → i < 4 → get_or drawn i 0 ≡ get_or draws (at + i) 0) → length after ≡ 4
     → ((j : ℕ) → get_or (put_mid at m words after) j 0 < 2 ^ 64)
-    → ((i b : ℕ) → i < 4 → b < 64 → is_set (get_or after i 0) b ≡ new_spin (rule_of rule.kind) rule.row.values (set_count (lane_words rows i) b) (agreeing_count (lane_words rows i) (get_or before i 0) b) (get_or drawn i 0) (is_set (get_or before i 0) b))
+    → ((i b : ℕ) → i < 4 → b < 64 → is_set (get_or after i 0) b ≡ new_spin (rule_of rule.kind) rule.row.values (set_count (lane_words rows i) b) (equal_count (lane_words rows i) (get_or before i 0) b) (get_or drawn i 0) (is_set (get_or before i 0) b))
     → SweepsFour (lane_words rows) rule draws at words (put_mid at m words after)
 four-written rule draws at m words drawn before after rows four within old numbers sized range made = record {
   sized = mid-sized at m words after (omega arith) (omega arith);

@@ -1,11 +1,12 @@
 -- The six words of a site are, in each sample, the pulls of its six neighbours.
 use Rattle.std.proofs.Common.{◌≡◌, ℕ, ◌+◌, ◌-◌, ◌*◌, ◌/◌, ◌%◌, ◌<◌, Bool, true, false, bit_xor, List, get_or, refl, sym, ap, ◌∙◌, arith}
 use Rattle.std.proofs.lemmas.Nat.{mod_below}
+use Rattle.std.specs.Prelude.{count_by}
 use Rattle.coupling_set.specs.CouplingWords.{CouplingsView, bond_word, bonds_of}
-use Rattle.local_rule.specs.SiteBits.{set_count}
+use Rattle.local_rule.specs.SiteBits.{equal_count, set_count, site_bits}
 use Rattle.multispin_word.specs.Planes.{differs}
 use Rattle.multispin_word.proofs.Bits.{is_set-xor}
-use Rattle.scalar_rule.specs.Neighbours.{spin, coupled, aligned, satisfied}
+use Rattle.scalar_rule.specs.Neighbours.{spin, agree, coupled, aligned, satisfied}
 use Rattle.spin_model.specs.Lattice.{IsLawfulSize, volume, bond, forward, backward, half_plane, next, previous}
 use Rattle.spin_model.specs.Words.{is_set}
 use Rattle.spin_model.proofs.Tables.{get_or-table}
@@ -13,11 +14,10 @@ use Rattle.spin_model.proofs.CompactOrder.{in_plane}
 use Rattle.plane_sweep.specs.Packed.{plane_at, word_at, spins_of}
 use Rattle.plane_sweep.specs.Beginnings.{site_of}
 use Rattle.plane_sweep.specs.Neighbourhood.{pulls}
-use Rattle.plane_sweep.specs.PlaneSweep.{agreeing_count}
 use Rattle.plane_sweep.specs.declared.replica.Plane.{Plane}
 use Rattle.plane_sweep.proofs.PlaneSites.{site_of-below}
 use Rattle.plane_sweep.proofs.PlaneNeighbours.{right-neighbour, left-neighbour, up-neighbour, down-neighbour, above-neighbour, below-neighbour, site_of-at}
-use Rattle.plane_sweep.proofs.SixWords.{right-within, left-within}
+use Rattle.plane_sweep.proofs.SixWords.{equal-agreeing, right-within, left-within}
 
 -- the planes of the other colour among all planes
 abbrev pub AreOthers : ℕ → ℕ → List Plane → List Plane → Type 0
@@ -76,7 +76,7 @@ behind-word couplings planes other b c z j d i lawful chosen plane within direct
 -- the counts at a site
 pub record HasCounts (couplings : CouplingsView) (planes other : List Plane) (b c z y k word : ℕ) : Type 0 where
   pub aligned_count : set_count (pulls couplings other c z y k) b ≡ aligned couplings.size (bonds_of couplings b) (spins_of couplings.size b planes) (site_of couplings.size c z (y * (couplings.size / 2) + k))
-  pub satisfied_count : agreeing_count (pulls couplings other c z y k) word b ≡ satisfied couplings.size (bonds_of couplings b) (spins_of couplings.size b planes) (site_of couplings.size c z (y * (couplings.size / 2) + k))
+  pub satisfied_count : equal_count (pulls couplings other c z y k) word b ≡ satisfied couplings.size (bonds_of couplings b) (spins_of couplings.size b planes) (site_of couplings.size c z (y * (couplings.size / 2) + k))
 
 pub has-counts : (couplings : CouplingsView) (planes other : List Plane) (b c z y k word : ℕ) → IsLawfulSize couplings.size → c < 2 → z < couplings.size → y < couplings.size → k < couplings.size / 2
     → AreOthers couplings.size c planes other → is_set word b ≡ spin (spins_of couplings.size b planes) (site_of couplings.size c z (y * (couplings.size / 2) + k))
@@ -96,7 +96,9 @@ has-counts couplings planes other b c z y k word lawful chosen plane row column 
     let e₃ = behind-word couplings planes other b c z _ 0 i lawful chosen plane (left-within l p y k lawful row column) (omega arith) others (left-neighbour l c z y k lawful chosen plane row column) in
     let e₄ = behind-word couplings planes other b c z _ 1 i lawful chosen plane (in_plane l (previous l y) k back column) (omega arith) others (down-neighbour l c z y k lawful chosen plane row column) in
     let e₅ = behind-word couplings planes other b c (previous l z) _ 2 i lawful chosen back_z (in_plane l y k row column) (omega arith) others (below-neighbour l c z y k lawful chosen plane row column) in
+    let six = pulls couplings other c z y k in
+    let agreeing : count_by (λ bit. agree bit (is_set word b)) (site_bits six b) ≡ satisfied l (bonds_of couplings b) (spins_of l b planes) i = rw (e₀, e₁, e₂, e₃, e₄, e₅, here) refl in
     record {
       aligned_count = rw (e₀, e₁, e₂, e₃, e₄, e₅) refl;
-      satisfied_count = rw (e₀, e₁, e₂, e₃, e₄, e₅, here) refl;
+      satisfied_count = equal-agreeing six word b ∙ agreeing;
     }

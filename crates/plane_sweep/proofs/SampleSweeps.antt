@@ -4,6 +4,7 @@ use Rattle.std.proofs.lemmas.Bool.{cases_eq}
 use Rattle.std.proofs.lemmas.List.{length-map, length-set, get_or-map, get_or-set_same, get_or-set_other, same_lists, get_or_default}
 use Rattle.std.proofs.lemmas.Nat.{div_below, mod_below, div-add-mod'}
 use Rattle.coupling_set.specs.CouplingWords.{CouplingsView, bonds_of}
+use Rattle.local_rule.specs.SiteBits.{equal_count}
 use Rattle.spin_model.specs.Lattice.{IsLawfulSize, volume, half_plane}
 use Rattle.spin_model.specs.SiteRule.{new_spin}
 use Rattle.spin_model.specs.Steps.{steps}
@@ -18,7 +19,7 @@ use Rattle.threshold_table.specs.Tables.{rule_of}
 use Rattle.plane_sweep.specs.Packed.{plane_at, spins_of, generators_of}
 use Rattle.plane_sweep.specs.Beginnings.{site_of}
 use Rattle.plane_sweep.specs.Neighbourhood.{pulls}
-use Rattle.plane_sweep.specs.PlaneSweep.{agreeing_count, SweepsPlane}
+use Rattle.plane_sweep.specs.PlaneSweep.{SweepsPlane}
 use Rattle.plane_sweep.specs.declared.replica.Plane.{Plane}
 use Rattle.threshold_table.specs.declared.rule_table.SlotRule.{SlotRule}
 use Rattle.plane_sweep.proofs.Empties.{no_plane}
@@ -80,7 +81,7 @@ swept-bit couplings rule b c z j other planes new lawful below chosen plane with
     let number = draw-at l c z j planes lawful chosen plane within inside in
     let site : site_of l c z (y * half + k) ≡ site_of l c z j = ap (site_of l c z) parts in
     ((swept.own z plane).words.done j 0 within).bits b below
-    ∙ ap (λ a. new_spin rule_at values a (agreeing_count (pulls couplings other c z y k) word b) (get_or (draws old.wheel (half_plane l)) j 0) (is_set word b))
+    ∙ ap (λ a. new_spin rule_at values a (equal_count (pulls couplings other c z y k) word b) (get_or (draws old.wheel (half_plane l)) j 0) (is_set word b))
     (counts.aligned_count ∙ ap (aligned l (bonds_of couplings b) (spins_of l b planes)) site)
     ∙ ap (λ s. new_spin rule_at values (aligned l (bonds_of couplings b) (spins_of l b planes) (site_of l c z j)) s (get_or (draws old.wheel (half_plane l)) j 0) (is_set word b))
     (counts.satisfied_count ∙ ap (satisfied l (bonds_of couplings b) (spins_of l b planes)) site)

@@ -13,7 +13,7 @@ use Rattle.spin_model.specs.Words.{is_set}
 use Rattle.spin_model.proofs.CompactOrder.{in_plane}
 use Rattle.plane_sweep.specs.Beginnings.{site_of}
 use Rattle.plane_sweep.specs.Neighbourhood.{pulls, Surrounds, IsLent, right_place, left_place}
-use Rattle.plane_sweep.specs.PlaneSweep.{agreeing_count, IsRow, HasRows, pulls_lent}
+use Rattle.plane_sweep.specs.PlaneSweep.{IsRow, HasRows, pulls_lent}
 use Rattle.plane_sweep.specs.declared.replica.Plane.{Plane}
 use Rattle.plane_sweep.specs.declared.rows.Row.{Row}
 use Rattle.plane_sweep.specs.declared.surroundings.Surroundings.{Surroundings}
@@ -29,7 +29,7 @@ is_set-agree a b k a_fits b_fits below =
     is_set-not (bit_xor a b) k (xor_lt 64 a b a_fits b_fits) below ∙ ap not (is_set-xor a b k) ∙ not-differs (is_set a k) (is_set b k)
 
 -- the bits that are equal to the spin agree with it
-pub equal-agreeing : (six : List ℕ) (w b : ℕ) → equal_count six w b ≡ agreeing_count six w b
+pub equal-agreeing : (six : List ℕ) (w b : ℕ) → equal_count six w b ≡ count_by (λ bit. agree bit (is_set w b)) (site_bits six b)
 equal-agreeing six w b = λ i. count_by (λ bit. not-differs bit (is_set w b) i) (site_bits six b)
 
 -- six words that agree bit by bit
@@ -40,8 +40,11 @@ pub agreeing-six : (six : List ℕ) (w b : ℕ) (p q r s t u : ℕ) → length s
     → is_set s b ≡ agree (is_set (get_or six 3 0) b) (is_set w b)
     → is_set t b ≡ agree (is_set (get_or six 4 0) b) (is_set w b)
     → is_set u b ≡ agree (is_set (get_or six 5 0) b) (is_set w b)
-    → set_count (p ∷ q ∷ r ∷ s ∷ t ∷ u ∷ []) b ≡ agreeing_count six w b
-agreeing-six (x₀ ∷ x₁ ∷ x₂ ∷ x₃ ∷ x₄ ∷ x₅ ∷ []) w b p q r s t u sized e₀ e₁ e₂ e₃ e₄ e₅ = rw (e₀, e₁, e₂, e₃, e₄, e₅) refl
+    → set_count (p ∷ q ∷ r ∷ s ∷ t ∷ u ∷ []) b ≡ equal_count six w b
+agreeing-six (x₀ ∷ x₁ ∷ x₂ ∷ x₃ ∷ x₄ ∷ x₅ ∷ []) w b p q r s t u sized e₀ e₁ e₂ e₃ e₄ e₅ =
+    let six = x₀ ∷ x₁ ∷ x₂ ∷ x₃ ∷ x₄ ∷ x₅ ∷ [] in
+    let agreeing : set_count (p ∷ q ∷ r ∷ s ∷ t ∷ u ∷ []) b ≡ count_by (λ bit. agree bit (is_set w b)) (site_bits six b) = rw (e₀, e₁, e₂, e₃, e₄, e₅) refl in
+    agreeing ∙ sym (equal-agreeing six w b)
 agreeing-six [] w b p q r s t u sized e₀ e₁ e₂ e₃ e₄ e₅ = absurd (omega (arith, sized))
 agreeing-six (x₀ ∷ []) w b p q r s t u sized e₀ e₁ e₂ e₃ e₄ e₅ = absurd (omega (arith, sized))
 agreeing-six (x₀ ∷ x₁ ∷ []) w b p q r s t u sized e₀ e₁ e₂ e₃ e₄ e₅ = absurd (omega (arith, sized))

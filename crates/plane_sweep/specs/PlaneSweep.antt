@@ -1,8 +1,7 @@
 -- The sweep of the sites of one colour in a plane, for 64 samples at once.
-use Rattle.std.specs.Prelude.{◌≡◌, ◌≢◌, ℕ, ◌+◌, ◌*◌, ◌/◌, ◌%◌, ◌^◌, ◌<◌, ◌≤◌, ◌==◌, if◌then◌else◌, bit_xor, List, [], ◌∷◌, take, drop, length, slice_index, slice_index_or, count_by, All}
+use Rattle.std.specs.Prelude.{◌≡◌, ◌≢◌, ℕ, ◌+◌, ◌*◌, ◌/◌, ◌%◌, ◌^◌, ◌<◌, ◌≤◌, ◌==◌, if◌then◌else◌, bit_xor, List, [], ◌∷◌, take, drop, length, slice_index, slice_index_or, All}
 use Rattle.coupling_set.specs.CouplingWords.{CouplingsView}
-use Rattle.local_rule.specs.SiteBits.{site_bits, set_count}
-use Rattle.scalar_rule.specs.Neighbours.{agree}
+use Rattle.local_rule.specs.SiteBits.{equal_count, set_count}
 use Rattle.spin_model.specs.Lattice.{half_plane, next, previous, IsLawfulSize}
 use Rattle.spin_model.specs.Limits.{greatest_half_plane}
 use Rattle.spin_model.specs.SiteRule.{Rule, new_spin}
@@ -17,14 +16,10 @@ use Rattle.plane_sweep.specs.declared.rows.Row.{Row}
 use Rattle.threshold_table.specs.declared.rule_table.SlotRule.{SlotRule}
 use Rattle.plane_sweep.specs.declared.surroundings.Surroundings.{Surroundings}
 
--- how many of the six neighbours of sample b agree with its spin: J s s' = +1
-abbrev pub agreeing_count : List ℕ → ℕ → ℕ → ℕ
-agreeing_count six word b = count_by (λ bit. agree bit (is_set word b)) (site_bits six b)
-
 -- a word after its site's update: in each sample the spin rule on the sample's six bits and its spin
 pub record SweepsWord (rule : Rule) (thresholds six : List ℕ) (random old new : ℕ) : Type 0 where
   pub in_range : new < 2 ^ 64
-  pub bits : (b : ℕ) → b < 64 → is_set new b ≡ new_spin rule thresholds (set_count six b) (agreeing_count six old b) random (is_set old b)
+  pub bits : (b : ℕ) → b < 64 → is_set new b ≡ new_spin rule thresholds (set_count six b) (equal_count six old b) random (is_set old b)
 
 -- the words of plane z of colour c after the first n of its sites are updated, each by its draw
 abbrev pub SweepsWords : CouplingsView → List Plane → SlotRule → List ℕ → ℕ → ℕ → ℕ → List ℕ → List ℕ → Type 0

@@ -1,9 +1,9 @@
 //! The new words of four sites side by side in a row, by vector lanes.
 
 ghost use Rattle.std.specs.Prelude.{◌≡◌, ℕ, ◌+◌, ◌<◌, ◌≤◌, bit_xor, length, slice_index};
-ghost use Rattle.local_rule.specs.SiteBits.{lane_words, set_count};
+ghost use Rattle.local_rule.specs.SiteBits.{equal_count, lane_words, set_count};
 ghost use Rattle.multispin_word.specs.Planes.{is_set};
-ghost use Rattle.plane_sweep.specs.PlaneSweep.{agreeing_count, left_column, pulls_lent, right_column, HasRows, SweepsFour, SweepsRow};
+ghost use Rattle.plane_sweep.specs.PlaneSweep.{left_column, pulls_lent, right_column, HasRows, SweepsFour, SweepsRow};
 ghost use Rattle.spin_model.specs.Limits.{greatest_half_plane};
 ghost use Rattle.spin_model.specs.SiteRule.{new_spin};
 ghost use Rattle.threshold_table.specs.Tables.{rule_of};
@@ -179,7 +179,7 @@ fn one_back(before: u64x4, words: u64x4) -> u64x4
 fn new_words(rule: &ReadyRule, draws: &[u32; 4], six: &[[u64; 4]; 6], words: &[u64; 4]) -> [u64; 4]
     ensures { (i b : ℕ) → i < 4 → b < 64 → is_set (slice_index result i) b
         ≡ new_spin (rule_of rule.now.kind) rule.now.row.values (set_count (lane_words six.now i) b)
-        (agreeing_count (lane_words six.now i) (slice_index words.now i) b) (slice_index draws.now i) (is_set (slice_index words.now i) b) }
+        (equal_count (lane_words six.now i) (slice_index words.now i) b) (slice_index draws.now i) (is_set (slice_index words.now i) b) }
 {
     match rule.kind() {
         RuleKind::Heat => heat_bath_sites(draws, rule, six),

@@ -1,8 +1,8 @@
 //! The new words of a plane's sites, row by row.
 
 ghost use Rattle.std.specs.Prelude.{◌≡◌, ℕ, ◌+◌, ◌-◌, ◌*◌, ◌/◌, ◌%◌, ◌<◌, ◌≤◌, ◌==◌, if◌then◌else◌, length, All};
-ghost use Rattle.local_rule.specs.SiteBits.{set_count};
-ghost use Rattle.plane_sweep.specs.PlaneSweep.{agreeing_count, left_column, pulls_lent, right_column, SweepsRow, SweepsWord, SweepsWords, IsRow, HasRows};
+ghost use Rattle.local_rule.specs.SiteBits.{equal_count, set_count};
+ghost use Rattle.plane_sweep.specs.PlaneSweep.{left_column, pulls_lent, right_column, SweepsRow, SweepsWord, SweepsWords, IsRow, HasRows};
 ghost use Rattle.plane_sweep.specs.Packed.{FitsPlane};
 ghost use Rattle.scalar_rule.specs.Neighbours.{agree};
 ghost use Rattle.spin_model.specs.Lattice.{half_plane, next, previous, IsLawfulSize};
@@ -291,7 +291,7 @@ fn new_word(rule: &ReadyRule, draw: u32, six: &[u64; 6], word: u64) -> u64
 // The samples in which each of the six agrees with the spin.
 #[inline(always)]
 fn agreeing(six: &[u64; 6], word: u64) -> [u64; 6]
-    ensures { (b : ℕ) → b < 64 → set_count result b ≡ agreeing_count six.now word b }
+    ensures { (b : ℕ) → b < 64 → set_count result b ≡ equal_count six.now word b }
 {
     [
         agree(six[0], word),

@@ -1,12 +1,7 @@
-use Rattle.std.proofs.Common.{slice_index}
-use Rattle.local_rule.specs.SiteBits.{lane_words}
-use Rattle.plane_sweep.proofs.SixWords.{equal-agreeing}
 use Rattle.plane_sweep.proofs.lanes.new_words.Goals as goal
 
 pub returns-in-Heat : goal.returns-in-Heat
 returns-in-Heat c = λ i b lane below. rw (← c.kind.ensures, c.in-Heat.is) (c.heat_bath_sites.ensures i b lane below)
 
 pub returns-in-Metropolis : goal.returns-in-Metropolis
-returns-in-Metropolis c = λ i b lane below.
-    rw (← c.kind.ensures, c.in-Metropolis.is, ← equal-agreeing (lane_words c.args.six.now i) (slice_index c.args.words.now i) b)
-    (c.metropolis_sites.ensures i b lane below)
+returns-in-Metropolis c = λ i b lane below. rw (← c.kind.ensures, c.in-Metropolis.is) (c.metropolis_sites.ensures i b lane below)
