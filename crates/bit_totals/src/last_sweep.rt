@@ -21,7 +21,7 @@ use crate::counted_rows::sweep_plane_counted;
 use crate::tally::Tally;
 use multispin_word::Planes;
 use plane_sweep::{
-    Dynamics, HalfPlane, PLANE_DRAWS, Plane, Replica, SMALL_DRAWS, SMALL_SIZE, rule_of_slot,
+    Dynamics, HalfPlane, PLANE_DRAWS, Plane, Replica, SMALL_DRAWS, is_small, rule_of_slot,
     sweep_plane,
 };
 use scalar_rule::Plan;
@@ -78,7 +78,7 @@ fn sweep_colours(planes: &mut [Plane], dynamics: &Dynamics, size: usize) -> Tall
         ≡ unsatisfied_from dynamics.now.couplings.now.size (bonds_of dynamics.now.couplings.now b)
         (spins_of dynamics.now.couplings.now.size b planes.new) 1 (dynamics.now.couplings.now.size * half_plane dynamics.now.couplings.now.size) }
 {
-    if size <= SMALL_SIZE {
+    if is_small(size) {
         sweep_both(planes, dynamics, &mut [0u32; SMALL_DRAWS], size)
     } else {
         sweep_both(planes, dynamics, &mut [0u32; PLANE_DRAWS], size)

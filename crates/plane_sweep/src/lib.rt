@@ -23,7 +23,7 @@ mod sweeping;
 mod uneven;
 
 pub use cells::{Cell, cell_at, deepest, has_record, shallowest};
-pub use draws::{DUO_DRAWS, PLANE_DRAWS, SMALL_DRAWS, SMALL_SIZE};
+pub use draws::{DUO_DRAWS, PLANE_DRAWS, SMALL_DRAWS, is_small};
 pub use duos::{LEAST_IN_TURN, sweep_ahead, sweep_duo_often};
 pub use dynamics::{Dynamics, HalfPlane, rule_of_slot};
 pub use lanes::{pulls_of_four, update_four, words_at};

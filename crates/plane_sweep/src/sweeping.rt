@@ -10,7 +10,7 @@ ghost use Rattle.scalar_rule.specs.SlotRules.{HasThresholds};
 ghost use Rattle.scalar_rule.specs.Sweep as model;
 ghost use Rattle.spin_model.specs.Lattice.{half_plane, IsLawfulSize};
 
-use crate::draws::{PLANE_DRAWS, SMALL_DRAWS, SMALL_SIZE};
+use crate::draws::{PLANE_DRAWS, SMALL_DRAWS, is_small};
 use crate::dynamics::{Dynamics, HalfPlane, rule_of_slot};
 use crate::replica::{Plane, Replica};
 use crate::rows::sweep_words;
@@ -110,7 +110,7 @@ fn sweep_colours<R: Threads + Sync>(
 {
     if pieces > 1 && size >= LEAST_FORKED {
         fork_both(rt, planes, dynamics, size, pieces);
-    } else if size <= SMALL_SIZE {
+    } else if is_small(size) {
         sweep_both(planes, dynamics, &mut [0u32; SMALL_DRAWS], size);
     } else {
         sweep_both(planes, dynamics, &mut [0u32; PLANE_DRAWS], size);
