@@ -13,6 +13,7 @@ ghost use Rattle.scalar_rule.specs.declared.sample.Sample.{Sample};
 
 use crate::checks::{damaged, other_kind, other_length, short};
 use crate::decoding::{fill_stand, level_refusal};
+use crate::kinds::BANKS_KIND;
 use crate::lengths::length;
 use crate::places::{behind, piece, u64_at};
 use crate::refused::CheckpointRefused;
@@ -128,7 +129,7 @@ fn banks_form(plans: &[Arc<Plan, Global>], len: usize, bytes: &[u8]) -> Option<C
     if let Some(refused) = short(bytes, 44) {
         return Some(refused);
     }
-    if let Some(refused) = other_kind(bytes, b"GLASSCK3") {
+    if let Some(refused) = other_kind(bytes, BANKS_KIND) {
         return Some(refused);
     }
     if let Some(refused) = other_banks(bytes, plans.len() as u32) {

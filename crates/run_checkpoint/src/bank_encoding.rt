@@ -4,6 +4,7 @@ ghost use Rattle.std.specs.Prelude.{◌≡◌, ◌+◌, ◌≤◌, []};
 ghost use Rattle.run_checkpoint.specs.BankEncoding.{banks_header};
 ghost use Rattle.run_checkpoint.specs.Encoding.{sealed};
 
+use crate::kinds::BANKS_KIND;
 use crate::room::Room;
 
 /// Begins the checkpoint of so many banks in an empty buffer; the checkpoint of each bank follows.
@@ -17,7 +18,7 @@ pub fn begin_banks(count: u32, room: &mut Room)
     ensures bytes { room.new.bytes ≡ banks_header count }
     ensures spare { room.new.spare + 12 ≡ room.old.spare }
 {
-    room.put(b"GLASSCK3");
+    room.put(BANKS_KIND);
     room.put_u32(count);
 }
 

@@ -13,6 +13,7 @@ ghost use Rattle.run_checkpoint.specs.Unfilled.{HasRoom};
 ghost use Rattle.run_checkpoint.specs.declared.refused.CheckpointRefused.TheVariants as refused;
 
 use crate::checks::{damaged, late, other_kind, other_length, other_plan, other_shape, short};
+use crate::kinds::LEVEL_KIND;
 use crate::labels::wrong_label;
 use crate::lengths::length;
 use crate::places::{behind, u64_at};
@@ -86,7 +87,7 @@ pub(crate) fn level_form(plan: &Plan, bytes: &[u8]) -> Option<CheckpointRefused>
     if let Some(refused) = short(bytes, 88) {
         return Some(refused);
     }
-    if let Some(refused) = other_kind(bytes, b"GLASSCK1") {
+    if let Some(refused) = other_kind(bytes, LEVEL_KIND) {
         return Some(refused);
     }
     if let Some(refused) = other_shape(bytes, plan, 48) {

@@ -11,6 +11,7 @@ ghost use Rattle.plane_sweep.specs.Uneven.{level_stand};
 ghost use Rattle.run_checkpoint.specs.Rooms.{Puts};
 ghost use Rattle.scalar_rule.specs.Plan.{slots_of};
 
+use crate::kinds::LEVEL_KIND;
 use crate::room::Room;
 use plain_list::Items;
 use plane_sweep::{Duo, PairWheels, Plane, RaggedStand, Replica, Stand};
@@ -75,7 +76,7 @@ fn put_header(plan: &Plan, epoch: u64, room: &mut Room)
     requires { 56 ≤ room.old.spare }
     ensures { Puts room.old room.new (header plan.now epoch) }
 {
-    room.put(b"GLASSCK1");
+    room.put(LEVEL_KIND);
     room.put(&digest(plan));
     room.put_u64(epoch);
     room.put_u32(plan.lattice().size());

@@ -6,6 +6,7 @@ mod bank_encoding;
 mod checks;
 mod decoding;
 mod encoding;
+mod kinds;
 mod labels;
 mod laws;
 mod lengths;

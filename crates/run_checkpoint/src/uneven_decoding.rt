@@ -19,6 +19,7 @@ ghost use Rattle.scalar_rule.specs.declared.sample.Sample.{Sample};
 
 use crate::checks::{damaged, late, other_kind, other_length, other_plan, other_shape, short};
 use crate::decoding::level_refusal;
+use crate::kinds::UNEVEN_KIND;
 use crate::labels::wrong_label;
 use crate::lengths::{contents_len, uneven_len};
 use crate::places::{behind, u64_at};
@@ -123,7 +124,7 @@ fn is_uneven(bytes: &[u8]) -> bool
     requires { 8 ≤ length bytes.now }
     ensures { result ≡ model.is_uneven bytes.now }
 {
-    &bytes[..8] == b"GLASSCK2".as_slice()
+    &bytes[..8] == UNEVEN_KIND.as_slice()
 }
 
 // The first refusal of bytes of that kind.
@@ -174,7 +175,7 @@ fn uneven_form(plan: &Plan, bytes: &[u8]) -> Option<CheckpointRefused>
     if let Some(refused) = short(bytes, 96) {
         return Some(refused);
     }
-    if let Some(refused) = other_kind(bytes, b"GLASSCK2") {
+    if let Some(refused) = other_kind(bytes, UNEVEN_KIND) {
         return Some(refused);
     }
     if let Some(refused) = other_shape(bytes, plan, 40) {

@@ -9,6 +9,7 @@ ghost use Rattle.run_checkpoint.specs.UnevenEncoding as model;
 ghost use Rattle.scalar_rule.specs.Plan.{slots_of};
 
 use crate::encoding::put_contents;
+use crate::kinds::UNEVEN_KIND;
 use crate::room::Room;
 use plane_sweep::{Place, RaggedStand};
 use run_plan::digest;
@@ -37,7 +38,7 @@ fn put_header(plan: &Plan, samples: u32, every: u64, count: u32, room: &mut Room
     requires { 64 ≤ room.old.spare }
     ensures { Puts room.old room.new (model.uneven_header plan.now samples every count) }
 {
-    room.put(b"GLASSCK2");
+    room.put(UNEVEN_KIND);
     room.put(&digest(plan));
     room.put_u32(plan.lattice().size());
     room.put_u32(plan.slots());
