@@ -1,5 +1,6 @@
 //! The Rattle side of bench/sweep.sh: times the packed sweep of one replica, or of both of a slot. Given no
-//! size, rule, sweeps and passes it prints one line and does no work.
+//! size, rule, sweeps and passes, or another word than `both` behind them, it prints one line and does no
+//! work.
 #![tactic(auto)]
 
 mod inputs;
@@ -45,18 +46,30 @@ fn kind_of(name: &str) -> Option<RuleKind> {
     }
 }
 
+// Whether both replicas are swept, by the word behind the number of passes, if there is one.
+fn both_of(word: Option<&str>) -> Option<bool> {
+    match word {
+        None => Some(false),
+        Some("both") => Some(true),
+        Some(_) => None,
+    }
+}
+
 fn main(rt: HostRuntime) -> Result<()> {
     let mut words = env::args(&rt)?;
     let size = words.nth(1);
     let kind = words.nth(0).and_then(|name| kind_of(name.as_str()));
-    match (size, kind, words.nth(0), words.nth(0)) {
-        (Some(size), Some(kind), Some(sweeps), Some(passes)) => measure(
+    let sweeps = words.nth(0);
+    let passes = words.nth(0);
+    let both = both_of(words.nth(0).as_deref());
+    match (size, kind, sweeps, passes, both) {
+        (Some(size), Some(kind), Some(sweeps), Some(passes), Some(both)) => measure(
             &rt,
             size.as_str().parse::<u32>()?,
             kind,
             sweeps.as_str().parse::<u32>()?,
             passes.as_str().parse::<u32>()?,
-            words.nth(0).is_some_and(|word| word.as_str() == "both"),
+            both,
         ),
         _ => {
             println!(rt;
