@@ -1,11 +1,9 @@
 //! The text of the two tables of a run at sixteen temperatures, and the tables that are read of it.
 
+use spin_model::CERTAIN;
 use std::alloc::{AllocError, Global};
 use std::test::Fail;
 use threshold_table::{RuleKind, RuleTable, SwapTable, read_rule, read_swap};
-
-/// The probability 1.
-const ALWAYS: u64 = 4294967296;
 
 // x·y div divisor; no product here reaches 2^64, and no divisor is 0.
 fn scaled(x: u64, y: u64, divisor: u64) -> u64 {
@@ -36,9 +34,9 @@ fn put(alloc: Global, text: &mut String, number: u64, end: &str) -> Result<(), A
 pub fn rule_text(alloc: Global) -> Result<String, AllocError> {
     let mut text = String::new(alloc);
     for t in 0..16u64 {
-        let x = scaled(ALWAYS, t + 2, t + 10);
-        let y = scaled(x, x, ALWAYS);
-        let z = scaled(y, x, ALWAYS);
+        let x = scaled(CERTAIN, t + 2, t + 10);
+        let y = scaled(x, x, CERTAIN);
+        let z = scaled(y, x, CERTAIN);
         put(alloc, &mut text, x, ", ")?;
         put(alloc, &mut text, y, ", ")?;
         put(alloc, &mut text, z, "\n")?;
@@ -51,7 +49,7 @@ fn put_powers(alloc: Global, text: &mut String, ratio: u64) -> Result<(), AllocE
     let mut entry = ratio;
     for _ in 1..64 {
         put(alloc, text, entry, ", ")?;
-        entry = scaled(entry, ratio, ALWAYS);
+        entry = scaled(entry, ratio, CERTAIN);
     }
     put(alloc, text, entry, "\n")
 }
@@ -65,7 +63,7 @@ fn put_powers(alloc: Global, text: &mut String, ratio: u64) -> Result<(), AllocE
 pub fn swap_text(alloc: Global) -> Result<String, AllocError> {
     let mut text = String::new(alloc);
     for k in 0..15u64 {
-        let ratio = scaled(ALWAYS, (k + 2) * (k + 11), (k + 10) * (k + 3));
+        let ratio = scaled(CERTAIN, (k + 2) * (k + 11), (k + 10) * (k + 3));
         put_powers(alloc, &mut text, ratio)?;
     }
     Ok(text)
