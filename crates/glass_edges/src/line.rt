@@ -131,9 +131,9 @@ impl Line {
         Ok(())
     }
 
-    /// Adds bytes of any number; what does not fit goes out in full buffers, and the rest stays.
-    /// Where all of them fit nothing is put. At an error, which counts a fault, the output has taken a
-    /// prefix of the text and these bytes.
+    /// Adds bytes of any number; what does not fit goes out in pieces, and the rest stays. Where all of
+    /// them fit nothing is put. At an error, which counts a fault, the output has taken a prefix of the
+    /// text and these bytes.
     pub fn extend<O: Sink>(&mut self, out: &mut O, bytes: &[u8]) -> Result<(), Fault>
         ensures front { OnOk result (PutsFront (O.taken out.old) (O.taken out.new) (self.old ++ bytes.now) self.new) }
         ensures prefix { OnErr result (AppendsPrefix (O.taken out.old) (O.taken out.new) (self.old ++ bytes.now)) }
@@ -151,8 +151,8 @@ impl Line {
         Ok(())
     }
 
-    /// Adds `count` bytes, each as its index tells it; what does not fit goes out in full buffers,
-    /// and the rest stays. At an error as `extend`.
+    /// Adds `count` bytes, each as its index tells it; what does not fit goes out in pieces, and the
+    /// rest stays. At an error as `extend`.
     pub fn extend_by<O: Sink, F: Fn(usize) -> u8>(
         &mut self,
         out: &mut O,

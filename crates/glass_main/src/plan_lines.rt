@@ -109,7 +109,7 @@ fn put_key<E: Sink>(err: &mut E, line: &mut Line, key: &[u8]) -> Result<(), Faul
     end_line(err, line)
 }
 
-// Adds the bytes as they are printed; what does not fit goes out in full buffers.
+// Adds the bytes as they are printed; what does not fit goes out in pieces.
 fn put_printable<E: Sink>(err: &mut E, line: &mut Line, bytes: &[u8]) -> Result<(), Fault>
     ensures front { OnOk result (PutsFront (E.taken err.old) (E.taken err.new)
         (line.old ++ map printable bytes.now) line.new) }

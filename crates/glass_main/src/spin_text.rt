@@ -47,7 +47,7 @@ pub(crate) fn put_spin_line<O: Sink>(
     end_line(out, line)
 }
 
-// Adds the digits of all spins; what does not fit goes out in full buffers.
+// Adds the digits of all spins; what does not fit goes out in pieces.
 fn put_digits<O: Sink>(
     out: &mut O,
     line: &mut Line,

@@ -184,7 +184,7 @@ fn add_head(line: &mut Line, sample: u32)
     line.add(b",");
 }
 
-// Adds the digits of a sample's colours; what does not fit goes out in full buffers.
+// Adds the digits of a sample's colours; what does not fit goes out in pieces.
 fn put_digits<O: Sink>(
     potts: &Potts,
     sample: u32,

@@ -60,7 +60,7 @@ fn add_head(line: &mut Line, sample: u32, slot: u32, copy: u32)
     line.add(b",");
 }
 
-// Adds the digits of a sample's spins, sample `b` of 64; what does not fit goes out in full buffers.
+// Adds the digits of a sample's spins, sample `b` of 64; what does not fit goes out in pieces.
 fn put_digits<O: Sink>(
     out: &mut O,
     line: &mut Line,
