@@ -3,7 +3,7 @@
 /// A hook that a worker calls between taking a temperature slot and sweeping it. It promises
 /// nothing; a test can make workers wait for one another in it.
 pub trait Gate {
-    /// Called once for each slot and epoch, by the worker that has taken it.
+    /// Called by the worker that has taken the slot for the epoch; no clause counts the calls.
     fn enter(&self, slot: u32, epoch: u64);
 }
 

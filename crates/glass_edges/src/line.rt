@@ -114,8 +114,9 @@ impl Line {
         Ok(())
     }
 
-    /// Puts the text where `count` more bytes would not fit behind it, and does nothing where they
-    /// would. At an error, which counts a fault, the output has taken a prefix of the text.
+    /// Makes room for `count` more bytes. Where they would not fit behind the text it puts the text or a
+    /// front of it, and the rest stays; where they would it does nothing. At an error, which counts a
+    /// fault, the output has taken a prefix of the text.
     pub fn make_room<O: Sink>(&mut self, out: &mut O, count: usize) -> Result<(), Fault>
         requires { count ≤ line_room }
         ensures room { OnOk result (length self.new + count ≤ line_room) }

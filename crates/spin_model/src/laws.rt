@@ -23,8 +23,7 @@ pub fn draws_of_advanced()
     ensures { DrawsOfAdvanced }
 {}
 
-/// On a lattice of even side no neighbour of a site has the site's checkerboard colour, so the
-/// sites of one colour can be updated in any order.
+/// On a lattice of lawful size no neighbour of a site has the site's checkerboard colour.
 pub fn neighbours_have_other_colour()
     ensures { NeighboursHaveOtherColour }
 {}
