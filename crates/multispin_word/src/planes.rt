@@ -3,7 +3,7 @@
 ghost use Rattle.std.specs.Prelude.{◌≡◌, ℕ, ◌+◌, ◌*◌, ◌^◌, ◌<◌, ◌≤◌, ◌==◌, false, slice_index};
 ghost use Rattle.multispin_word.specs.Planes.{number, is_set, one_if};
 
-use crate::word::{bit, with_bit};
+use crate::word::{bit, halves, with_bit};
 
 /// The numbers of 64 samples, each below 2^W. Word w holds bit w of each: the number of a sample
 /// is the sum over w of 2^w times its bit of word w. W is at most 20 where a number is read or
@@ -67,8 +67,8 @@ impl<const W: usize> Planes<W> {
     }
 }
 
-/// Adds a plane's worth to the number of each sample that has it set: one plane over all samples, so that
-/// several of them fit a vector.
+/// Adds a plane's worth to the number of each sample that has it set. By halves of the word, since a vector
+/// takes twice as many shifts of 32 bits as of 64.
 #[inline]
 fn add_worths(out: &mut [u32; 64], word: u64, plane: usize)
     requires plane { plane < 20 }
@@ -76,9 +76,36 @@ fn add_worths(out: &mut [u32; 64], word: u64, plane: usize)
     ensures { (b : ℕ) → b < 64
         → slice_index out.new b ≡ slice_index out.old b + 2 ^ plane * one_if (is_set word b) }
 {
-    'samples: for b in 0..64 {
-        out[b] += worth(bit(word, b as u32), plane);
+    let (low, high) = halves(word);
+    add_half(out, 0, low, plane);
+    add_half(out, 32, high, plane);
+}
+
+/// Adds a plane's worth to the numbers of 32 samples: one plane over all of them, so that several fit
+/// a vector.
+#[inline]
+fn add_half(out: &mut [u32; 64], first: usize, half: u32, plane: usize)
+    requires plane { plane < 20 }
+    requires place { first ≤ 32 }
+    requires room { (b : ℕ) → b < 32 → slice_index out.old (first + b) < 2 ^ plane }
+    ensures added { (b : ℕ) → b < 32 → slice_index out.new (first + b)
+        ≡ slice_index out.old (first + b) + 2 ^ plane * one_if (is_set half b) }
+    ensures below { (b : ℕ) → b < first → slice_index out.new b ≡ slice_index out.old b }
+    ensures above { (b : ℕ) → first + 32 ≤ b → slice_index out.new b ≡ slice_index out.old b }
+{
+    'samples: for b in 0..32usize {
+        out[first + b] += worth_at(half, b, plane);
     }
+}
+
+/// What a sample's bit of half a plane counts, with no branch.
+#[inline]
+fn worth_at(half: u32, sample: usize, plane: usize) -> u32
+    requires sample { sample < 32 }
+    requires plane { plane < 20 }
+    ensures { result ≡ 2 ^ plane * one_if (is_set half sample) }
+{
+    ((half >> sample) & 1) << plane
 }
 
 /// What a bit of a plane counts: 2^plane where it is set.

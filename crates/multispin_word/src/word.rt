@@ -1,6 +1,6 @@
 //! One bit of each of 64 samples in a word.
 
-ghost use Rattle.std.specs.Prelude.{◌≡◌, ℕ, ◌/◌, ◌%◌, ◌<◌, ◌==◌, nat_lt, if◌then◌else◌, [], ◌∷◌, slice_index};
+ghost use Rattle.std.specs.Prelude.{◌≡◌, ℕ, ◌+◌, ◌/◌, ◌%◌, ◌<◌, ◌==◌, nat_lt, if◌then◌else◌, [], ◌∷◌, slice_index};
 ghost use Rattle.multispin_word.specs.Planes.{is_set};
 
 /// The bit of one sample, below 64.
@@ -44,6 +44,15 @@ pub fn joined(low: u32, high: u32) -> u64
         → is_set result b ≡ is_set (slice_index (low ∷ high ∷ []) (b / 32)) (b % 32) }
 {
     ((high as u64) << 32) + low as u64
+}
+
+/// The low and the high half of a word.
+#[inline]
+pub(crate) fn halves(word: u64) -> (u32, u32)
+    ensures low { (b : ℕ) → b < 32 → is_set result.0 b ≡ is_set word b }
+    ensures high { (b : ℕ) → b < 32 → is_set result.1 b ≡ is_set word (32 + b) }
+{
+    ((word % (1 << 32)) as u32, (word >> 32) as u32)
 }
 
 /// Swaps the bits of the samples in the mask, and keeps the others.
