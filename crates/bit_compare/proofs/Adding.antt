@@ -1,5 +1,5 @@
 -- Adding and taking away plane by plane, at one sample.
-use Rattle.std.proofs.Common.{◌≡◌, ℕ, zero, suc, ◌+◌, ◌-◌, ◌*◌, ◌^◌, ◌%◌, ◌<◌, ◌≤◌, ◌==◌, ◌&&◌, ◌||◌, not, nat_lt, Bool, true, false, List, [], ◌∷◌, length, set, get_or, refl, sym, ap, arith, bit_xor, bit_and, bit_or, mul-zero, add-zero, nat_le, inl, inr}
+use Rattle.std.proofs.Common.{◌≡◌, ℕ, zero, suc, ◌+◌, ◌-◌, ◌*◌, ◌^◌, ◌%◌, ◌<◌, ◌≤◌, ◌==◌, ◌&&◌, ◌||◌, not, nat_lt, if◌then◌else◌, Bool, true, false, List, [], ◌∷◌, length, set, get_or, refl, sym, ap, ◌∙◌, arith, bit_xor, bit_and, bit_or, mul-zero, add-zero, nat_le, inl, inr}
 use Rattle.std.proofs.lemmas.Nat.Bits.{bit_at-lt, bit_at-zero}
 use Rattle.std.proofs.lemmas.Bool.{cases_lt, lt-ltb, le-ltb, lt-leb, le-leb, ne_eqb}
 use Rattle.std.proofs.lemmas.Bool.Decides.{nat_tests}
@@ -36,6 +36,13 @@ taken false true true = refl
 taken false true false = refl
 taken false false true = refl
 taken false false false = refl
+
+-- a bit that a mask has and a word lacks, on truth values
+lacked : (x m : Bool) → one_if (not x && m) ≡ (if m then 1 - one_if x else 0)
+lacked true true = refl
+lacked true false = refl
+lacked false true = refl
+lacked false false = refl
 
 -- the full adder at one sample
 pub full-adder : (x y c k : ℕ)
@@ -189,3 +196,38 @@ equal-more a b i same both k e f =
     rw (is_set-and same both k, e, f, first-more a i k, first-more b i k)
     (equal-digits (first a i k) (first b i k) (2 ^ i) (bit_at (get_or a i 0) k) (bit_at (get_or b i 0) k)
     (first-lt a i k) (first-lt b i k) (bit_at-lt _ k) (bit_at-lt _ k))
+
+-- the bit that the word lacks, for the samples in a mask
+pub bit-lacked : (x m k : ℕ) → x < 2 ^ 64 → k < 64
+    → bit_at (bit_and (bit_not w64 x) m) k ≡ (if is_set m k then 1 - bit_at x k else 0)
+bit-lacked x m k fits h =
+    rw (← one_if-is_set (bit_and (bit_not w64 x) m) k, is_set-and (bit_not w64 x) m k, is_set-not x k fits h)
+    (lacked (is_set x k) (is_set m k))
+    ∙ ap (λ n. if is_set m k then 1 - n else 0) (one_if-is_set x k)
+
+-- what a number lacks of the greatest one, with a bit of worth p more
+lacked-plane : (p n b : ℕ) → n < p → b < 2 → 2 * p - 1 - (n + p * b) ≡ p - 1 - n + p * (1 - b)
+lacked-plane p n zero h g = omega (arith, mul-zero p)
+lacked-plane p n (suc zero) h g = omega (arith, mul-zero p)
+lacked-plane p n (suc (suc b)) h g = absurd (omega arith)
+
+-- a plane more of what numbers lack of the greatest one
+pub lacked-more : (ws : List ℕ) (w k : ℕ) (inside : Bool)
+    → (if inside then 2 ^ (w + 1) - 1 - first ws (w + 1) k else 0)
+    ≡ (if inside then 2 ^ w - 1 - first ws w k else 0) + 2 ^ w * (if inside then 1 - bit_at (get_or ws w 0) k else 0)
+lacked-more ws w k false = omega (arith, mul-zero (2 ^ w))
+lacked-more ws w k true =
+    rw (first-more ws w k, power-more w)
+    (lacked-plane (2 ^ w) (first ws w k) (bit_at (get_or ws w 0) k) (first-lt ws w k) (bit_at-lt _ k))
+
+-- no plane lacks nothing
+pub lacked-none : (ws : List ℕ) (k : ℕ) (inside : Bool) → 0 ≡ (if inside then 2 ^ 0 - 1 - first ws 0 k else 0)
+lacked-none ws k true = omega arith
+lacked-none ws k false = refl
+
+-- what a difference that borrows lacks of the greatest number is by how much more than one it is less
+pub lacked-taken : (x y r p b : ℕ) → b < 2 → x + p * b ≡ r + y → r < p → x < p
+    → (if b == 1 then p - 1 - r else 0) ≡ y - x - 1
+lacked-taken x y r p zero h e below _ = omega (arith, mul-zero p)
+lacked-taken x y r p (suc zero) h e below _ = omega arith
+lacked-taken x y r p (suc (suc b)) h e below _ = absurd (omega arith)

@@ -1,6 +1,6 @@
 //! Comparisons: the word of the samples whose numbers are equal, or less.
 
-ghost use Rattle.std.specs.Prelude.{◌≡◌, ℕ, ◌%◌, ◌^◌, ◌<◌, ◌≤◌, ◌==◌, not, nat_lt};
+ghost use Rattle.std.specs.Prelude.{◌≡◌, ℕ, ◌-◌, ◌%◌, ◌^◌, ◌<◌, ◌≤◌, ◌==◌, not, nat_lt, if◌then◌else◌};
 ghost use Rattle.multispin_word.specs.Planes.{is_set, differs, number};
 
 use crate::subtraction::difference;
@@ -43,6 +43,32 @@ pub fn less<const W: usize>(a: &Planes<W>, b: &Planes<W>) -> u64
         → is_set result k ≡ nat_lt (number a.now.words k) (number b.now.words k) }
 {
     below(&a.words, &b.words)
+}
+
+/// The samples whose number in `a` is less than that in `b`, and by how much more than one it is;
+/// 0 for the others.
+#[inline]
+pub fn less_by<const W: usize>(a: &Planes<W>, b: &Planes<W>) -> (u64, Planes<W>)
+    ensures less { (k : ℕ) → k < 64
+        → is_set result.0 k ≡ nat_lt (number a.now.words k) (number b.now.words k) }
+    ensures more { (k : ℕ) → k < 64
+        → number result.1.words k ≡ number b.now.words k - number a.now.words k - 1 }
+{
+    let (rest, borrow) = difference(&a.words, &b.words);
+    (borrow, complement(&rest.words, borrow))
+}
+
+/// How much each number of the samples in a word lacks of the greatest one; 0 for the others.
+#[inline]
+fn complement<const W: usize>(numbers: &[u64; W], samples: u64) -> Planes<W>
+    ensures { (k : ℕ) → k < 64 → number result.words k
+        ≡ (if is_set samples k then 2 ^ W - 1 - number numbers.now k else 0) }
+{
+    let mut lacking = Planes::zero();
+    'planes: for w in 0..W {
+        lacking.words[w] = !numbers[w] & samples;
+    }
+    lacking
 }
 
 /// The samples whose number in `a` is the smaller one: those for which its difference borrows.

@@ -4,7 +4,7 @@
 #![tactic(auto)]
 
 pub use addition::{add, add_bit, add_count, full_adder};
-pub use comparison::{equals_const, less, less_const};
+pub use comparison::{equals_const, less, less_by, less_const};
 pub use count::count6;
 pub use subtraction::subtract;
 

@@ -47,6 +47,9 @@ fn one_minus_two_in_three_planes_is_seven(rt: HostRuntime) {
     assert_eq!(rt; rest.number_at(7), 7);
     assert_eq!(rt; rest.number_at(6), 0);
     assert_eq!(rt; less(&one, &two), 128);
+    let (samples, more) = less_by(&one, &two);
+    assert_eq!(rt; samples, 128);
+    assert_eq!(rt; more.number_at(7), 0);
     assert_eq!(rt; less(&two, &one), 0);
 }
 
@@ -84,6 +87,8 @@ fn twenty_planes_reach_their_greatest_number(rt: HostRuntime) {
     assert_eq!(rt; total.number_at(62), 0);
     assert_eq!(rt; subtract(&zero, &total).number_at(63), 1);
     assert_eq!(rt; less(&zero, &total), HIGHEST);
+    assert_eq!(rt; less_by(&zero, &total).1.number_at(63), 1048574);
+    assert_eq!(rt; less_by(&total, &zero).1.number_at(63), 0);
     let rows = [
         (1048574, 0, HIGHEST - 1),
         (1048575, HIGHEST, HIGHEST - 1),
