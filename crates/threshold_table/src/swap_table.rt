@@ -84,6 +84,7 @@ impl SwapTable {
     }
 
     /// The threshold of a pair's entry, and 0 past the entries that the pair has.
+    #[inline]
     pub fn threshold(&self, pair: u32, entry: u32) -> u64
         requires { pair < length self.now }
         ensures value { result ≡ swap_threshold self.now pair entry }
