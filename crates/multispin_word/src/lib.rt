@@ -3,7 +3,7 @@
 #![tactic(auto)]
 
 pub use planes::Planes;
-pub use word::{below, bit, broadcast, choose, joined, swap_masked, with_bit};
+pub use word::{below, bit, broadcast, choose, joined, only, swap_masked, with_bit};
 
 mod planes;
 #[cfg(test)]

@@ -10,6 +10,7 @@ fn the_highest_and_the_lowest_sample_are_read_and_changed(rt: HostRuntime) {
     assert_eq!(rt; with_bit(ends, 0, false), 9223372036854775808);
     assert_eq!(rt; broadcast(true), 18446744073709551615);
     assert_eq!(rt; broadcast(false), 0);
+    assert_eq!(rt; only(63), 9223372036854775808);
 }
 
 #[test]

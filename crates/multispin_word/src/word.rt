@@ -79,7 +79,7 @@ pub fn choose(mask: u64, inside: u64, outside: u64) -> u64
 
 /// The word in which one sample alone is set.
 #[inline]
-fn only(sample: u32) -> u64
+pub fn only(sample: u32) -> u64
     requires { sample < 64 }
     ensures { (b : ℕ) → is_set result b ≡ (b == sample) }
 {
