@@ -5,6 +5,8 @@ pub mod Keeping
 pub mod BoardReads
 pub mod Arriving
 pub mod Settling
+pub mod Pairing
+pub mod PairArriving
 pub mod Cells
 pub mod Starting
 pub mod Ends

@@ -1,14 +1,16 @@
 -- What the board's calls answer.
-use Rattle.std.specs.Prelude.{◌≡◌, ℕ, ◌+◌, ◌<◌, if◌then◌else◌, List, length, map, slice_set}
+use Rattle.std.specs.Prelude.{◌≡◌, ℕ, ◌+◌, ◌<◌, true, if◌then◌else◌, List, length, map, slice_set}
 use Rattle.std.specs.Arc.{arc_value}
 use Rattle.scalar_rule.specs.Plan.{Plan}
-use Rattle.scalar_rule.specs.Epoch.{has_partner, pair_of}
+use Rattle.scalar_rule.specs.Epoch.{has_partner, has_turn, partner, pair_of}
 use Rattle.plane_sweep.specs.declared.uneven.Place.{Place}
 use Rattle.plane_sweep.specs.declared.uneven.RaggedStand.{RaggedStand}
 use Rattle.exchange_board.specs.declared.arrival.Arrival.{Arrival}
 use Rattle.exchange_board.specs.declared.arrival.Arrival.TheVariants as arrivals
 use Rattle.exchange_board.specs.declared.board.Next.{Next}
 use Rattle.exchange_board.specs.declared.board.Next.TheVariants as nexts
+use Rattle.exchange_board.specs.declared.board.NextPair.{NextPair}
+use Rattle.exchange_board.specs.declared.board.NextPair.TheVariants as pairs
 use Rattle.exchange_board.specs.declared.origin.Window.{Window}
 use Rattle.exchange_board.specs.Views.{Stage, BoardView, JobView, place_at, ready_at, arrived_at, out_at, placed}
 use Rattle.exchange_board.specs.Machine.{met, taken, NoneReady, NoneOut, AllEnded}
@@ -32,6 +34,35 @@ pub record Takes (b c : BoardView) (j : JobView) : Type 0 where
   pub after : c ≡ placed b (slice_set b.places j.slot (out_at j.epoch))
   pub left : taken b.places < taken_before b.origin + b.origin.window.takes
 
+-- of a slot in work the partner, at rest at its epoch, is handed out too; the pair's view is that of its colder slot
+pub record TakesPartner (b c : BoardView) (j p : JobView) : Type 0 where
+  pub origin : p.origin ≡ b.origin
+  pub has : has_partner (length b.places) j.slot j.epoch ≡ true
+  pub slot : p.slot ≡ pair_of j.slot j.epoch
+  pub epoch : p.epoch ≡ j.epoch
+  pub ready : place_at b.places (partner j.slot j.epoch) ≡ ready_at j.epoch
+  pub after : c ≡ placed b (slice_set b.places (partner j.slot j.epoch) (out_at j.epoch))
+  pub left : taken b.places < taken_before b.origin + b.origin.window.takes
+
+-- the places once the slots t and t + 1 are out at e
+abbrev pub with_pair_out : List Stage → ℕ → ℕ → List Stage
+with_pair_out ps t e = slice_set (slice_set ps t (out_at e)) (t + 1) (out_at e)
+
+-- and once both are back, exchanged
+abbrev pub with_pair_back : List Stage → ℕ → ℕ → List Stage
+with_pair_back ps t e = slice_set (slice_set ps t (ready_at (e + 1))) (t + 1) (ready_at (e + 1))
+
+-- a hand-out of two partners at rest at one epoch below until; all else stays
+pub record TakesPair (b c : BoardView) (p : JobView) : Type 0 where
+  pub origin : p.origin ≡ b.origin
+  pub known : p.slot + 1 < length b.places
+  pub turn : has_turn p.slot p.epoch ≡ true
+  pub low : place_at b.places p.slot ≡ ready_at p.epoch
+  pub high : place_at b.places (p.slot + 1) ≡ ready_at p.epoch
+  pub below : p.epoch < b.origin.window.until
+  pub after : c ≡ placed b (with_pair_out b.places p.slot p.epoch)
+  pub left : taken b.places + 1 < taken_before b.origin + b.origin.window.takes
+
 -- Finished where every slot has ended; else Stopped where all hand-outs are made; else Nothing where no slot is at rest below
 -- until, and then some slot is in work; else a hand-out
 abbrev pub Nexts : BoardView → BoardView → Next → Type 0
@@ -48,6 +79,11 @@ start_place p = if p.arrived then arrived_at p.epoch else ready_at p.epoch
 -- the places of a state's slots, none of them in work
 abbrev pub stages_of : RaggedStand → List Stage
 stages_of stand = map start_place stand.places
+
+-- two partners where both may be handed out, or what is answered for one slot
+abbrev pub NextPairs : BoardView → BoardView → NextPair → Type 0
+NextPairs b c (pairs.Pair p) = TakesPair b c p
+NextPairs b c (pairs.Single next) = Nexts b c next
 
 -- a board of this plan, starting state and window, at the state's places
 pub record Opened (plan : Plan) (base : RaggedStand) (window : Window) (b : BoardView) : Type 0 where

@@ -25,9 +25,10 @@ pub record KeepsJob (j : job.Inside) : Type 0 where
   pub right : (b : ℕ) → b < 64 → part_slot (plan_of (arc_value j.share)).size b j.duo
       ≡ ready (plan_of (arc_value j.share)) (starts (arc_value j.share) b) j.epoch j.slot
 
--- the content after the sweeps, and those of its sums that were asked for
+-- the content after the sweeps, those of its sums that were asked for, and a window that records some epochs
 pub record KeepsSwept (j : swept.Inside) : Type 0 where
   pub known : j.slot < slots_in (arc_value j.share)
+  pub every : 1 ≤ (arc_value j.share).window.every
   pub later : started (arc_value j.share) j.slot ≤ 4 * j.epoch + 1
   pub fits : FitsDuo (plan_of (arc_value j.share)).size j.duo
   pub right : (b : ℕ) → b < 64 → part_slot (plan_of (arc_value j.share)).size b j.duo

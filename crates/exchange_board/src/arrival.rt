@@ -1,6 +1,6 @@
 //! The hand-back of a slot, and the exchange of a pair.
 
-ghost use Rattle.std.specs.Prelude.{◌≡◌, ◌+◌, ◌*◌, ◌<◌, true, false, ◌==◌, ◌&&◌, if◌then◌else◌, length, slice_set, IfSome, IfNone};
+ghost use Rattle.std.specs.Prelude.{◌≡◌, ◌+◌, ◌*◌, ◌<◌, true, false, ◌==◌, ◌&&◌, if◌then◌else◌, length, slice_set, Some, None, IfSome, IfNone};
 ghost use Rattle.std.specs.Arc.{arc_value};
 ghost use Rattle.spin_model.specs.Limits.{last_epoch};
 ghost use Rattle.scalar_rule.specs.Epoch.{has_partner, partner};
@@ -9,7 +9,8 @@ ghost use Rattle.exchange_board.specs.Views.{place_at, out_at, ready_at, arrived
 
 use crate::board::{Board, Home, Slot};
 use crate::job::Swept;
-use crate::rows::{SlotEpoch, record_slot};
+use crate::pair::{PairSwept, Traded};
+use crate::rows::{SlotEpoch, put_slot, record_slot};
 use crate::totals::totals_of;
 use crate::trading::{PlanPair, Side, meet};
 use scalar_rule::{Plan, has_partner, has_turn};
@@ -32,8 +33,30 @@ fn colder(slot: u32, other: u32, is_low: bool) -> u32
     if is_low { slot } else { other }
 }
 
+impl Traded {
+    // The slot at rest.
+    fn at_rest(self, epoch: u64) -> Slot
+        ensures { result ≡ record { epoch = epoch; home = Some (record { share = self.share; duo = self.duo; totals = None }) } }
+    {
+        let Traded {
+            share,
+            duo,
+            records: _,
+        } = self;
+        let home = Home {
+            share,
+            duo,
+            totals: None,
+        };
+        Slot {
+            epoch,
+            home: Some(home),
+        }
+    }
+}
+
 impl Board {
-    ghost use Rattle.exchange_board.specs.Answers.{answer};
+    ghost use Rattle.exchange_board.specs.Answers.{answer, with_pair_back};
 
     /// A slot that was swept comes back: it is recorded, and its pair is exchanged, in place, where its
     /// partner waits. Takes no memory.
@@ -68,6 +91,40 @@ impl Board {
         }
     }
 
+    /// Two partners that were swept and exchanged come back: both are recorded, and at rest at the next
+    /// epoch. Takes no memory.
+    pub fn arrive_pair(&mut self, swept: PairSwept)
+        requires same { swept.origin ≡ self.old.origin }
+        requires known { swept.slot + 1 < length self.old.places }
+        requires low { place_at self.old.places swept.slot ≡ out_at swept.epoch }
+        requires high { place_at self.old.places (swept.slot + 1) ≡ out_at swept.epoch }
+        ensures moved { self.new ≡ placed self.old (with_pair_back self.old.places swept.slot swept.epoch) }
+        ensures phased { IsPhased self.old.places }
+    {
+        let PairSwept {
+            slot,
+            epoch,
+            low,
+            high,
+            wheels,
+        } = swept;
+        let records = &mut self.records;
+        put_slot(
+            records,
+            &low.records,
+            &self.origin,
+            SlotEpoch { slot, epoch },
+        );
+        let next = SlotEpoch {
+            slot: slot + 1,
+            epoch,
+        };
+        put_slot(records, &high.records, &self.origin, next);
+        *self.pairs.at_mut(slot as usize) = wheels;
+        *self.slots.at_mut(slot as usize) = low.at_rest(epoch + 1);
+        *self.slots.at_mut(slot as usize + 1) = high.at_rest(epoch + 1);
+    }
+
     // Whether a slot waits at an epoch.
     fn waits(&self, slot: u32, epoch: u64) -> bool
         requires known { slot < length self.now.places }
@@ -79,7 +136,7 @@ impl Board {
     }
 
     // The partner at this epoch.
-    fn partner_of(&self, slot: u32, epoch: u64) -> Option<u32>
+    pub(crate) fn partner_of(&self, slot: u32, epoch: u64) -> Option<u32>
         requires known { slot < length self.now.places }
         requires out { progress (place_at self.now.places slot) ≡ 4 * epoch + 1 }
         ensures some { IfSome result (λ p. (has_partner (length self.now.places) slot epoch ≡ true) × (p ≡ partner slot epoch) × (p < length self.now.places)) }

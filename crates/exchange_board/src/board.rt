@@ -1,6 +1,7 @@
 //! The board, and its hand-outs.
 
-ghost use Rattle.std.specs.Prelude.{◌≡◌, ◌↔◌, ◌+◌, ◌*◌, ◌<◌, ◌≤◌, true, false, length, IfSome, IfNone, slice_set};
+ghost use Rattle.std.specs.Prelude.{◌≡◌, ◌↔◌, ◌+◌, ◌*◌, ◌<◌, ◌≤◌, true, false, length, IfSome, IfNone, IfOk, IfErr, OnErr, slice_set};
+ghost use Rattle.scalar_rule.specs.Epoch.{has_partner, partner, pair_of};
 ghost use Rattle.exchange_board.specs.Views.{place_at, out_at, placed, progress};
 ghost use Rattle.exchange_board.specs.BoardKeeps.{phase_of};
 ghost use Rattle.exchange_board.specs.Content.{slots_in, row_total, taken_before, KeepsRows};
@@ -8,11 +9,12 @@ ghost use Rattle.exchange_board.specs.Machine.{taken, IsReady, NoneReady, NoneOu
 
 use crate::job::Job;
 use crate::origin::Origin;
+use crate::pair::PairJob;
 use crate::room::Room;
 use crate::totals::Totals;
 use plain_list::Items;
 use plane_sweep::{Duo, PairWheels, Place};
-use scalar_rule::Record;
+use scalar_rule::{Record, has_turn};
 use std::alloc::Global;
 use std::marker::Model;
 use std::sync::Arc;
@@ -103,21 +105,23 @@ impl Board {
         self.records.as_slice()
     }
 
-    // Some slot that may be handed out.
+    // The first of the slots of least epoch that may be handed out: so the others keep partners to meet.
     fn ready_slot(&self) -> Option<u32>
         ensures some { IfSome result (λ t. (t < length self.now.places) × IsReady self.now.origin.window.until self.now.places t) }
         ensures none { IfNone result (NoneReady self.now.origin.window.until self.now.places) }
         ensures lively { IfNone result (NoneOut self.now.places → AllEnded self.now.origin.window.until self.now.places) }
         ensures phased { IsPhased self.now.places }
     {
-        let until = self.origin.window.until;
-        for t in 0..self.slots.len() as u32 {
+        let mut least = 4 * self.origin.window.until;
+        let mut found = None;
+        'slots: for t in 0..self.slots.len() as u32 {
             let number = self.progress(t);
-            if number % 4 == 0 && number < 4 * until {
-                return Some(t);
+            if number % 4 == 0 && number < least {
+                least = number;
+                found = Some(t);
             }
         }
-        None
+        found
     }
 
     // Whether every slot is at rest at until.
@@ -178,6 +182,73 @@ impl Board {
             Some(slot) => Next::Job(self.take(slot)),
             None => Next::Nothing,
         }
+    }
+}
+
+/// What a board answers when it is asked for two partners.
+pub enum NextPair {
+    /// Two partners, now in work.
+    Pair(PairJob),
+    /// What `next` answers: no two partners may be handed out with its slot.
+    Single(Next),
+}
+
+impl Board {
+    ghost use Rattle.exchange_board.specs.Answers.{NextPairs, TakesPartner};
+
+    /// As `next`, but where the slot's partner is at rest at the same epoch, and a hand-out is left for
+    /// it, both are then in work. Takes no memory, and time by the number of slots.
+    pub fn next_pair(&mut self) -> NextPair
+        ensures next { NextPairs self.old self.new result }
+        ensures phased { IsPhased self.old.places }
+    {
+        match self.next() {
+            Next::Job(job) => match self.take_partner(job) {
+                Ok(pair) => NextPair::Pair(pair),
+                Err(job) => NextPair::Single(Next::Job(job)),
+            },
+            other => NextPair::Single(other),
+        }
+    }
+
+    // The partner of a slot in work too, where it is at rest at the slot's epoch and a hand-out is left.
+    fn take_partner(&mut self, job: Job) -> Result<PairJob, Job>
+        requires same { job.origin ≡ self.old.origin }
+        requires known { job.slot < length self.old.places }
+        requires out { place_at self.old.places job.slot ≡ out_at job.epoch }
+        ensures pair { IfOk result (TakesPartner self.old self.new job) }
+        ensures single { IfErr result (λ back. back ≡ job) }
+        ensures kept { OnErr result (self.new ≡ self.old) }
+    {
+        let _ = &self.origin;
+        let (slot, epoch) = (job.slot(), job.epoch());
+        let Some(other) = self.partner_of(slot, epoch) else {
+            return Err(job);
+        };
+        if self.is_spent() || self.progress(other) != 4 * epoch {
+            return Err(job);
+        }
+        let mate = self.take(other);
+        Ok(self.paired(job, mate))
+    }
+
+    // Two slots in work that are partners, with the generators of their pair.
+    fn paired(&self, job: Job, mate: Job) -> PairJob
+        requires same { (job.origin ≡ self.now.origin) × (mate.origin ≡ self.now.origin) }
+        requires has { has_partner (length self.now.places) job.slot job.epoch ≡ true }
+        requires mate { (mate.slot ≡ partner job.slot job.epoch) × (mate.epoch ≡ job.epoch) }
+        requires own_out { place_at self.now.places job.slot ≡ out_at job.epoch }
+        requires mate_out { place_at self.now.places mate.slot ≡ out_at job.epoch }
+        requires known { (job.slot < length self.now.places) × (mate.slot < length self.now.places) }
+        ensures { result ≡ record { origin = self.now.origin; slot = pair_of job.slot job.epoch; epoch = job.epoch } }
+    {
+        let (low, high) = if has_turn(job.slot(), job.epoch()) {
+            (job, mate)
+        } else {
+            (mate, job)
+        };
+        let wheels = self.pairs.at(low.slot() as usize).copy();
+        PairJob { low, high, wheels }
     }
 }
 

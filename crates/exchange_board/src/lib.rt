@@ -11,14 +11,16 @@ mod kept;
 mod laws;
 mod opening;
 mod origin;
+mod pair;
 mod room;
 mod rows;
 mod totals;
 mod trading;
 
 pub use arrival::Arrival;
-pub use board::{Board, Next};
+pub use board::{Board, Next, NextPair};
 pub use ended::{Ended, RaggedEnded};
 pub use job::{Job, Swept};
 pub use laws::{resumed_records_go_on, resumed_state_goes_on};
 pub use origin::{Origin, Window};
+pub use pair::{PairJob, PairSwept};

@@ -14,7 +14,7 @@ ghost use Rattle.exchange_board.specs.Opening.{Begins, AreFirst};
 use crate::board::{Board, Home, Slot};
 use crate::origin::{Origin, Window};
 use crate::room::Room;
-use crate::rows::rows_of;
+use crate::rows::{NO_RECORD, rows_of};
 use crate::totals::count_totals;
 use glass_edges::NoMemory;
 use plain_list::Items;
@@ -29,13 +29,7 @@ fn no_records(alloc: Global, count: usize) -> Result<Items<Record>, NoMemory>
 {
     let mut rows = Vec::with_capacity(alloc, count)?;
     'rows: for k in 0..count {
-        rows.push(Record {
-            first_energy: 0,
-            second_energy: 0,
-            overlap: 0,
-            first_replica: 0,
-            second_replica: 0,
-        })?;
+        rows.push(NO_RECORD)?;
     }
     Ok(Items::of(rows))
 }

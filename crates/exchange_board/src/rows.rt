@@ -1,10 +1,10 @@
 //! The places of a slot's records at an epoch.
 
-ghost use Rattle.std.specs.Prelude.{◌≡◌, ◌+◌, ◌*◌, ◌<◌, ◌≤◌, true, length};
+ghost use Rattle.std.specs.Prelude.{◌≡◌, ℕ, ◌+◌, ◌*◌, ◌<◌, ◌≤◌, true, length};
 ghost use Rattle.spin_model.specs.Limits.{most_rows};
 ghost use Rattle.plane_sweep.specs.Packed.{part_slot, FitsDuo};
 ghost use Rattle.scalar_rule.specs.Epoch as model;
-ghost use Rattle.exchange_board.specs.Content.{slots_in, floor_in, row_total, IsLawfulOrigin};
+ghost use Rattle.exchange_board.specs.Content.{slots_in, floor_in, record_at, row_total, IsLawfulOrigin};
 ghost use Rattle.exchange_board.specs.Meeting.{AreRowsOf, RowsAfter, RecordsAfter};
 ghost use Rattle.exchange_board.specs.Totals.{AreSums};
 
@@ -13,6 +13,15 @@ use crate::totals::{Sums, measure, record_of};
 use plain_list::Items;
 use plane_sweep::Duo;
 use scalar_rule::{Plan, Record, is_recorded};
+
+/// The record of nothing.
+pub(crate) const NO_RECORD: Record = Record {
+    first_energy: 0,
+    second_energy: 0,
+    overlap: 0,
+    first_replica: 0,
+    second_replica: 0,
+};
 
 /// Where the records of a slot at an epoch go, where the epoch is recorded: `at` is the number of
 /// recorded epochs before it, times the samples.
@@ -102,4 +111,62 @@ pub(crate) fn record_slot(
 {
     let rows = rows_of(origin, at.slot, at.epoch);
     write_rows(records, duo, sums, plan, &rows);
+}
+
+/// The records of a slot in all samples, made before they have a place, where they are wanted; else zeros.
+pub(crate) fn noted(duo: &Duo, sums: &Sums, plan: &Plan, is_wanted: bool) -> [Record; 64]
+    requires duo { FitsDuo plan.now.size duo.now }
+    requires sums { AreSums plan.now duo.now sums.now }
+    ensures { is_wanted ≡ true → (b : ℕ) → b < 64 → record_at result b ≡ model.record_of plan.now b (part_slot plan.now.size b duo.now) }
+{
+    let mut records = [NO_RECORD; 64];
+    if is_wanted {
+        let measured = measure(duo, sums, plan);
+        'samples: for b in 0..64u32 {
+            records[b as usize] = record_of(duo, &measured, plan, b);
+        }
+    }
+    records
+}
+
+// The record of a sample.
+#[inline]
+fn record_in(made: &[Record; 64], sample: u32) -> Record
+    requires { sample < 64 }
+    ensures { result ≡ record_at made.now sample }
+{
+    made[sample as usize]
+}
+
+// The records of a slot that are made go to their places, where its epoch is recorded.
+fn put_rows(records: &mut Items<Record>, made: &[Record; 64], rows: &Rows)
+    requires samples { rows.now.samples ≤ 64 }
+    requires slot { rows.now.slot < rows.now.slots }
+    requires few { length records.old ≤ most_rows }
+    requires room { rows.now.is_recorded ≡ true → (rows.now.at + rows.now.samples) * rows.now.slots ≤ length records.old }
+    ensures { RowsAfter rows.now (λ i. record_at made.now i) records.old records.new }
+{
+    if rows.is_recorded {
+        'samples: for i in 0..rows.samples {
+            *records.at_mut(rows.place(i)) = record_in(made, i);
+        }
+    }
+}
+
+/// Writes the records of a slot that are made, where its epoch is recorded.
+pub(crate) fn put_slot(
+    records: &mut Items<Record>,
+    made: &[Record; 64],
+    origin: &Origin,
+    at: SlotEpoch,
+)
+    requires lawful { IsLawfulOrigin origin.now }
+    requires slot { at.slot < slots_in origin.now }
+    requires from { floor_in origin.now ≤ at.epoch }
+    requires below { at.epoch < origin.now.window.until }
+    requires sized { length records.old ≡ row_total origin.now }
+    ensures { RecordsAfter origin.now at.slot at.epoch (λ i. record_at made.now i) records.old records.new }
+{
+    let rows = rows_of(origin, at.slot, at.epoch);
+    put_rows(records, made, &rows);
 }

@@ -28,18 +28,9 @@ pub(crate) fn copied_pairs(
 {
     let mut copies = Vec::with_capacity(alloc, pairs.len())?;
     'pairs: for k in 0..pairs.len() {
-        copies.push(copied_pair(pairs.at(k)))?;
+        copies.push(pairs.at(k).copy())?;
     }
     Ok(Items::of(copies))
-}
-
-fn copied_pair(pair: &PairWheels) -> PairWheels
-    ensures { result ≡ pair.now }
-{
-    PairWheels {
-        first: pair.first.copy(),
-        second: pair.second.copy(),
-    }
 }
 
 fn copied_slot(alloc: Global, slot: &Duo) -> Result<Duo, NoMemory>

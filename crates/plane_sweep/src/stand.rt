@@ -25,6 +25,18 @@ pub struct PairWheels {
     pub second: Wheel,
 }
 
+impl PairWheels {
+    /// Generators in the same states. Takes no memory.
+    pub fn copy(&self) -> PairWheels
+        ensures { result ≡ self.now }
+    {
+        PairWheels {
+            first: self.first.copy(),
+            second: self.second.copy(),
+        }
+    }
+}
+
 /// The packed state of 64 disorder samples.
 #[derive(Drop)]
 pub struct Stand {

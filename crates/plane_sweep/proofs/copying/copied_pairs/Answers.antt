@@ -8,8 +8,8 @@ pairs-init c = c.in_ok-copies.ensures.items
 
 pub pairs-preserved : goal.pairs-preserved
 pairs-preserved c =
-    let pushed : c.push.new.self.items ≡ c.pairs.copies.items ++ c.copied_pair.result ∷ [] = c.in_ok-push.ensures.items in
-    copied-more _ _ _ _ _ _ pushed c.pairs.invariant c.copied_pair.ensures c.at.ensures (omega arith)
+    let pushed : c.push.new.self.items ≡ c.pairs.copies.items ++ c.copy.result ∷ [] = c.in_ok-push.ensures.items in
+    copied-more _ _ _ _ _ _ pushed c.pairs.invariant c.copy.ensures c.at.ensures (omega arith)
 
 pub returns : goal.returns
 returns c = c.of.ensures ∙ c.pairs.invariant ∙ take_all _ _ (omega arith)
