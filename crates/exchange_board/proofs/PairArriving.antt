@@ -25,7 +25,7 @@ use Rattle.exchange_board.specs.declared.pair.PairSwept.TheInside as pair_swept
 use Rattle.exchange_board.specs.declared.pair.Traded.{Traded}
 use Rattle.exchange_board.specs.declared.totals.Totals.{Totals}
 use Rattle.exchange_board.specs.Totals.{AreTotals}
-use Rattle.exchange_board.specs.Views.{Stage, BoardView, JobView, place_at, ready_at, arrived_at, out_at}
+use Rattle.exchange_board.specs.Views.{Stage, BoardView, JobView, place_at, ready_at, arrived_at, out_at, progress}
 use Rattle.exchange_board.specs.Content.{plan_of, slots_in, starts, floor_in, pair_in, record_at}
 use Rattle.exchange_board.specs.Machine.{epochs, phases}
 use Rattle.exchange_board.specs.Meeting.{half, Met, RecordsAfter}
@@ -44,17 +44,28 @@ pub record PairComing (b : board.Inside) (j : pair_swept.Inside) : Type 0 where
   pub low : place_at (places_of b) j.slot ≡ out_at j.epoch
   pub high : place_at (places_of b) (j.slot + 1) ≡ out_at j.epoch
 
+-- a number of phase 1 tells the place
+out-told : (p : Stage) (e : ℕ) → p.phase < 3 → progress p ≡ 4 * e + 1 → p ≡ out_at e
+out-told p e small is = let epoch : p.epoch ≡ e = omega arith in let phase : p.phase ≡ 1 = omega arith in
+    ap₂ (λ x y. let q : Stage = record { epoch = x; phase = y } in q) epoch phase
+
 -- it is what the hand-back asks for
 pub pair-coming : (b : board.Inside) (j : pair_swept.Inside) (v : BoardView) (w : JobView) → KeepsBoard b → KeepsSweptPair j → board_view b ≡ v → swept_pair_view j ≡ w
-    → w.origin ≡ v.origin → w.slot + 1 < length v.places → place_at v.places w.slot ≡ out_at w.epoch → place_at v.places (w.slot + 1) ≡ out_at w.epoch → PairComing b j
-pair-coming b j v w keeps swept board_is swept_is same known low high = record {
-  keeps = keeps;
-  swept = swept;
-  same = rw (← board_is, ← swept_is) at same;
-  known = rw (← board_is, ← swept_is) at known;
-  low = rw (← board_is, ← swept_is) at low;
-  high = rw (← board_is, ← swept_is) at high;
-}
+    → w.origin ≡ v.origin → w.slot + 1 < length v.places → progress (place_at v.places w.slot) ≡ 4 * w.epoch + 1 → progress (place_at v.places (w.slot + 1)) ≡ 4 * w.epoch + 1 → PairComing b j
+pair-coming b j v w keeps swept board_is swept_is same known low high =
+    let ps : List Stage = places_of b in
+    let more : j.slot + 1 < length ps = rw (← board_is, ← swept_is) at known in
+    let low_here : progress (place_at ps j.slot) ≡ 4 * j.epoch + 1 = rw (← board_is, ← swept_is) at low in
+    let high_here : progress (place_at ps (j.slot + 1)) ≡ 4 * j.epoch + 1 = rw (← board_is, ← swept_is) at high in
+    let long = places-long b keeps in
+    record {
+      keeps = keeps;
+      swept = swept;
+      same = rw (← board_is, ← swept_is) at same;
+      known = more;
+      low = out-told (place_at ps j.slot) j.epoch (keeps.ruled.phased j.slot (omega arith)) low_here;
+      high = out-told (place_at ps (j.slot + 1)) j.epoch (keeps.ruled.phased (j.slot + 1) (omega arith)) high_here;
+    }
 
 -- the colder one comes back by itself
 pub low-coming : (b : board.Inside) (j : pair_swept.Inside) (c : PairComing b j) → Coming b (before j j.slot j.low c.swept.cold c.swept.cold_sums) (plan_of (arc_value b.origin))

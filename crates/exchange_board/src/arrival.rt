@@ -96,8 +96,8 @@ impl Board {
     pub fn arrive_pair(&mut self, swept: PairSwept)
         requires same { swept.origin ≡ self.old.origin }
         requires known { swept.slot + 1 < length self.old.places }
-        requires low { place_at self.old.places swept.slot ≡ out_at swept.epoch }
-        requires high { place_at self.old.places (swept.slot + 1) ≡ out_at swept.epoch }
+        requires low { progress (place_at self.old.places swept.slot) ≡ 4 * swept.epoch + 1 }
+        requires high { progress (place_at self.old.places (swept.slot + 1)) ≡ 4 * swept.epoch + 1 }
         ensures moved { self.new ≡ placed self.old (with_pair_back self.old.places swept.slot swept.epoch) }
         ensures phased { IsPhased self.old.places }
     {

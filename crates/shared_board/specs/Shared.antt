@@ -2,7 +2,10 @@
 use Rattle.std.specs.Prelude.{◌≡◌, ℕ, ◌%◌, ◌<◌, true, List, Some, length, slice_index, slice_set}
 use Rattle.atomic_table.specs.Seated.{TableId}
 use Rattle.exchange_board.specs.declared.origin.Origin.{Origin}
+use Rattle.exchange_board.specs.declared.board.Next.{Next}
 use Rattle.exchange_board.specs.declared.board.Next.TheVariants as nexts
+use Rattle.exchange_board.specs.Answers.{Nexts}
+use Rattle.exchange_board.specs.Machine.{IsPhased}
 use Rattle.exchange_board.specs.Views.{BoardView, place_at, progress, words_of}
 use Rattle.turn_cell.specs.AtomicSteps.{IsTaken, IsLawfulStore, after_refusal}
 use Rattle.turn_cell.specs.Seats.{cell_id}
@@ -25,6 +28,13 @@ pub record IsHolderOf (h : View Origin) (b : BoardView) : Type 0 where
   pub held : h.holding ≡ true
   pub words : h.known ≡ words_of b
   pub base : h.base ≡ Some b.origin
+
+-- the holder, who knows a board that gave this answer when it was asked, and is now c
+pub record HasAsked (h : View Origin) (c : BoardView) (next : Next) : Type 0 where
+  pub before : BoardView
+  pub holder : IsHolderOf h before
+  pub phased : IsPhased before.places
+  pub answer : Nexts before c next
 
 -- the holder, whose words are those of this board but for slot t, which came back
 pub record CanEnd (h : View Origin) (b : BoardView) (t : ℕ) : Type 0 where

@@ -1,16 +1,19 @@
 -- What one turn at the shared board finds, changes and leaves, as its seat knows it.
 use Rattle.std.specs.Prelude.{◌≡◌, ℕ, ◌+◌, ◌*◌, ◌<◌, ◌⊎◌, true, false, List, [], ◌∷◌, Some, length, slice_index, slice_set}
-use Rattle.scalar_rule.specs.Epoch.{has_partner, partner, pair_of}
+use Rattle.scalar_rule.specs.Epoch.{has_turn, has_partner, partner, pair_of}
 use Rattle.exchange_board.specs.declared.origin.Origin.{Origin}
 use Rattle.exchange_board.specs.declared.arrival.Arrival.{Arrival}
 use Rattle.exchange_board.specs.declared.arrival.Arrival.TheVariants as arrivals
 use Rattle.exchange_board.specs.declared.board.Next.{Next}
 use Rattle.exchange_board.specs.declared.board.Next.TheVariants as nexts
+use Rattle.exchange_board.specs.declared.board.NextPair.{NextPair}
+use Rattle.exchange_board.specs.declared.board.NextPair.TheVariants as pairs
+use Rattle.exchange_board.specs.Content.{taken_before}
 use Rattle.exchange_board.specs.Views.{JobView}
 use Rattle.turn_cell.specs.Sums.{without, AreInWork}
 use Rattle.turn_cell.specs.Progress.{ArePhased, AtMost}
 use Rattle.turn_cell.specs.declared.view.View.{View}
-use Rattle.shared_board.specs.Words.{IsFinished, MustWait, IsStopped, HasTakesLeft}
+use Rattle.shared_board.specs.Words.{taken_at, IsFinished, MustWait, IsStopped, HasTakesLeft}
 
 -- the item is in the list
 abbrev pub IsAmong : ℕ × ℕ → List (ℕ × ℕ) → Type 0
@@ -40,6 +43,18 @@ pub record IsHandOut (v w : View Origin) (j : JobView) : Type 0 where
   pub turn : IsTurn v w (slice_set w.seen j.slot (4 * j.epoch)) ((j.slot, j.epoch) ∷ v.out)
   pub left : HasTakesLeft j.origin (slice_set w.seen j.slot (4 * j.epoch))
 
+-- two partners are handed out: their words alone were changed, both from 4e to 4e + 1, and both items are in the seat's
+-- hands; the pair's view is that of its colder slot
+pub record IsPairOut (v w : View Origin) (j : JobView) : Type 0 where
+  pub base : v.base ≡ Some j.origin
+  pub known : j.slot + 1 < v.places
+  pub turn_is : has_turn j.slot j.epoch ≡ true
+  pub below : j.epoch < j.origin.window.until
+  pub low : slice_index w.seen j.slot ≡ 4 * j.epoch + 1
+  pub high : slice_index w.seen (j.slot + 1) ≡ 4 * j.epoch + 1
+  pub turn : IsTurn v w (slice_set (slice_set w.seen j.slot (4 * j.epoch)) (j.slot + 1) (4 * j.epoch)) ((j.slot + 1, j.epoch) ∷ (j.slot, j.epoch) ∷ v.out)
+  pub left : taken_at (slice_set (slice_set w.seen j.slot (4 * j.epoch)) (j.slot + 1) (4 * j.epoch)) + 1 < taken_before j.origin + j.origin.window.takes
+
 -- a turn that changed no word; of the words this holds, for the seat's origin
 pub record IsLook (v w : View Origin) (Says : Origin → List ℕ → Type 0) : Type 0 where
   pub turn : IsTurn v w w.seen v.out
@@ -51,6 +66,11 @@ TakesSlot v w (nexts.Job j) = IsHandOut v w j
 TakesSlot v w nexts.Nothing = IsLook v w MustWait
 TakesSlot v w nexts.Finished = IsLook v w IsFinished
 TakesSlot v w nexts.Stopped = IsLook v w IsStopped
+
+-- the seat v asked for two partners in one turn, and is then w
+abbrev pub TakesPair : View Origin → View Origin → NextPair → Type 0
+TakesPair v w (pairs.Pair p) = IsPairOut v w p
+TakesPair v w (pairs.Single next) = TakesSlot v w next
 
 -- slot t came back at e and waits, since its partner has not come back: its word alone was changed
 pub record IsWaiting (v w : View Origin) (t e : ℕ) : Type 0 where
@@ -78,3 +98,10 @@ abbrev pub ReturnsSlot : View Origin → View Origin → ℕ → ℕ → Arrival
 ReturnsSlot v w t e arrivals.Waiting = IsWaiting v w t e
 ReturnsSlot v w t e (arrivals.Settled pair) = IsSettled v w t e pair
 ReturnsSlot v w t e arrivals.Alone = IsAlone v w t e
+
+-- the seat v handed the partners t and t + 1 back at e in one turn, and is then w: both are at rest at the next epoch, and
+-- their words alone were changed
+pub record ReturnsPair (v w : View Origin) (t e : ℕ) : Type 0 where
+  pub low : slice_index w.seen t ≡ 4 * e + 4
+  pub high : slice_index w.seen (t + 1) ≡ 4 * e + 4
+  pub turn : IsTurn v w (slice_set (slice_set w.seen t (4 * e + 1)) (t + 1) (4 * e + 1)) (without (t + 1) (without t v.out))

@@ -4,6 +4,7 @@
 
 mod closing;
 mod opening;
+mod pairs;
 mod settling;
 mod shared;
 mod taking;

@@ -3,6 +3,8 @@
 ghost use Rattle.std.specs.Prelude.{◌≡◌, ◌≤◌, false};
 ghost use Rattle.turn_cell.specs.AtomicSteps.{with_refused};
 ghost use Rattle.turn_cell.specs.Seats.{seat_view, IsSeatOf};
+ghost use Rattle.exchange_board.specs.Answers.{Nexts};
+ghost use Rattle.exchange_board.specs.Machine.{IsPhased};
 ghost use Rattle.shared_board.specs.Turns.{TakesSlot};
 
 use crate::shared::{BoardPass, SharedBoard};
@@ -25,7 +27,7 @@ pub enum TryNext {
 }
 
 impl SharedBoard {
-    ghost use Rattle.shared_board.specs.Shared.{lock_id, HasFound, IsHolderOf, TriesSlot};
+    ghost use Rattle.shared_board.specs.Shared.{lock_id, HasFound, HasAsked, IsHolderOf, TriesSlot};
 
     /// Takes a slot in one turn of the lock, for which it waits: a slot at rest below until, which is
     /// then in this seat's work, where there is one and hand-outs are left.
@@ -70,7 +72,20 @@ impl SharedBoard {
         ensures refused { (seat_view pass.new).refused ≡ (seat_view pass.old).refused }
         ensures taken { (v : _) → HasFound v (seat_view pass.old) board → TakesSlot v (seat_view pass.new) result }
     {
-        match board.next() {
+        let next = board.next();
+        self.end_hand_out(pass, board, next)
+    }
+
+    // The holder stores the word of the slot that the board gave when it was asked, and gives the lock
+    // back.
+    pub(crate) fn end_hand_out(&self, pass: &mut BoardPass, board: Board, next: Next) -> Next
+        requires own { IsSeatOf (lock_id self.now) pass.old }
+        requires asked { HasAsked (seat_view pass.old) board next }
+        ensures own { IsSeatOf (lock_id self.now) pass.new }
+        ensures refused { (seat_view pass.new).refused ≡ (seat_view pass.old).refused }
+        ensures taken { (v : _) (b : _) → HasFound v (seat_view pass.old) b → IsPhased b.places → Nexts b board next → TakesSlot v (seat_view pass.new) result }
+    {
+        match next {
             Next::Job(job) => {
                 self.store(pass, &board, job.slot());
                 self.cell.give_back(pass, board);
