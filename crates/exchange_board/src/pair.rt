@@ -1,6 +1,6 @@
 //! Two partners in work, which are swept and exchanged away from the board.
 
-ghost use Rattle.std.specs.Prelude.{◌≡◌, ℕ, ◌≤◌};
+ghost use Rattle.std.specs.Prelude.{◌≡◌, ℕ, ◌+◌, ◌≤◌};
 ghost use Rattle.std.specs.Arc.{arc_value};
 ghost use Rattle.plane_sweep.specs.Packed.{part_pair, ArePairGenerators};
 ghost use Rattle.scalar_rule.specs.Ragged.{generators};
@@ -68,11 +68,18 @@ impl Model for PairSwept {
 }
 
 impl PairJob {
-    /// The colder of its slots, which is the pair's number; the other one is the next.
+    /// The colder of its slots, which is the pair's number.
     pub fn slot(&self) -> u32
         ensures { result ≡ self.now.slot }
     {
         self.low.slot()
+    }
+
+    /// The warmer one, which is the next.
+    pub fn mate(&self) -> u32
+        ensures { result ≡ self.now.slot + 1 }
+    {
+        self.high.slot()
     }
 
     /// Its epoch.

@@ -1,10 +1,12 @@
 -- What a worker asks of its seat, and how it hands it back.
-use Rattle.std.specs.Prelude.{◌≡◌, ℕ, ◌⊎◌, false, List, [], ◌∷◌, Some, IsSomeAnd, length}
+use Rattle.std.specs.Prelude.{◌≡◌, ℕ, ◌+◌, ◌⊎◌, false, List, [], ◌∷◌, Some, IsSomeAnd, length}
 use Rattle.atomic_table.specs.Seated.{TableId}
 use Rattle.scalar_rule.specs.Plan.{Plan}
 use Rattle.turn_cell.specs.Seats.{seat_view, IsSeatOf}
 use Rattle.turn_cell.specs.declared.pass.Pass.{Pass}
 use Rattle.turn_cell.specs.declared.view.View.{View}
+use Rattle.exchange_board.specs.declared.board.Next.{Next}
+use Rattle.exchange_board.specs.declared.board.Next.TheVariants as nexts
 use Rattle.exchange_board.specs.declared.origin.Origin.{Origin}
 use Rattle.exchange_board.specs.Content.{plan_of}
 use Rattle.exchange_board.specs.Views.{BoardView, JobView}
@@ -29,6 +31,10 @@ IsAtRest id plan p = IsFreeFor id plan [] p
 abbrev pub IsTaker : TableId → Plan → JobView → Seat → Type 0
 IsTaker id plan j p = IsFreeFor id plan ((j.slot, j.epoch) ∷ []) p × ((seat_view p).base ≡ Some j.origin)
 
+-- and has just these two partners
+abbrev pub IsPairTaker : TableId → Plan → JobView → Seat → Type 0
+IsPairTaker id plan j p = IsFreeFor id plan ((j.slot + 1, j.epoch) ∷ (j.slot, j.epoch) ∷ []) p × ((seat_view p).base ≡ Some j.origin)
+
 -- the same seat, later on
 pub record IsSame (v w : View Origin) : Type 0 where
   pub number : w.number ≡ v.number
@@ -41,6 +47,13 @@ pub record IsSame (v w : View Origin) : Type 0 where
 pub record HasLeft (v : View Origin) : Type 0 where
   pub sized : length v.seen ≡ v.places
   pub over : (o : Origin) → v.base ≡ Some o → IsFinished o v.seen ⊎ IsStopped o v.seen
+
+-- a seat that was given this answer
+abbrev pub IsGiven : TableId → Plan → Next → Seat → Type 0
+IsGiven id plan (nexts.Job j) p = IsTaker id plan j p
+IsGiven id plan nexts.Nothing p = IsAtRest id plan p
+IsGiven id plan nexts.Finished p = IsAtRest id plan p × HasLeft (seat_view p)
+IsGiven id plan nexts.Stopped p = IsAtRest id plan p × HasLeft (seat_view p)
 
 abbrev pub AreAtRest : TableId → Plan → List Seat → Type 0
 AreAtRest id plan [] = Unit {0}

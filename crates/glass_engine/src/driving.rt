@@ -13,7 +13,9 @@ use std::thread::Threads;
 
 /// Drives a run to its end: its workers take slots, sweep them and hand them back until each is at rest
 /// at the last epoch or all hand-outs are made. The planes of a sweep are cut into at most 1 to 16
-/// pieces. The hook is called after each hand-out, by the worker that took the slot. Takes no memory.
+/// pieces. With two slots a worker and more each takes two partners at once where it can, and exchanges
+/// them itself, so that what is done one after the other is short. The hook is called for each slot
+/// between its hand-out and its sweeps, by the worker that took it. Takes no memory.
 pub fn drive<R: Threads + Wait + Sync, G: Gate + Sync>(
     rt: &R,
     run: Run,
@@ -38,6 +40,7 @@ pub fn drive<R: Threads + Wait + Sync, G: Gate + Sync>(
         board: &board,
         plan,
         pieces,
+        in_pairs: plan.slots() as usize >= 2 * seats.len(),
     };
     work_all(rt, gate, &shared, seats.as_mut_slice());
     match board.close(seats).into_ragged() {

@@ -5,23 +5,24 @@ ghost use Rattle.std.specs.Prelude.{◌≡◌, ◌+◌, ◌<◌, ◌≤◌, true
 ghost use Rattle.std.specs.Thread.{IsSync};
 ghost use Rattle.shared_board.specs.Shared.{lock_id};
 ghost use Rattle.turn_cell.specs.Seats.{seat_view};
-ghost use Rattle.glass_engine.specs.Working.{IsAtRest, IsTaker, IsSame, HasLeft, AreAtRest, HaveLeft};
+ghost use Rattle.glass_engine.specs.Working.{IsAtRest, IsTaker, IsPairTaker, IsGiven, IsSame, HasLeft, AreAtRest, HaveLeft};
 
 use crossbeam_utils::Backoff;
-use exchange_board::{Job, Next};
+use exchange_board::{Job, Next, NextPair, PairJob};
 use glass_edges::Gate;
 use scalar_rule::Plan;
 use shared_board::{BoardPass, SharedBoard};
 use std::sync::Wait;
 use std::thread::{Threads, join_mut};
 
-/// What all workers of a run share: the board, the plan, and into how many pieces they cut the planes
-/// of a sweep at most.
+/// What all workers of a run share: the board, the plan, into how many pieces they cut the planes of a
+/// sweep at most, and whether each takes two partners at once where it can.
 #[derive(Clone, Copy)]
 pub(crate) struct Shared<'a> {
     pub(crate) board: &'a SharedBoard,
     pub(crate) plan: &'a Plan,
     pub(crate) pieces: u32,
+    pub(crate) in_pairs: bool,
     ghost some_pieces: { 1 ≤ pieces },
     ghost few_pieces: { pieces ≤ 16 },
 }
@@ -43,7 +44,54 @@ fn bring<R: Threads + Wait + Sync, G: Gate + Sync>(
     let _ = shared.board.settle(rt, shared.plan, seat, swept);
 }
 
-// One turn of a worker: true once there is no more to do. One that finds nothing pauses.
+// The sweeps of two partners that this seat took, their exchange, and their hand-back.
+fn bring_pair<R: Threads + Wait + Sync, G: Gate + Sync>(
+    rt: &R,
+    gate: &G,
+    shared: &Shared,
+    seat: &mut BoardPass,
+    job: PairJob,
+)
+    requires own { IsPairTaker (lock_id shared.now.board.now) shared.now.plan.now job seat.old }
+    ensures rest { IsAtRest (lock_id shared.now.board.now) shared.now.plan.now seat.new }
+    ensures same { IsSame (seat_view seat.old) (seat_view seat.new) }
+{
+    gate.enter(job.slot(), job.epoch());
+    gate.enter(job.mate(), job.epoch());
+    let swept = job.sweep(rt, shared.plan, shared.pieces);
+    shared.board.settle_pair(rt, seat, swept);
+}
+
+// What a worker does with an answer of the board: true once there is no more to do. One that is given
+// nothing pauses.
+fn go_on<R: Threads + Wait + Sync, G: Gate + Sync>(
+    rt: &R,
+    gate: &G,
+    shared: &Shared,
+    pause: &Backoff,
+    seat: &mut BoardPass,
+    next: Next,
+) -> bool
+    requires given { IsGiven (lock_id shared.now.board.now) shared.now.plan.now next seat.old }
+    ensures rest { IsAtRest (lock_id shared.now.board.now) shared.now.plan.now seat.new }
+    ensures same { IsSame (seat_view seat.old) (seat_view seat.new) }
+    ensures left { result ≡ true → HasLeft (seat_view seat.new) }
+{
+    match next {
+        Next::Job(job) => {
+            pause.reset();
+            bring(rt, gate, shared, seat, job);
+            false
+        }
+        Next::Nothing => {
+            pause.snooze();
+            false
+        }
+        Next::Finished | Next::Stopped => true,
+    }
+}
+
+// One turn of a worker: true once there is no more to do.
 fn turn<R: Threads + Wait + Sync, G: Gate + Sync>(
     rt: &R,
     gate: &G,
@@ -56,17 +104,17 @@ fn turn<R: Threads + Wait + Sync, G: Gate + Sync>(
     ensures same { IsSame (seat_view seat.old) (seat_view seat.new) }
     ensures left { result ≡ true → HasLeft (seat_view seat.new) }
 {
-    match shared.board.take(rt, seat) {
-        Next::Job(job) => {
+    if !shared.in_pairs {
+        let next = shared.board.take(rt, seat);
+        return go_on(rt, gate, shared, pause, seat, next);
+    }
+    match shared.board.take_pair(rt, seat) {
+        NextPair::Pair(job) => {
             pause.reset();
-            bring(rt, gate, shared, seat, job);
+            bring_pair(rt, gate, shared, seat, job);
             false
         }
-        Next::Nothing => {
-            pause.snooze();
-            false
-        }
-        Next::Finished | Next::Stopped => true,
+        NextPair::Single(next) => go_on(rt, gate, shared, pause, seat, next),
     }
 }
 
