@@ -5,6 +5,7 @@ ghost use Rattle.local_rule.specs.ReadyRules.{AreLimits, IsLimit};
 ghost use Rattle.local_rule.specs.RowOrder.{is_in_order};
 
 use crate::row_order::is_in_order;
+use spin_model::CERTAIN;
 use std::marker::Model;
 use threshold_table::{RuleKind, RuleRow, SlotRule};
 
@@ -131,6 +132,6 @@ fn with_sign(threshold: u64) -> i64
     if threshold == 0 {
         -1
     } else {
-        threshold.min(1 << 32) as i64
+        threshold.min(CERTAIN) as i64
     }
 }
