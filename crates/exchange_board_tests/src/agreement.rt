@@ -1,4 +1,4 @@
-//! Boards of random couplings, worked on in three orders, against their samples run alone.
+//! Boards of random couplings, worked on in four orders, against their samples run alone.
 
 ghost use Rattle.std.specs.Prelude.{◌≡◌, ◌+◌, ◌<◌, length, IfOk};
 ghost use Rattle.std.specs.Arc.{arc_value};
@@ -127,7 +127,7 @@ fn orders_agree<R: Abort + Threads + Sync>(
     let plan = random_slots(alloc, 6, kind)?;
     let start = opening(alloc, &plan, Start::Random)?;
     let end = worked(rt, alloc, &plan, &start, Order::OneByOne)?;
-    for order in [Order::FirstBackFirst, Order::LastBackFirst] {
+    for order in [Order::FirstBackFirst, Order::LastBackFirst, Order::InPairs] {
         order_agrees(rt, alloc, &plan, &start, &end, order)?;
     }
     holds(rt, "384 records", 0, end.records().len() == 384);
@@ -135,7 +135,7 @@ fn orders_agree<R: Abort + Threads + Sync>(
 }
 
 #[test]
-fn a_board_ends_as_its_64_samples_alone_in_three_orders(rt: HostRuntime) -> Result<(), Fail> {
+fn a_board_ends_as_its_64_samples_alone_in_four_orders(rt: HostRuntime) -> Result<(), Fail> {
     orders_agree(&rt, rt.alloc(), RuleKind::Heat)?;
     orders_agree(&rt, rt.alloc(), RuleKind::Metropolis)
 }

@@ -7,7 +7,7 @@ ghost use Rattle.plane_sweep.specs.Packed.{StandFits};
 ghost use Rattle.scalar_rule.specs.Plan.{slots_of};
 
 use coupling_set::Couplings;
-use exchange_board::{Arrival, Board, Ended, Job, Next};
+use exchange_board::{Arrival, Board, Ended, Job, Next, NextPair, PairJob};
 use lattice_geometry::Lattice;
 use plane_sweep::Stand;
 use scalar_rule::{Plan, Record, Start};
@@ -218,6 +218,8 @@ pub(super) enum Order {
     FirstBackFirst,
     // Two are out; the last one comes back first.
     LastBackFirst,
+    // Two partners go out at once where they may, and come back exchanged.
+    InPairs,
 }
 
 // A slot that is out is handed back, by the order with the next one.
@@ -227,13 +229,15 @@ fn go_on<R: Abort + Threads + Sync>(rt: &R, board: &mut Board, plan: &Plan, job:
     ensures { board.new.origin ≡ board.old.origin }
 {
     match order {
-        Order::OneByOne => {
+        Order::OneByOne | Order::InPairs => {
             let _ = bring(rt, board, plan, job);
         }
         Order::FirstBackFirst | Order::LastBackFirst => match board.next() {
             Next::Job(other) => match order {
                 Order::LastBackFirst => two_back(rt, board, plan, other, job),
-                Order::OneByOne | Order::FirstBackFirst => two_back(rt, board, plan, job, other),
+                Order::OneByOne | Order::FirstBackFirst | Order::InPairs => {
+                    two_back(rt, board, plan, job, other)
+                }
             },
             Next::Nothing | Next::Finished | Next::Stopped => {
                 let _ = bring(rt, board, plan, job);
@@ -258,11 +262,47 @@ fn two_back<R: Abort + Threads + Sync>(
     let _ = bring(rt, board, plan, last);
 }
 
+// Two partners are swept, exchanged and handed back.
+fn bring_pair<R: Abort + Threads + Sync>(rt: &R, board: &mut Board, plan: &Plan, job: PairJob)
+    requires plan { plan.now ≡ arc_value board.old.origin.plan }
+    requires same { job.origin ≡ board.old.origin }
+    ensures { board.new.origin ≡ board.old.origin }
+{
+    let (slot, mate, epoch) = (job.slot(), job.mate(), job.epoch());
+    assert!(rt; mate < board.slots());
+    assert!(rt; epoch < 1000);
+    assert!(rt; board.progress(slot) == 4 * epoch + 1);
+    assert!(rt; board.progress(mate) == 4 * epoch + 1);
+    let swept = job.sweep(rt, plan, 1);
+    board.arrive_pair(swept);
+}
+
+// Whether two partners or a slot were handed out; they are then back.
+fn pair_turn<R: Abort + Threads + Sync>(rt: &R, board: &mut Board, plan: &Plan) -> bool
+    requires { plan.now ≡ arc_value board.old.origin.plan }
+    ensures { board.new.origin ≡ board.old.origin }
+{
+    match board.next_pair() {
+        NextPair::Pair(job) => {
+            bring_pair(rt, board, plan, job);
+            true
+        }
+        NextPair::Single(Next::Job(job)) => {
+            let _ = bring(rt, board, plan, job);
+            true
+        }
+        NextPair::Single(Next::Nothing | Next::Finished | Next::Stopped) => false,
+    }
+}
+
 // Whether a slot was handed out; it is then back.
 fn turn<R: Abort + Threads + Sync>(rt: &R, board: &mut Board, plan: &Plan, order: Order) -> bool
     requires { plan.now ≡ arc_value board.old.origin.plan }
     ensures { board.new.origin ≡ board.old.origin }
 {
+    if let Order::InPairs = order {
+        return pair_turn(rt, board, plan);
+    }
     match board.next() {
         Next::Job(job) => {
             go_on(rt, board, plan, job, order);
