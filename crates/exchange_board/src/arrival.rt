@@ -9,11 +9,15 @@ ghost use Rattle.exchange_board.specs.Views.{place_at, out_at, ready_at, arrived
 
 use crate::board::{Board, Home, Slot};
 use crate::job::Swept;
+use crate::origin::Origin;
 use crate::pair::{PairSwept, Traded};
 use crate::rows::{SlotEpoch, put_slot, record_slot};
 use crate::totals::totals_of;
 use crate::trading::{PlanPair, Side, meet};
+use plane_sweep::Duo;
 use scalar_rule::{Plan, has_partner, has_turn};
+use std::alloc::Global;
+use std::sync::Arc;
 
 /// What a hand-back has done.
 #[derive(Clone, Copy, Debug, PartialEq, Eq)]
@@ -33,25 +37,17 @@ fn colder(slot: u32, other: u32, is_low: bool) -> u32
     if is_low { slot } else { other }
 }
 
-impl Traded {
-    // The slot at rest.
-    fn at_rest(self, epoch: u64) -> Slot
-        ensures { result ≡ record { epoch = epoch; home = Some (record { share = self.share; duo = self.duo; totals = None }) } }
-    {
-        let Traded {
-            share,
-            duo,
-            records: _,
-        } = self;
-        let home = Home {
+// A slot at rest.
+fn at_rest(share: Arc<Origin, Global>, duo: Duo, epoch: u64) -> Slot
+    ensures { result ≡ record { epoch = epoch; home = Some (record { share = share; duo = duo; totals = None }) } }
+{
+    Slot {
+        epoch,
+        home: Some(Home {
             share,
             duo,
             totals: None,
-        };
-        Slot {
-            epoch,
-            home: Some(home),
-        }
+        }),
     }
 }
 
@@ -108,21 +104,30 @@ impl Board {
             high,
             wheels,
         } = swept;
-        let records = &mut self.records;
+        let Traded {
+            share,
+            duo,
+            records: made,
+        } = low;
         put_slot(
-            records,
-            &low.records,
+            &mut self.records,
+            &made,
             &self.origin,
             SlotEpoch { slot, epoch },
         );
+        *self.slots.at_mut(slot as usize) = at_rest(share, duo, epoch + 1);
+        let Traded {
+            share,
+            duo,
+            records: made,
+        } = high;
         let next = SlotEpoch {
             slot: slot + 1,
             epoch,
         };
-        put_slot(records, &high.records, &self.origin, next);
+        put_slot(&mut self.records, &made, &self.origin, next);
+        *self.slots.at_mut(slot as usize + 1) = at_rest(share, duo, epoch + 1);
         *self.pairs.at_mut(slot as usize) = wheels;
-        *self.slots.at_mut(slot as usize) = low.at_rest(epoch + 1);
-        *self.slots.at_mut(slot as usize + 1) = high.at_rest(epoch + 1);
     }
 
     // Whether a slot waits at an epoch.
@@ -174,14 +179,7 @@ impl Board {
         } = swept;
         let at = SlotEpoch { slot, epoch };
         record_slot(&mut self.records, &duo, &sums, plan, &self.origin, at);
-        *self.slots.at_mut(slot as usize) = Slot {
-            epoch: epoch + 1,
-            home: Some(Home {
-                share,
-                duo,
-                totals: None,
-            }),
-        };
+        *self.slots.at_mut(slot as usize) = at_rest(share, duo, epoch + 1);
     }
 
     fn wait(&mut self, plan: &Plan, swept: Swept)
@@ -242,13 +240,6 @@ impl Board {
             is_low,
         };
         meet(mate, &mut duo, &totals, wheels, &side);
-        *self.slots.at_mut(slot as usize) = Slot {
-            epoch: epoch + 1,
-            home: Some(Home {
-                share,
-                duo,
-                totals: None,
-            }),
-        };
+        *self.slots.at_mut(slot as usize) = at_rest(share, duo, epoch + 1);
     }
 }
