@@ -105,20 +105,25 @@ impl Board {
         self.records.as_slice()
     }
 
-    // The first of the slots of least epoch that may be handed out: so the others keep partners to meet.
-    fn ready_slot(&self) -> Option<u32>
+    // The first from a slot on, and then from slot 0 on, of the slots of least epoch that may be handed out:
+    // so the others keep partners to meet.
+    fn ready_slot(&self, near: u32) -> Option<u32>
         ensures some { IfSome result (λ t. (t < length self.now.places) × IsReady self.now.origin.window.until self.now.places t) }
         ensures none { IfNone result (NoneReady self.now.origin.window.until self.now.places) }
         ensures lively { IfNone result (NoneOut self.now.places → AllEnded self.now.origin.window.until self.now.places) }
         ensures phased { IsPhased self.now.places }
     {
-        let mut least = 4 * self.origin.window.until;
+        let end = 4 * self.origin.window.until;
+        let mut least = 64 * end;
         let mut found = None;
         'slots: for t in 0..self.slots.len() as u32 {
             let number = self.progress(t);
-            if number % 4 == 0 && number < least {
-                least = number;
-                found = Some(t);
+            if number % 4 == 0 && number < end {
+                let rank = 64 * number + order_from(near, t);
+                if rank < least {
+                    least = rank;
+                    found = Some(t);
+                }
             }
         }
         found
@@ -171,7 +176,15 @@ impl Board {
         ensures next { Nexts self.old self.new result }
         ensures phased { IsPhased self.old.places }
     {
-        let ready = self.ready_slot();
+        self.next_from(0)
+    }
+
+    // The same, with a slot from which on it looks.
+    fn next_from(&mut self, near: u32) -> Next
+        ensures next { Nexts self.old self.new result }
+        ensures phased { IsPhased self.old.places }
+    {
+        let ready = self.ready_slot(near);
         if self.is_ended() {
             return Next::Finished;
         }
@@ -183,6 +196,14 @@ impl Board {
             None => Next::Nothing,
         }
     }
+}
+
+// The place of a slot, of at most 32, where they are looked at from one on and then from slot 0 on.
+fn order_from(near: u32, slot: u32) -> u64
+    ensures { result < 64 }
+{
+    let place = slot as u64 % 32;
+    if slot < near { place + 32 } else { place }
 }
 
 /// What a board answers when it is asked for two partners.
@@ -197,12 +218,14 @@ impl Board {
     ghost use Rattle.exchange_board.specs.Answers.{NextPairs, TakesPartner};
 
     /// As `next`, but where the slot's partner is at rest at the same epoch, and a hand-out is left for
-    /// it, both are then in work. Takes no memory, and time by the number of slots.
-    pub fn next_pair(&mut self) -> NextPair
+    /// it, both are then in work. Of slots of one epoch those from `near` on come first, so that a worker
+    /// who always gives the same finds slots that it had before. Takes no memory, and time by the number
+    /// of slots.
+    pub fn next_pair(&mut self, near: u32) -> NextPair
         ensures next { NextPairs self.old self.new result }
         ensures phased { IsPhased self.old.places }
     {
-        match self.next() {
+        match self.next_from(near) {
             Next::Job(job) => match self.take_partner(job) {
                 Ok(pair) => NextPair::Pair(pair),
                 Err(job) => NextPair::Single(Next::Job(job)),

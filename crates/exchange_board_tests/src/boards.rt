@@ -282,7 +282,7 @@ fn pair_turn<R: Abort + Threads + Sync>(rt: &R, board: &mut Board, plan: &Plan) 
     requires { plan.now ≡ arc_value board.old.origin.plan }
     ensures { board.new.origin ≡ board.old.origin }
 {
-    match board.next_pair() {
+    match board.next_pair(1) {
         NextPair::Pair(job) => {
             bring_pair(rt, board, plan, job);
             true

@@ -40,9 +40,9 @@ pub fn drive<R: Threads + Wait + Sync, G: Gate + Sync>(
         board: &board,
         plan,
         pieces,
-        in_pairs: plan.slots() as usize >= 2 * seats.len(),
+        slots_each: plan.slots() as usize / seats.len().max(1),
     };
-    work_all(rt, gate, &shared, seats.as_mut_slice());
+    work_all(rt, gate, &shared, 0, seats.as_mut_slice());
     match board.close(seats).into_ragged() {
         Ok(ended) => Done {
             ended,

@@ -16,15 +16,24 @@ use std::sync::Wait;
 use std::thread::{Threads, join_mut};
 
 /// What all workers of a run share: the board, the plan, into how many pieces they cut the planes of a
-/// sweep at most, and whether each takes two partners at once where it can.
+/// sweep at most, and how many slots there are for each of them. Where there are two and more, each takes
+/// two partners at once where it can.
 #[derive(Clone, Copy)]
 pub(crate) struct Shared<'a> {
     pub(crate) board: &'a SharedBoard,
     pub(crate) plan: &'a Plan,
     pub(crate) pieces: u32,
-    pub(crate) in_pairs: bool,
+    pub(crate) slots_each: usize,
     ghost some_pieces: { 1 ≤ pieces },
     ghost few_pieces: { pieces ≤ 16 },
+}
+
+// What a worker keeps from turn to turn: the slot from which on it looks, so that it finds those again whose
+// content is near its processor, and its pause.
+#[derive(Drop)]
+struct Habits {
+    near: u32,
+    pause: Backoff,
 }
 
 // The sweeps of a slot that this seat took, and its hand-back.
@@ -96,7 +105,7 @@ fn turn<R: Threads + Wait + Sync, G: Gate + Sync>(
     rt: &R,
     gate: &G,
     shared: &Shared,
-    pause: &Backoff,
+    habits: &Habits,
     seat: &mut BoardPass,
 ) -> bool
     requires rest { IsAtRest (lock_id shared.now.board.now) shared.now.plan.now seat.old }
@@ -104,17 +113,17 @@ fn turn<R: Threads + Wait + Sync, G: Gate + Sync>(
     ensures same { IsSame (seat_view seat.old) (seat_view seat.new) }
     ensures left { result ≡ true → HasLeft (seat_view seat.new) }
 {
-    if !shared.in_pairs {
+    if shared.slots_each < 2 {
         let next = shared.board.take(rt, seat);
-        return go_on(rt, gate, shared, pause, seat, next);
+        return go_on(rt, gate, shared, &habits.pause, seat, next);
     }
-    match shared.board.take_pair(rt, seat) {
+    match shared.board.take_pair(rt, seat, habits.near) {
         NextPair::Pair(job) => {
-            pause.reset();
+            habits.pause.reset();
             bring_pair(rt, gate, shared, seat, job);
             false
         }
-        NextPair::Single(next) => go_on(rt, gate, shared, pause, seat, next),
+        NextPair::Single(next) => go_on(rt, gate, shared, &habits.pause, seat, next),
     }
 }
 
@@ -123,6 +132,7 @@ fn work<R: Threads + Wait + Sync, G: Gate + Sync>(
     rt: &R,
     gate: &G,
     shared: &Shared,
+    number: usize,
     seat: &mut BoardPass,
 )
     requires rest { IsAtRest (lock_id shared.now.board.now) shared.now.plan.now seat.old }
@@ -130,9 +140,12 @@ fn work<R: Threads + Wait + Sync, G: Gate + Sync>(
     ensures same { IsSame (seat_view seat.old) (seat_view seat.new) }
     ensures left { HasLeft (seat_view seat.new) }
 {
-    let pause = Backoff::new();
+    let habits = Habits {
+        near: (number.wrapping_mul(shared.slots_each) % 32) as u32,
+        pause: Backoff::new(),
+    };
     for _ in rt.forever() {
-        if turn(rt, gate, shared, &pause, seat) {
+        if turn(rt, gate, shared, &habits, seat) {
             return;
         }
     }
@@ -140,13 +153,14 @@ fn work<R: Threads + Wait + Sync, G: Gate + Sync>(
 }
 
 /// Works at a board with one worker a seat, by fork and join over halves of the list of seats, until
-/// each found that there is no more to do. Where a thread can't be started, its half is worked by the
-/// caller. Takes no memory.
+/// each found that there is no more to do; `first` is the number of the first. Where a thread can't be
+/// started, its half is worked by the caller. Takes no memory.
 #[cycle(halves)]
 pub(crate) fn work_all<R: Threads + Wait + Sync, G: Gate + Sync>(
     rt: &R,
     gate: &G,
     shared: &Shared,
+    first: usize,
     seats: &mut [BoardPass],
 )
     requires rest { AreAtRest (lock_id shared.now.board.now) shared.now.plan.now seats.old }
@@ -154,12 +168,12 @@ pub(crate) fn work_all<R: Threads + Wait + Sync, G: Gate + Sync>(
 {
     if seats.len() < 2 {
         if let Some(seat) = seats.first_mut() {
-            work(rt, gate, shared, seat);
+            work(rt, gate, shared, first, seat);
         }
         return;
     }
     let (front, back) = seats.split_at_mut(seats.len() / 2);
-    both(rt, gate, shared, front, back);
+    both(rt, gate, shared, first, front, back);
 }
 
 // Apart from `work_all`, so that what the closures require is what this function is given.
@@ -168,6 +182,7 @@ fn both<R: Threads + Wait + Sync, G: Gate + Sync>(
     rt: &R,
     gate: &G,
     shared: &Shared,
+    first: usize,
     front: &mut [BoardPass],
     back: &mut [BoardPass],
 )
@@ -177,17 +192,18 @@ fn both<R: Threads + Wait + Sync, G: Gate + Sync>(
     ensures front { HaveLeft (lock_id shared.now.board.now) shared.now.plan.now front.old front.new }
     ensures back { HaveLeft (lock_id shared.now.board.now) shared.now.plan.now back.old back.new }
 {
+    let middle = first.wrapping_add(front.len());
     join_mut(
         rt,
         &mut ||
             requires { IsSync R.row × IsSync G.row
                 × AreAtRest (lock_id shared.now.board.now) shared.now.plan.now front.now }
             ensures { HaveLeft (lock_id shared.entry.now.board.now) shared.entry.now.plan.now front.entry.now front.exit.now }
-        { work_all(rt, gate, shared, front) },
+        { work_all(rt, gate, shared, first, front) },
         &mut ||
             requires { IsSync R.row × IsSync G.row
                 × AreAtRest (lock_id shared.now.board.now) shared.now.plan.now back.now }
             ensures { HaveLeft (lock_id shared.entry.now.board.now) shared.entry.now.plan.now back.entry.now back.exit.now }
-        { work_all(rt, gate, shared, back) },
+        { work_all(rt, gate, shared, middle, back) },
     );
 }

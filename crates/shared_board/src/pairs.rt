@@ -15,8 +15,9 @@ impl SharedBoard {
     ghost use Rattle.shared_board.specs.Shared.{lock_id, HasFound, IsHolderOf};
 
     /// Takes two partners in one turn of the lock, for which it waits, where the board may hand out both;
-    /// they are then in this seat's work. Else as `take`.
-    pub fn take_pair<R: Wait>(&self, rt: &R, pass: &mut BoardPass) -> NextPair
+    /// they are then in this seat's work. Else as `take`. Of slots of one epoch those from `near` on come
+    /// first.
+    pub fn take_pair<R: Wait>(&self, rt: &R, pass: &mut BoardPass, near: u32) -> NextPair
         requires own { IsSeatOf (lock_id self.now) pass.old }
         requires free { (seat_view pass.old).holding ≡ false }
         ensures own { IsSeatOf (lock_id self.now) pass.new }
@@ -25,18 +26,18 @@ impl SharedBoard {
         ensures taken { TakesPair (with_refused (seat_view pass.old) (seat_view pass.new).refused) (seat_view pass.new) result }
     {
         let board = self.cell.take_turn(rt, pass);
-        self.hand_out_pair(pass, board)
+        self.hand_out_pair(pass, board, near)
     }
 
     // The holder asks the board, stores the words of the slots that it gets, and gives the lock back.
-    fn hand_out_pair(&self, pass: &mut BoardPass, mut board: Board) -> NextPair
+    fn hand_out_pair(&self, pass: &mut BoardPass, mut board: Board, near: u32) -> NextPair
         requires own { IsSeatOf (lock_id self.now) pass.old }
         requires holder { IsHolderOf (seat_view pass.old) board }
         ensures own { IsSeatOf (lock_id self.now) pass.new }
         ensures refused { (seat_view pass.new).refused ≡ (seat_view pass.old).refused }
         ensures taken { (v : _) → HasFound v (seat_view pass.old) board → TakesPair v (seat_view pass.new) result }
     {
-        match board.next_pair() {
+        match board.next_pair(near) {
             NextPair::Pair(pair) => {
                 self.store(pass, &board, pair.slot());
                 self.store(pass, &board, pair.slot() + 1);
