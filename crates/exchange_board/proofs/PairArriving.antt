@@ -29,7 +29,7 @@ use Rattle.exchange_board.specs.Views.{Stage, BoardView, JobView, place_at, read
 use Rattle.exchange_board.specs.Content.{plan_of, slots_in, starts, floor_in, pair_in, record_at}
 use Rattle.exchange_board.specs.Machine.{epochs, phases}
 use Rattle.exchange_board.specs.Meeting.{half, Met, RecordsAfter}
-use Rattle.exchange_board.specs.PairKeeps.{before, AreTraded, AreRecords, swept_pair_view, KeepsSweptPair}
+use Rattle.exchange_board.specs.PairKeeps.{before, IsPairExchange, AreRecords, swept_pair_view, KeepsSweptPair}
 use Rattle.exchange_board.specs.BoardKeeps.{place_of, places_of, board_view, KeepsBoard}
 use Rattle.exchange_board.proofs.Keeping.{one, places-long}
 use Rattle.exchange_board.proofs.Arriving.{Coming, known-of, Written, home_of, wait-keeps}
@@ -143,7 +143,7 @@ pair-keeps b j o' p' rs ss c o_is p_is low_written high_written =
     let second : RecordsAfter o (t + 1) e (λ i. record_of plan i (part_slot plan.size i k.hot)) rs ss = records-made o (arc_value j.low.share) (t + 1) e k.hot j.high.records rs ss c.same few k.high_records (subst V p_is high_written) in
     let T : Origin → Type 0 = λ x. AreTotals (plan_of x) k.cold k.cold_totals in
     let G : Origin → Type 0 = λ x. (i : ℕ) → part_pair k.was ≡ generators (plan_of x) (starts x i) t e in
-    let X : Origin → Type 0 = λ x. AreTraded (plan_of x) t k.cold k.hot j.low.duo j.high.duo k.was j.wheels in
+    let X : Origin → Type 0 = λ x. IsPairExchange (plan_of x) t k.cold k.hot j.low.duo j.high.duo k.was j.wheels in
     let l : Low t e = low-of t e k.turn in
     let h : High (t + 1) e = high-side (t + 1) e (let z = l.parity in omega arith) in
     let back : partner (t + 1) e ≡ t = let z = h.partner_is in omega arith in
@@ -172,7 +172,7 @@ pair-keeps b j o' p' rs ss c o_is p_is low_written high_written =
     let was_is : was ≡ get_or b.pairs t was = sym (get_or_default b.pairs t was none k_in) in
     let epoch : epochs ps t ≡ e = ap (λ (q : Stage). q.epoch) c.low in
     let right : part_pair was ≡ part_pair k.was = c.keeps.pairs t 0 more ∙ (ap (generators plan (starts o 0) t) epoch ∙ sym (subst G c.same k.generators_are 0)) in
-    let Y : PairWheels → Type 0 = λ w. AreTraded plan t k.cold k.hot j.low.duo j.high.duo w j.wheels in
+    let Y : PairWheels → Type 0 = λ w. IsPairExchange plan t k.cold k.hot j.low.duo j.high.duo w j.wheels in
     let same_wheels : k.was ≡ was = ap (λ (q : PlainPair). let w : PairWheels = record { first = q.first; second = q.second } in w) (sym right) in
     let traded : Y was = subst Y same_wheels (subst X c.same k.traded) in
     let y : Slot = rested_at j.low (e + 1) in

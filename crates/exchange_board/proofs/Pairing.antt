@@ -25,8 +25,8 @@ use Rattle.exchange_board.specs.Views.{Stage, BoardView, JobView, place_at, read
 use Rattle.exchange_board.specs.Content.{plan_of, slots_in, starts, taken_before}
 use Rattle.exchange_board.specs.Machine.{epochs, phases, numbers, begun, taken}
 use Rattle.exchange_board.specs.JobKeeps.{swept_view, KeepsSwept}
-use Rattle.exchange_board.specs.PairKeeps.{ArePartners, KeepsPair, AreTraded, AreRecords, KeepsSweptPair}
-use Rattle.exchange_board.specs.Answers.{Takes, TakesPartner, TakesPair, with_pair_out}
+use Rattle.exchange_board.specs.PairKeeps.{TakesPartner, ArePartners, KeepsPair, IsPairExchange, AreRecords, KeepsSweptPair}
+use Rattle.exchange_board.specs.Answers.{Takes, TakesPair}
 use Rattle.exchange_board.specs.BoardKeeps.{places_of, board_view, KeepsBoard}
 use Rattle.exchange_board.proofs.Keeping.{one-set, places-long}
 
@@ -158,7 +158,7 @@ takes-pair b c d j p first then =
 pub swept-pair : (l h : swept.Inside) (v w : JobView) (was now : PairWheels) (totals : Totals) (cold hot : Duo) (cold_records hot_records : List Record)
     → KeepsSwept l → KeepsSwept h → swept_view l ≡ v → swept_view h ≡ w → ArePartners v w
     → ((i : ℕ) → part_pair was ≡ generators (plan_of v.origin) (starts v.origin i) v.slot v.epoch)
-    → AreTotals (plan_of v.origin) l.duo totals → AreTraded (plan_of v.origin) l.slot l.duo h.duo cold hot was now
+    → AreTotals (plan_of v.origin) l.duo totals → IsPairExchange (plan_of v.origin) l.slot l.duo h.duo cold hot was now
     → AreRecords v.origin l.epoch l.duo cold_records → AreRecords v.origin l.epoch h.duo hot_records
     → (let j : pair_swept.Inside = record {
       slot = l.slot;
@@ -182,7 +182,7 @@ swept-pair l h v w was now totals cold hot cold_records hot_records keeps_l keep
     let g1 : G o v.slot v.epoch = subst (λ (x : Origin). G x v.slot v.epoch) back_to right in
     let g2 : G o l.slot v.epoch = subst (λ s. G o s v.epoch) slot g1 in
     let T : Origin → Type 0 = λ x. AreTotals (plan_of x) l.duo totals in
-    let X : Origin → Type 0 = λ x. AreTraded (plan_of x) l.slot l.duo h.duo cold hot was now in
+    let X : Origin → Type 0 = λ x. IsPairExchange (plan_of x) l.slot l.duo h.duo cold hot was now in
     let R : Origin → Type 0 = λ x. AreRecords x l.epoch l.duo cold_records in
     let S : Origin → Type 0 = λ x. AreRecords x l.epoch h.duo hot_records in
     record {

@@ -34,16 +34,6 @@ pub record Takes (b c : BoardView) (j : JobView) : Type 0 where
   pub after : c ≡ placed b (slice_set b.places j.slot (out_at j.epoch))
   pub left : taken b.places < taken_before b.origin + b.origin.window.takes
 
--- of a slot in work the partner, at rest at its epoch, is handed out too; the pair's view is that of its colder slot
-pub record TakesPartner (b c : BoardView) (j p : JobView) : Type 0 where
-  pub origin : p.origin ≡ b.origin
-  pub has : has_partner (length b.places) j.slot j.epoch ≡ true
-  pub slot : p.slot ≡ pair_of j.slot j.epoch
-  pub epoch : p.epoch ≡ j.epoch
-  pub ready : place_at b.places (partner j.slot j.epoch) ≡ ready_at j.epoch
-  pub after : c ≡ placed b (slice_set b.places (partner j.slot j.epoch) (out_at j.epoch))
-  pub left : taken b.places < taken_before b.origin + b.origin.window.takes
-
 -- the places once the slots t and t + 1 are out at e
 abbrev pub with_pair_out : List Stage → ℕ → ℕ → List Stage
 with_pair_out ps t e = slice_set (slice_set ps t (out_at e)) (t + 1) (out_at e)
@@ -80,10 +70,21 @@ start_place p = if p.arrived then arrived_at p.epoch else ready_at p.epoch
 abbrev pub stages_of : RaggedStand → List Stage
 stages_of stand = map start_place stand.places
 
--- two partners where both may be handed out, or what is answered for one slot
+-- where a slot goes out alone: it has no partner at its epoch, or that one is not at rest there, or no hand-out is left
+abbrev pub GoesAlone : BoardView → JobView → Type 0
+GoesAlone c j = has_partner (length c.places) j.slot j.epoch ≡ true → place_at c.places (partner j.slot j.epoch) ≡ ready_at j.epoch → IsSpent c
+
+-- the same of an answer; those without a slot say nothing more
+abbrev pub GoesNextAlone : BoardView → Next → Type 0
+GoesNextAlone c (nexts.Job j) = GoesAlone c j
+GoesNextAlone c nexts.Nothing = Unit {0}
+GoesNextAlone c nexts.Finished = Unit {0}
+GoesNextAlone c nexts.Stopped = Unit {0}
+
+-- two partners, or one slot that goes out alone, or why there is none
 abbrev pub NextPairs : BoardView → BoardView → NextPair → Type 0
 NextPairs b c (pairs.Pair p) = TakesPair b c p
-NextPairs b c (pairs.Single next) = Nexts b c next
+NextPairs b c (pairs.Single next) = Nexts b c next × GoesNextAlone c next
 
 -- a board of this plan, starting state and window, at the state's places
 pub record Opened (plan : Plan) (base : RaggedStand) (window : Window) (b : BoardView) : Type 0 where

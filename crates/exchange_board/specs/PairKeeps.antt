@@ -1,7 +1,7 @@
 -- What two partners in work keep, before their sweeps, and after these and the exchange.
-use Rattle.std.specs.Prelude.{◌≡◌, ℕ, ◌+◌, ◌<◌, ◌≤◌, true, List}
+use Rattle.std.specs.Prelude.{◌≡◌, ℕ, ◌+◌, ◌<◌, true, List, length, slice_set}
 use Rattle.std.specs.Arc.{arc_value}
-use Rattle.scalar_rule.specs.Epoch.{has_turn, record_of}
+use Rattle.scalar_rule.specs.Epoch.{has_turn, has_partner, partner, pair_of, record_of}
 use Rattle.scalar_rule.specs.Exchange.{cold_side, hot_side, drawn_pair}
 use Rattle.scalar_rule.specs.Plan.{Plan}
 use Rattle.scalar_rule.specs.Ragged.{generators}
@@ -17,10 +17,11 @@ use Rattle.exchange_board.specs.declared.pair.PairSwept.TheInside as pair_swept
 use Rattle.exchange_board.specs.declared.pair.Traded.{Traded}
 use Rattle.exchange_board.specs.declared.totals.Sums.{Sums}
 use Rattle.exchange_board.specs.declared.totals.Totals.{Totals}
-use Rattle.exchange_board.specs.Content.{plan_of, starts, record_at}
+use Rattle.exchange_board.specs.Content.{plan_of, starts, taken_before, record_at}
 use Rattle.exchange_board.specs.JobKeeps.{KeepsSwept}
 use Rattle.exchange_board.specs.Totals.{AreTotals}
-use Rattle.exchange_board.specs.Views.{JobView}
+use Rattle.exchange_board.specs.Machine.{taken}
+use Rattle.exchange_board.specs.Views.{BoardView, JobView, place_at, ready_at, out_at, placed}
 
 -- two slots of one board that are partners at their epoch, the colder one first
 pub record ArePartners (low high : JobView) : Type 0 where
@@ -28,6 +29,16 @@ pub record ArePartners (low high : JobView) : Type 0 where
   pub next : high.slot ≡ low.slot + 1
   pub epoch : high.epoch ≡ low.epoch
   pub turn : has_turn low.slot low.epoch ≡ true
+
+-- of a slot in work the partner, at rest at its epoch, is handed out too; the pair's view is that of its colder slot
+pub record TakesPartner (b c : BoardView) (j p : JobView) : Type 0 where
+  pub origin : p.origin ≡ b.origin
+  pub has : has_partner (length b.places) j.slot j.epoch ≡ true
+  pub slot : p.slot ≡ pair_of j.slot j.epoch
+  pub epoch : p.epoch ≡ j.epoch
+  pub ready : place_at b.places (partner j.slot j.epoch) ≡ ready_at j.epoch
+  pub after : c ≡ placed b (slice_set b.places (partner j.slot j.epoch) (out_at j.epoch))
+  pub left : taken b.places < taken_before b.origin + b.origin.window.takes
 
 -- what contracts see of two partners: what they see of the colder one
 abbrev pub pair_view : pair_job.Inside → JobView
@@ -52,7 +63,7 @@ AreRecords o epoch duo records = is_recorded o.window.every epoch ≡ true → (
     → record_at records b ≡ record_of (plan_of o) b (part_slot (plan_of o).size b duo)
 
 -- the exchange of a pair, from the contents and generators before it to those after it
-pub record AreTraded (plan : Plan) (k : ℕ) (cold hot cold_after hot_after : Duo) (was now : PairWheels) : Type 0 where
+pub record IsPairExchange (plan : Plan) (k : ℕ) (cold hot cold_after hot_after : Duo) (was now : PairWheels) : Type 0 where
   pub cold_is : (b : ℕ) → b < 64 → part_slot plan.size b cold_after ≡ cold_side plan b k (part_pair was) (part_slot plan.size b cold) (part_slot plan.size b hot)
   pub hot_is : (b : ℕ) → b < 64 → part_slot plan.size b hot_after ≡ hot_side plan b k (part_pair was) (part_slot plan.size b cold) (part_slot plan.size b hot)
   pub wheels_are : part_pair now ≡ drawn_pair (part_pair was)
@@ -74,6 +85,6 @@ pub record KeepsSweptPair (j : pair_swept.Inside) : Type 0 where
   pub high_swept : KeepsSwept (before j (j.slot + 1) j.high hot hot_sums)
   pub totals : AreTotals (plan_of (arc_value j.low.share)) cold cold_totals
   pub generators_are : (i : ℕ) → part_pair was ≡ generators (plan_of (arc_value j.low.share)) (starts (arc_value j.low.share) i) j.slot j.epoch
-  pub traded : AreTraded (plan_of (arc_value j.low.share)) j.slot cold hot j.low.duo j.high.duo was j.wheels
+  pub traded : IsPairExchange (plan_of (arc_value j.low.share)) j.slot cold hot j.low.duo j.high.duo was j.wheels
   pub low_records : AreRecords (arc_value j.low.share) j.epoch cold j.low.records
   pub high_records : AreRecords (arc_value j.low.share) j.epoch hot j.high.records

@@ -15,7 +15,7 @@ pub record BoardView : Type 0 where
   pub origin : Origin
   pub places : List Stage
 
--- a slot in work: the provenance of its board, its number and its epoch
+-- a slot in work, or of two partners in work the colder one: the provenance of its board, its number and its epoch
 pub record JobView : Type 0 where
   pub origin : Origin
   pub slot : ℕ

@@ -11,7 +11,7 @@ use crate::board::{Board, Home, Slot};
 use crate::job::Swept;
 use crate::origin::Origin;
 use crate::pair::{PairSwept, Traded};
-use crate::rows::{SlotEpoch, put_slot, record_slot};
+use crate::rows::{SlotEpoch, put_records, record_slot};
 use crate::totals::totals_of;
 use crate::trading::{PlanPair, Side, meet};
 use plane_sweep::Duo;
@@ -109,7 +109,7 @@ impl Board {
             duo,
             records: made,
         } = low;
-        put_slot(
+        put_records(
             &mut self.records,
             &made,
             &self.origin,
@@ -125,7 +125,7 @@ impl Board {
             slot: slot + 1,
             epoch,
         };
-        put_slot(&mut self.records, &made, &self.origin, next);
+        put_records(&mut self.records, &made, &self.origin, next);
         *self.slots.at_mut(slot as usize + 1) = at_rest(share, duo, epoch + 1);
         *self.pairs.at_mut(slot as usize) = wheels;
     }

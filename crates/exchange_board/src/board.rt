@@ -105,8 +105,8 @@ impl Board {
         self.records.as_slice()
     }
 
-    // The first from a slot on, and then from slot 0 on, of the slots of least epoch that may be handed out:
-    // so the others keep partners to meet.
+    // Of the slots of least epoch that may be handed out the first from `near` on, else the first from slot 0
+    // on. With the least epoch first the others keep partners to meet.
     fn ready_slot(&self, near: u32) -> Option<u32>
         ensures some { IfSome result (λ t. (t < length self.now.places) × IsReady self.now.origin.window.until self.now.places t) }
         ensures none { IfNone result (NoneReady self.now.origin.window.until self.now.places) }
@@ -198,7 +198,7 @@ impl Board {
     }
 }
 
-// The place of a slot, of at most 32, where they are looked at from one on and then from slot 0 on.
+// The rank of a slot, of at most 32, in the order near, near + 1 and on, and then 0, 1 and on.
 fn order_from(near: u32, slot: u32) -> u64
     ensures { result < 64 }
 {
@@ -210,17 +210,18 @@ fn order_from(near: u32, slot: u32) -> u64
 pub enum NextPair {
     /// Two partners, now in work.
     Pair(PairJob),
-    /// What `next` answers: no two partners may be handed out with its slot.
+    /// What `next` answers: a slot whose partner can't go with it, or none.
     Single(Next),
 }
 
 impl Board {
-    ghost use Rattle.exchange_board.specs.Answers.{NextPairs, TakesPartner};
+    ghost use Rattle.exchange_board.specs.Answers.{NextPairs, GoesAlone};
+    ghost use Rattle.exchange_board.specs.PairKeeps.{TakesPartner};
 
-    /// As `next`, but where the slot's partner is at rest at the same epoch, and a hand-out is left for
-    /// it, both are then in work. Of slots of one epoch those from `near` on come first, so that a worker
-    /// who always gives the same finds slots that it had before. Takes no memory, and time by the number
-    /// of slots.
+    /// As `next`, but both slots of a pair are then in work where the partner is at rest at the same epoch
+    /// and a hand-out is left for it. Which of several slots is not promised; of those of one epoch those
+    /// from `near` on come first, so that a worker who always gives the same finds slots that it had before.
+    /// Takes no memory, and time by the number of slots.
     pub fn next_pair(&mut self, near: u32) -> NextPair
         ensures next { NextPairs self.old self.new result }
         ensures phased { IsPhased self.old.places }
@@ -230,7 +231,9 @@ impl Board {
                 Ok(pair) => NextPair::Pair(pair),
                 Err(job) => NextPair::Single(Next::Job(job)),
             },
-            other => NextPair::Single(other),
+            Next::Nothing => NextPair::Single(Next::Nothing),
+            Next::Finished => NextPair::Single(Next::Finished),
+            Next::Stopped => NextPair::Single(Next::Stopped),
         }
     }
 
@@ -241,6 +244,7 @@ impl Board {
         requires out { place_at self.old.places job.slot ≡ out_at job.epoch }
         ensures pair { IfOk result (TakesPartner self.old self.new job) }
         ensures single { IfErr result (λ back. back ≡ job) }
+        ensures alone { OnErr result (GoesAlone self.old job) }
         ensures kept { OnErr result (self.new ≡ self.old) }
     {
         let _ = &self.origin;

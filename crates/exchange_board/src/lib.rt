@@ -1,5 +1,6 @@
 //! The exchange schedule of a run: the slots of 64 disorder samples, each handed out for the sweeps of
-//! its epoch and handed back, with the exchange of a pair when the second of two partners is back.
+//! its epoch and handed back, with the exchange of a pair when the second of two partners is back, or
+//! by the worker that has both.
 #![tactic(auto)]
 
 mod arrival;

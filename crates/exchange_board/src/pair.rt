@@ -9,7 +9,7 @@ ghost use Rattle.exchange_board.specs.PairKeeps.{ArePartners};
 
 use crate::job::{Job, Swept};
 use crate::origin::Origin;
-use crate::rows::noted;
+use crate::rows::slot_records;
 use crate::totals::totals_of;
 use crate::trading::{PlanPair, exchange_slots};
 use plane_sweep::{Duo, PairWheels};
@@ -41,6 +41,18 @@ pub(crate) struct Traded {
     pub(crate) share: Arc<Origin, Global>,
     pub(crate) duo: Duo,
     pub(crate) records: [Record; 64],
+}
+
+impl Traded {
+    fn new(share: Arc<Origin, Global>, duo: Duo, records: [Record; 64]) -> Traded
+        ensures { result ≡ record { share = share; duo = duo; records = records } }
+    {
+        Traded {
+            share,
+            duo,
+            records,
+        }
+    }
 }
 
 impl Model for PairJob {
@@ -144,8 +156,8 @@ fn exchange_pair(low: Swept, high: Swept, mut wheels: PairWheels, plan: &Plan) -
         sums: hot_sums,
     } = high;
     let is_recorded = is_recorded(low_share.window.every, epoch);
-    let cold_records = noted(&cold, &cold_sums, plan, is_recorded);
-    let hot_records = noted(&hot, &hot_sums, plan, is_recorded);
+    let cold_records = slot_records(&cold, &cold_sums, plan, is_recorded);
+    let hot_records = slot_records(&hot, &hot_sums, plan, is_recorded);
     let cold_totals = totals_of(&cold, &cold_sums, plan);
     let hot_totals = totals_of(&hot, &hot_sums, plan);
     let pair = PlanPair { plan, number: slot };
@@ -160,16 +172,8 @@ fn exchange_pair(low: Swept, high: Swept, mut wheels: PairWheels, plan: &Plan) -
     PairSwept {
         slot,
         epoch,
-        low: Traded {
-            share: low_share,
-            duo: cold,
-            records: cold_records,
-        },
-        high: Traded {
-            share: high_share,
-            duo: hot,
-            records: hot_records,
-        },
+        low: Traded::new(low_share, cold, cold_records),
+        high: Traded::new(high_share, hot, hot_records),
         wheels,
     }
 }

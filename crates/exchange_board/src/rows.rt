@@ -14,7 +14,7 @@ use plain_list::Items;
 use plane_sweep::Duo;
 use scalar_rule::{Plan, Record, is_recorded};
 
-/// The record of nothing.
+/// A record of zeros.
 pub(crate) const NO_RECORD: Record = Record {
     first_energy: 0,
     second_energy: 0,
@@ -66,24 +66,6 @@ pub(crate) fn rows_of(origin: &Origin, slot: u32, epoch: u64) -> Rows
     }
 }
 
-// The record of a slot in each printed sample, where its epoch is recorded.
-fn write_rows(records: &mut Items<Record>, duo: &Duo, sums: &Sums, plan: &Plan, rows: &Rows)
-    requires duo { FitsDuo plan.now.size duo.now }
-    requires sums { AreSums plan.now duo.now sums.now }
-    requires samples { rows.now.samples ≤ 64 }
-    requires slot { rows.now.slot < rows.now.slots }
-    requires few { length records.old ≤ most_rows }
-    requires room { rows.now.is_recorded ≡ true → (rows.now.at + rows.now.samples) * rows.now.slots ≤ length records.old }
-    ensures { RowsAfter rows.now (λ i. model.record_of plan.now i (part_slot plan.now.size i duo.now)) records.old records.new }
-{
-    if rows.is_recorded {
-        let measured = measure(duo, sums, plan);
-        'samples: for i in 0..rows.samples {
-            *records.at_mut(rows.place(i)) = record_of(duo, &measured, plan, i);
-        }
-    }
-}
-
 /// A slot at an epoch.
 #[derive(Clone, Copy)]
 pub(crate) struct SlotEpoch {
@@ -110,11 +92,12 @@ pub(crate) fn record_slot(
     ensures { RecordsAfter origin.now at.slot at.epoch (λ i. model.record_of plan.now i (part_slot plan.now.size i duo.now)) records.old records.new }
 {
     let rows = rows_of(origin, at.slot, at.epoch);
-    write_rows(records, duo, sums, plan, &rows);
+    let made = slot_records(duo, sums, plan, rows.is_recorded);
+    put_rows(records, &made, &rows);
 }
 
-/// The records of a slot in all samples, made before they have a place, where they are wanted; else zeros.
-pub(crate) fn noted(duo: &Duo, sums: &Sums, plan: &Plan, is_wanted: bool) -> [Record; 64]
+/// The records of a slot in all samples, where they are wanted.
+pub(crate) fn slot_records(duo: &Duo, sums: &Sums, plan: &Plan, is_wanted: bool) -> [Record; 64]
     requires duo { FitsDuo plan.now.size duo.now }
     requires sums { AreSums plan.now duo.now sums.now }
     ensures { is_wanted ≡ true → (b : ℕ) → b < 64 → record_at result b ≡ model.record_of plan.now b (part_slot plan.now.size b duo.now) }
@@ -154,7 +137,7 @@ fn put_rows(records: &mut Items<Record>, made: &[Record; 64], rows: &Rows)
 }
 
 /// Writes the records of a slot that are made, where its epoch is recorded.
-pub(crate) fn put_slot(
+pub(crate) fn put_records(
     records: &mut Items<Record>,
     made: &[Record; 64],
     origin: &Origin,

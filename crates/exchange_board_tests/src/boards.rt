@@ -263,7 +263,12 @@ fn two_back<R: Abort + Threads + Sync>(
 }
 
 // Two partners are swept, exchanged and handed back.
-fn bring_pair<R: Abort + Threads + Sync>(rt: &R, board: &mut Board, plan: &Plan, job: PairJob)
+pub(super) fn bring_pair<R: Abort + Threads + Sync>(
+    rt: &R,
+    board: &mut Board,
+    plan: &Plan,
+    job: PairJob,
+)
     requires plan { plan.now ≡ arc_value board.old.origin.plan }
     requires same { job.origin ≡ board.old.origin }
     ensures { board.new.origin ≡ board.old.origin }

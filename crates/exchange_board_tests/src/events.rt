@@ -5,10 +5,10 @@ ghost use Rattle.std.specs.Arc.{arc_value};
 ghost use Rattle.scalar_rule.specs.Plan.{slots_of};
 
 use crate::boards::{
-    Order, Pause, bring, end_of, finish, holds, job_of, opening, pause_of, record, three_slots,
-    two_slots,
+    Order, Pause, bring, bring_pair, end_of, finish, holds, job_of, opening, pause_of, record,
+    three_slots, two_slots,
 };
-use exchange_board::{Arrival, Board, Job, Window};
+use exchange_board::{Arrival, Board, Job, NextPair, Window};
 use scalar_rule::{Plan, Record, Start};
 use std::alloc::Global;
 use std::process::Abort;
@@ -303,4 +303,30 @@ fn a_board_opened_at_its_end_is_finished(rt: HostRuntime) -> Result<(), Fail> {
     let mut board = board_of_two(rt.alloc(), &plan, 0)?;
     is_finished(&rt, &mut board);
     ends_with(board, &plan, [].as_slice(), 0)
+}
+
+// With a slot to begin at of which the partner comes before it.
+#[test]
+fn a_new_board_hands_out_two_partners(rt: HostRuntime) -> Result<(), Fail> {
+    let plan = three_slots(rt.alloc())?;
+    let stand = opening(rt.alloc(), &plan, Start::Up)?;
+    let mut board = Board::open(rt.alloc(), &plan, stand, window(3))?;
+    match board.next_pair(1) {
+        NextPair::Pair(job) => {
+            let first_two = job.slot() == 0 && job.mate() == 1 && job.epoch() == 0;
+            holds(&rt, "the first two slots", 0, first_two);
+            bring_pair(&rt, &mut board, &plan, job);
+        }
+        NextPair::Single(_next) => panic!(&rt; "no pair"),
+    }
+    assert!(&rt; board.slots() == 3);
+    let both = board.progress(0) == 4 && board.progress(1) == 4;
+    holds(
+        &rt,
+        "the progress of two",
+        0,
+        both && board.progress(2) == 0,
+    );
+    finish(&rt, &mut board, &plan, Order::InPairs);
+    Ok(())
 }

@@ -13,9 +13,9 @@ use std::thread::Threads;
 
 /// Drives a run to its end: its workers take slots, sweep them and hand them back until each is at rest
 /// at the last epoch or all hand-outs are made. The planes of a sweep are cut into at most 1 to 16
-/// pieces. With two slots a worker and more each takes two partners at once where it can, and exchanges
-/// them itself, so that what is done one after the other is short. The hook is called for each slot
-/// between its hand-out and its sweeps, by the worker that took it. Takes no memory.
+/// pieces. With at least two slots a worker, each takes two partners at once where it can, and exchanges
+/// them outside the lock. The hook is called for each slot between its hand-out and its sweeps, by the
+/// worker that took it. Takes no memory.
 pub fn drive<R: Threads + Wait + Sync, G: Gate + Sync>(
     rt: &R,
     run: Run,

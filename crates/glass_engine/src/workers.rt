@@ -1,5 +1,5 @@
-//! The workers of a run, one a seat. Each takes a slot, sweeps it and hands it back, until there is no
-//! more to do.
+//! The workers of a run, one a seat. Each takes a slot, or two partners, sweeps and hands back, until
+//! there is no more to do.
 
 ghost use Rattle.std.specs.Prelude.{◌≡◌, ◌+◌, ◌<◌, ◌≤◌, true, false, Some, length};
 ghost use Rattle.std.specs.Thread.{IsSync};
@@ -28,8 +28,8 @@ pub(crate) struct Shared<'a> {
     ghost few_pieces: { pieces ≤ 16 },
 }
 
-// What a worker keeps from turn to turn: the slot from which on it looks, so that it finds those again whose
-// content is near its processor, and its pause.
+// What a worker keeps from turn to turn: the slot from which on it looks, always the same, so that it mostly
+// gets slots that it had before, and its pause.
 #[derive(Drop)]
 struct Habits {
     near: u32,

@@ -23,12 +23,16 @@ impl Gate for Entries {
 
 #[test]
 fn hook_is_entered_once_for_each_slot_and_epoch(rt: HostRuntime) -> Result<(), Fail> {
-    let gate = Entries {
-        entered: AtomicU64::new(0),
-    };
     let plan = two_slots(rt.alloc())?;
-    reported(&rt, &gate, rt.alloc(), &plan, &ORDERS, &whole(2, 2))?;
-    holds("0x0303", gate.entered.load(Ordering::SeqCst) == 0x0303)
+    // One worker takes both slots at once, two take one each.
+    for workers in [1, 2] {
+        let gate = Entries {
+            entered: AtomicU64::new(0),
+        };
+        reported(&rt, &gate, rt.alloc(), &plan, &ORDERS, &whole(2, workers))?;
+        holds("0x0303", gate.entered.load(Ordering::SeqCst) == 0x0303)?;
+    }
+    Ok(())
 }
 
 /// A hook whose first entry in each of four epochs returns only once the second came, or after so many

@@ -29,7 +29,7 @@ pub record IsHolderOf (h : View Origin) (b : BoardView) : Type 0 where
   pub words : h.known ≡ words_of b
   pub base : h.base ≡ Some b.origin
 
--- the holder, who knows a board that gave this answer when it was asked, and is now c
+-- the holder of a board that, when it was asked, gave this answer and is now c
 pub record HasAsked (h : View Origin) (c : BoardView) (next : Next) : Type 0 where
   pub before : BoardView
   pub holder : IsHolderOf h before

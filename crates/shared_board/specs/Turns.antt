@@ -68,9 +68,9 @@ TakesSlot v w nexts.Finished = IsLook v w IsFinished
 TakesSlot v w nexts.Stopped = IsLook v w IsStopped
 
 -- the seat v asked for two partners in one turn, and is then w
-abbrev pub TakesPair : View Origin → View Origin → NextPair → Type 0
-TakesPair v w (pairs.Pair p) = IsPairOut v w p
-TakesPair v w (pairs.Single next) = TakesSlot v w next
+abbrev pub TakesPairOrSlot : View Origin → View Origin → NextPair → Type 0
+TakesPairOrSlot v w (pairs.Pair p) = IsPairOut v w p
+TakesPairOrSlot v w (pairs.Single next) = TakesSlot v w next
 
 -- slot t came back at e and waits, since its partner has not come back: its word alone was changed
 pub record IsWaiting (v w : View Origin) (t e : ℕ) : Type 0 where
@@ -99,8 +99,8 @@ ReturnsSlot v w t e arrivals.Waiting = IsWaiting v w t e
 ReturnsSlot v w t e (arrivals.Settled pair) = IsSettled v w t e pair
 ReturnsSlot v w t e arrivals.Alone = IsAlone v w t e
 
--- the seat v handed the partners t and t + 1 back at e in one turn, and is then w: both are at rest at the next epoch, and
--- their words alone were changed
+-- the seat v handed the slots t and t + 1 back at e in one turn, which were handed out as partners, and is then w: both are
+-- at rest at the next epoch, and their words alone were changed
 pub record ReturnsPair (v w : View Origin) (t e : ℕ) : Type 0 where
   pub low : slice_index w.seen t ≡ 4 * e + 4
   pub high : slice_index w.seen (t + 1) ≡ 4 * e + 4

@@ -5,7 +5,7 @@ ghost use Rattle.exchange_board.specs.Views.{place_at, progress};
 ghost use Rattle.turn_cell.specs.AtomicSteps.{with_refused};
 ghost use Rattle.turn_cell.specs.Seats.{seat_view, IsSeatOf};
 ghost use Rattle.turn_cell.specs.Sums.{times, without};
-ghost use Rattle.shared_board.specs.Turns.{IsAmong, TakesPair, ReturnsPair};
+ghost use Rattle.shared_board.specs.Turns.{IsAmong, TakesPairOrSlot, ReturnsPair};
 
 use crate::shared::{BoardPass, SharedBoard};
 use exchange_board::{Board, NextPair, PairSwept};
@@ -15,15 +15,15 @@ impl SharedBoard {
     ghost use Rattle.shared_board.specs.Shared.{lock_id, HasFound, IsHolderOf};
 
     /// Takes two partners in one turn of the lock, for which it waits, where the board may hand out both;
-    /// they are then in this seat's work. Else as `take`. Of slots of one epoch those from `near` on come
-    /// first.
+    /// they are then in this seat's work. Else as `take`. Which slots is not promised; of those of one epoch
+    /// those from `near` on come first.
     pub fn take_pair<R: Wait>(&self, rt: &R, pass: &mut BoardPass, near: u32) -> NextPair
         requires own { IsSeatOf (lock_id self.now) pass.old }
         requires free { (seat_view pass.old).holding ≡ false }
         ensures own { IsSeatOf (lock_id self.now) pass.new }
         ensures refused { (seat_view pass.old).refused ≤ (seat_view pass.new).refused }
         // but for the refusals, as one try that is not refused
-        ensures taken { TakesPair (with_refused (seat_view pass.old) (seat_view pass.new).refused) (seat_view pass.new) result }
+        ensures taken { TakesPairOrSlot (with_refused (seat_view pass.old) (seat_view pass.new).refused) (seat_view pass.new) result }
     {
         let board = self.cell.take_turn(rt, pass);
         self.hand_out_pair(pass, board, near)
@@ -35,7 +35,7 @@ impl SharedBoard {
         requires holder { IsHolderOf (seat_view pass.old) board }
         ensures own { IsSeatOf (lock_id self.now) pass.new }
         ensures refused { (seat_view pass.new).refused ≡ (seat_view pass.old).refused }
-        ensures taken { (v : _) → HasFound v (seat_view pass.old) board → TakesPair v (seat_view pass.new) result }
+        ensures taken { (v : _) → HasFound v (seat_view pass.old) board → TakesPairOrSlot v (seat_view pass.new) result }
     {
         match board.next_pair(near) {
             NextPair::Pair(pair) => {

@@ -7,7 +7,7 @@ use Rattle.plane_sweep.specs.declared.replica.Duo.{Duo}
 use Rattle.exchange_board.specs.declared.origin.Origin.{Origin}
 use Rattle.exchange_board.specs.Content.{plan_of}
 use Rattle.exchange_board.specs.Totals.{AreTotals}
-use Rattle.exchange_board.specs.PairKeeps.{AreTraded, AreRecords}
+use Rattle.exchange_board.specs.PairKeeps.{IsPairExchange, AreRecords}
 use Rattle.exchange_board.specs.Views.{JobView}
 use Rattle.exchange_board.proofs.Pairing.{swept-pair}
 use Rattle.exchange_board.proofs.pair.exchange_pair.Goals as goal
@@ -23,7 +23,7 @@ invariant_of-result c =
     let share : c.deref.result.now ≡ o = c.deref.ensures ∙ ap (λ (x : JobView). x.origin) c.low.view_is in
     let told : is_recorded o.window.every l.epoch ≡ c.is_recorded-is_recorded.result = ap (λ (x : Origin). is_recorded x.window.every l.epoch) (sym share) ∙ sym c.is_recorded-is_recorded.ensures in
     let plan = c.args.plan.now in
-    let traded : AreTraded plan l.slot l.duo c.high.inside.duo c.exchange_slots.new.cold c.exchange_slots.new.hot c.args.wheels c.exchange_slots.new.wheels = record {
+    let traded : IsPairExchange plan l.slot l.duo c.high.inside.duo c.exchange_slots.new.cold c.exchange_slots.new.hot c.args.wheels c.exchange_slots.new.wheels = record {
       cold_is = c.exchange_slots.ensures.cold;
       hot_is = c.exchange_slots.ensures.hot;
       wheels_are = c.exchange_slots.ensures.wheels;
@@ -31,9 +31,10 @@ invariant_of-result c =
       hot_fits = c.exchange_slots.ensures.hot_fits;
       wheels_fit = c.exchange_slots.ensures.wheels_fit;
     } in
-    let cold_right : AreRecords o l.epoch l.duo c.noted-cold_records.result = λ on b h. rw c.requires.plan at (c.noted-cold_records.ensures (sym told ∙ on) b h) in
-    let hot_right : AreRecords o l.epoch c.high.inside.duo c.noted-hot_records.result = λ on b h. rw c.requires.plan at (c.noted-hot_records.ensures (sym told ∙ on) b h) in
-    let X : Plan → Type 0 = λ p. AreTraded p l.slot l.duo c.high.inside.duo c.exchange_slots.new.cold c.exchange_slots.new.hot c.args.wheels c.exchange_slots.new.wheels in
+    let cold_right : AreRecords o l.epoch l.duo c.slot_records-cold_records.result = λ on b h. rw c.requires.plan at (c.slot_records-cold_records.ensures (sym told ∙ on) b h) in
+    let hot_right : AreRecords o l.epoch c.high.inside.duo c.slot_records-hot_records.result = λ on b h. rw c.requires.plan at (c.slot_records-hot_records.ensures (sym told ∙ on) b h) in
+    let X : Plan → Type 0 = λ p. IsPairExchange p l.slot l.duo c.high.inside.duo c.exchange_slots.new.cold c.exchange_slots.new.hot c.args.wheels c.exchange_slots.new.wheels in
     let T : Plan → Type 0 = λ p. AreTotals p l.duo c.totals_of-cold_totals.result in
-    swept-pair l c.high.inside v c.args.high c.args.wheels c.exchange_slots.new.wheels c.totals_of-cold_totals.result c.exchange_slots.new.cold c.exchange_slots.new.hot c.noted-cold_records.result c.noted-hot_records.result
-    c.low.invariant c.high.invariant c.low.view_is c.high.view_is c.requires.partners c.requires.generators (subst T c.requires.plan c.totals_of-cold_totals.ensures) (subst X c.requires.plan traded) cold_right hot_right
+    rw (c.new.ensures, c.new-2.ensures)
+    (swept-pair l c.high.inside v c.args.high c.args.wheels c.exchange_slots.new.wheels c.totals_of-cold_totals.result c.exchange_slots.new.cold c.exchange_slots.new.hot c.slot_records-cold_records.result c.slot_records-hot_records.result
+    c.low.invariant c.high.invariant c.low.view_is c.high.view_is c.requires.partners c.requires.generators (subst T c.requires.plan c.totals_of-cold_totals.ensures) (subst X c.requires.plan traded) cold_right hot_right)

@@ -55,4 +55,4 @@ returns-in-Pair-clause-taken c v has =
     has c.next_pair.ensures.phased c.in-Pair.ensures.next (second (goal.at.returns-in-Pair-clause-taken c).After-store-in-Pair) c.give_back.ensures.back
 
 pub returns-in-Single-clause-taken : goal.returns-in-Single-clause-taken
-returns-in-Single-clause-taken c v has = c.end_hand_out.ensures.taken v c.args.board has c.next_pair.ensures.phased c.in-Single.ensures.next
+returns-in-Single-clause-taken c v has = c.end_hand_out.ensures.taken v c.args.board has c.next_pair.ensures.phased c.in-Single.ensures.next.0
