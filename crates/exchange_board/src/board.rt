@@ -1,6 +1,6 @@
 //! The board, and its hand-outs.
 
-ghost use Rattle.std.specs.Prelude.{◌≡◌, ◌↔◌, ◌+◌, ◌*◌, ◌<◌, ◌≤◌, true, false, length, IfSome, IfNone, IfOk, IfErr, OnErr, slice_set};
+ghost use Rattle.std.specs.Prelude.{◌≡◌, ◌↔◌, ◌+◌, ◌*◌, ◌<◌, ◌≤◌, ◌&&◌, nat_le, nat_lt, true, false, length, IfSome, IfNone, IfOk, IfErr, OnErr, slice_set};
 ghost use Rattle.scalar_rule.specs.Epoch.{has_partner, partner, pair_of};
 ghost use Rattle.exchange_board.specs.Views.{place_at, out_at, placed, progress};
 ghost use Rattle.exchange_board.specs.BoardKeeps.{phase_of};
@@ -105,21 +105,21 @@ impl Board {
         self.records.as_slice()
     }
 
-    // Of the slots of least epoch that may be handed out the first from `near` on, else the first from slot 0
-    // on. With the least epoch first the others keep partners to meet.
-    fn ready_slot(&self, near: u32) -> Option<u32>
+    // Of the slots that may be handed out one of least epoch, of the share's first. With the least epoch first
+    // the others keep partners to meet.
+    fn ready_slot(&self, share: Share) -> Option<u32>
         ensures some { IfSome result (λ t. (t < length self.now.places) × IsReady self.now.origin.window.until self.now.places t) }
         ensures none { IfNone result (NoneReady self.now.origin.window.until self.now.places) }
         ensures lively { IfNone result (NoneOut self.now.places → AllEnded self.now.origin.window.until self.now.places) }
         ensures phased { IsPhased self.now.places }
     {
         let end = 4 * self.origin.window.until;
-        let mut least = 64 * end;
+        let mut least = 2 * end;
         let mut found = None;
         'slots: for t in 0..self.slots.len() as u32 {
             let number = self.progress(t);
             if number % 4 == 0 && number < end {
-                let rank = 64 * number + order_from(near, t);
+                let rank = if share.has(t) { number } else { end + number };
                 if rank < least {
                     least = rank;
                     found = Some(t);
@@ -176,15 +176,16 @@ impl Board {
         ensures next { Nexts self.old self.new result }
         ensures phased { IsPhased self.old.places }
     {
-        self.next_from(0)
+        let none = Share { first: 0, count: 0 };
+        self.next_of(none)
     }
 
-    // The same, with a slot from which on it looks.
-    fn next_from(&mut self, near: u32) -> Next
+    // The same, of this share first.
+    fn next_of(&mut self, share: Share) -> Next
         ensures next { Nexts self.old self.new result }
         ensures phased { IsPhased self.old.places }
     {
-        let ready = self.ready_slot(near);
+        let ready = self.ready_slot(share);
         if self.is_ended() {
             return Next::Finished;
         }
@@ -198,12 +199,21 @@ impl Board {
     }
 }
 
-// The rank of a slot, of at most 32, in the order near, near + 1 and on, and then 0, 1 and on.
-fn order_from(near: u32, slot: u32) -> u64
-    ensures { result < 64 }
-{
-    let place = slot as u64 % 32;
-    if slot < near { place + 32 } else { place }
+/// The slots that a worker prefers: so many from one on. Which they are changes nothing but the time.
+#[derive(Clone, Copy, Debug, PartialEq, Eq)]
+pub struct Share {
+    pub first: usize,
+    pub count: usize,
+}
+
+impl Share {
+    // Whether a slot is one of them.
+    pub(crate) fn has(self, slot: u32) -> bool
+        ensures { result ≡ (nat_le self.first slot && nat_lt slot (self.first + self.count)) }
+    {
+        let slot = slot as usize;
+        slot >= self.first && slot - self.first < self.count
+    }
 }
 
 /// What a board answers when it is asked for two partners.
@@ -219,14 +229,14 @@ impl Board {
     ghost use Rattle.exchange_board.specs.PairKeeps.{TakesPartner};
 
     /// As `next`, but both slots of a pair are then in work where the partner is at rest at the same epoch
-    /// and a hand-out is left for it. Which of several slots is not promised; of those of one epoch those
-    /// from `near` on come first, so that a worker who always gives the same finds slots that it had before.
-    /// Takes no memory, and time by the number of slots.
-    pub fn next_pair(&mut self, near: u32) -> NextPair
+    /// and a hand-out is left for it. Which of several slots is not promised; those of the share come
+    /// first, so that a worker who always gives the same finds slots that it had before. Takes no memory, and
+    /// time by the number of slots.
+    pub fn next_pair(&mut self, share: Share) -> NextPair
         ensures next { NextPairs self.old self.new result }
         ensures phased { IsPhased self.old.places }
     {
-        match self.next_from(near) {
+        match self.next_of(share) {
             Next::Job(job) => match self.take_partner(job) {
                 Ok(pair) => NextPair::Pair(pair),
                 Err(job) => NextPair::Single(Next::Job(job)),

@@ -19,7 +19,7 @@ mod totals;
 mod trading;
 
 pub use arrival::Arrival;
-pub use board::{Board, Next, NextPair};
+pub use board::{Board, Next, NextPair, Share};
 pub use ended::{Ended, RaggedEnded};
 pub use job::{Job, Swept};
 pub use laws::{resumed_records_go_on, resumed_state_goes_on};

@@ -7,7 +7,7 @@ ghost use Rattle.plane_sweep.specs.Packed.{StandFits};
 ghost use Rattle.scalar_rule.specs.Plan.{slots_of};
 
 use coupling_set::Couplings;
-use exchange_board::{Arrival, Board, Ended, Job, Next, NextPair, PairJob};
+use exchange_board::{Arrival, Board, Ended, Job, Next, NextPair, PairJob, Share};
 use lattice_geometry::Lattice;
 use plane_sweep::Stand;
 use scalar_rule::{Plan, Record, Start};
@@ -209,6 +209,9 @@ pub(super) fn bring<R: Abort + Threads + Sync>(
     board.arrive(plan, swept)
 }
 
+// The share of a worker that prefers the last two of three slots.
+pub(super) const SHARE: Share = Share { first: 1, count: 2 };
+
 // How slots are handed out and back.
 #[derive(Clone, Copy)]
 pub(super) enum Order {
@@ -287,7 +290,7 @@ fn pair_turn<R: Abort + Threads + Sync>(rt: &R, board: &mut Board, plan: &Plan) 
     requires { plan.now ≡ arc_value board.old.origin.plan }
     ensures { board.new.origin ≡ board.old.origin }
 {
-    match board.next_pair(1) {
+    match board.next_pair(SHARE) {
         NextPair::Pair(job) => {
             bring_pair(rt, board, plan, job);
             true

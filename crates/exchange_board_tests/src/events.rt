@@ -5,8 +5,8 @@ ghost use Rattle.std.specs.Arc.{arc_value};
 ghost use Rattle.scalar_rule.specs.Plan.{slots_of};
 
 use crate::boards::{
-    Order, Pause, bring, bring_pair, end_of, finish, holds, job_of, opening, pause_of, record,
-    three_slots, two_slots,
+    Order, Pause, SHARE, bring, bring_pair, end_of, finish, holds, job_of, opening, pause_of,
+    record, three_slots, two_slots,
 };
 use exchange_board::{Arrival, Board, Job, NextPair, Window};
 use scalar_rule::{Plan, Record, Start};
@@ -305,13 +305,13 @@ fn a_board_opened_at_its_end_is_finished(rt: HostRuntime) -> Result<(), Fail> {
     ends_with(board, &plan, [].as_slice(), 0)
 }
 
-// With a slot to begin at of which the partner comes before it.
+// The partner of the share's first slot comes before it.
 #[test]
 fn a_new_board_hands_out_two_partners(rt: HostRuntime) -> Result<(), Fail> {
     let plan = three_slots(rt.alloc())?;
     let stand = opening(rt.alloc(), &plan, Start::Up)?;
     let mut board = Board::open(rt.alloc(), &plan, stand, window(3))?;
-    match board.next_pair(1) {
+    match board.next_pair(SHARE) {
         NextPair::Pair(job) => {
             let first_two = job.slot() == 0 && job.mate() == 1 && job.epoch() == 0;
             holds(&rt, "the first two slots", 0, first_two);

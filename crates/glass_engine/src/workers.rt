@@ -8,7 +8,7 @@ ghost use Rattle.turn_cell.specs.Seats.{seat_view};
 ghost use Rattle.glass_engine.specs.Working.{IsAtRest, IsTaker, IsPairTaker, IsGiven, IsSame, HasLeft, AreAtRest, HaveLeft};
 
 use crossbeam_utils::Backoff;
-use exchange_board::{Job, Next, NextPair, PairJob};
+use exchange_board::{Job, Next, NextPair, PairJob, Share};
 use glass_edges::Gate;
 use scalar_rule::Plan;
 use shared_board::{BoardPass, SharedBoard};
@@ -28,11 +28,11 @@ pub(crate) struct Shared<'a> {
     ghost few_pieces: { pieces ≤ 16 },
 }
 
-// What a worker keeps from turn to turn: the slot from which on it looks, always the same, so that it mostly
-// gets slots that it had before, and its pause.
+// What a worker keeps from turn to turn: its share of the slots, always the same, so that it mostly gets slots
+// that it had before, and its pause.
 #[derive(Drop)]
 struct Habits {
-    near: u32,
+    share: Share,
     pause: Backoff,
 }
 
@@ -117,7 +117,7 @@ fn turn<R: Threads + Wait + Sync, G: Gate + Sync>(
         let next = shared.board.take(rt, seat);
         return go_on(rt, gate, shared, &habits.pause, seat, next);
     }
-    match shared.board.take_pair(rt, seat, habits.near) {
+    match shared.board.take_pair(rt, seat, habits.share) {
         NextPair::Pair(job) => {
             habits.pause.reset();
             bring_pair(rt, gate, shared, seat, job);
@@ -141,7 +141,10 @@ fn work<R: Threads + Wait + Sync, G: Gate + Sync>(
     ensures left { HasLeft (seat_view seat.new) }
 {
     let habits = Habits {
-        near: (number.wrapping_mul(shared.slots_each) % 32) as u32,
+        share: Share {
+            first: number.wrapping_mul(shared.slots_each),
+            count: shared.slots_each,
+        },
         pause: Backoff::new(),
     };
     for _ in rt.forever() {

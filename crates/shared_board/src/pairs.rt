@@ -8,16 +8,15 @@ ghost use Rattle.turn_cell.specs.Sums.{times, without};
 ghost use Rattle.shared_board.specs.Turns.{IsAmong, TakesPairOrSlot, ReturnsPair};
 
 use crate::shared::{BoardPass, SharedBoard};
-use exchange_board::{Board, NextPair, PairSwept};
+use exchange_board::{Board, NextPair, PairSwept, Share};
 use std::sync::Wait;
 
 impl SharedBoard {
     ghost use Rattle.shared_board.specs.Shared.{lock_id, HasFound, IsHolderOf};
 
     /// Takes two partners in one turn of the lock, for which it waits, where the board may hand out both;
-    /// they are then in this seat's work. Else as `take`. Which slots is not promised; of those of one epoch
-    /// those from `near` on come first.
-    pub fn take_pair<R: Wait>(&self, rt: &R, pass: &mut BoardPass, near: u32) -> NextPair
+    /// they are then in this seat's work. Else as `take`. Which slots is not promised; those of the share come first.
+    pub fn take_pair<R: Wait>(&self, rt: &R, pass: &mut BoardPass, share: Share) -> NextPair
         requires own { IsSeatOf (lock_id self.now) pass.old }
         requires free { (seat_view pass.old).holding ≡ false }
         ensures own { IsSeatOf (lock_id self.now) pass.new }
@@ -26,18 +25,18 @@ impl SharedBoard {
         ensures taken { TakesPairOrSlot (with_refused (seat_view pass.old) (seat_view pass.new).refused) (seat_view pass.new) result }
     {
         let board = self.cell.take_turn(rt, pass);
-        self.hand_out_pair(pass, board, near)
+        self.hand_out_pair(pass, board, share)
     }
 
     // The holder asks the board, stores the words of the slots that it gets, and gives the lock back.
-    fn hand_out_pair(&self, pass: &mut BoardPass, mut board: Board, near: u32) -> NextPair
+    fn hand_out_pair(&self, pass: &mut BoardPass, mut board: Board, share: Share) -> NextPair
         requires own { IsSeatOf (lock_id self.now) pass.old }
         requires holder { IsHolderOf (seat_view pass.old) board }
         ensures own { IsSeatOf (lock_id self.now) pass.new }
         ensures refused { (seat_view pass.new).refused ≡ (seat_view pass.old).refused }
         ensures taken { (v : _) → HasFound v (seat_view pass.old) board → TakesPairOrSlot v (seat_view pass.new) result }
     {
-        match board.next_pair(near) {
+        match board.next_pair(share) {
             NextPair::Pair(pair) => {
                 self.store(pass, &board, pair.slot());
                 self.store(pass, &board, pair.slot() + 1);
