@@ -11,7 +11,7 @@ ghost use Rattle.scalar_rule.specs.Sweep.{sweep};
 
 use bit_totals::{agreeing, sweep_and_count, sweep_duo_and_count, unsatisfied_duo};
 use multispin_word::Planes;
-use plane_sweep::{Duo, LEAST_FORKED, LEAST_IN_TURN, sweep_duo_often};
+use plane_sweep::{Duo, LEAST_IN_TURN, is_forked, sweep_duo_often};
 use scalar_rule::{Plan, Record, excess};
 use std::thread::Threads;
 
@@ -144,7 +144,7 @@ fn sweep_and_total<R: Threads + Sync>(
 {
     let size = plan.lattice().size() as usize;
     // Where a sweep that counts has code of its own, and no planes are cut in pieces.
-    if size % 8 == 0 && (size < LEAST_FORKED || pieces == 1) {
+    if size % 8 == 0 && !is_forked(size, pieces as usize) {
         total_in_last_sweep(rt, duo, plan, slot)
     } else {
         sweep_slot(rt, duo, plan, slot, pieces);

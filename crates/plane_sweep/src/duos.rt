@@ -14,7 +14,7 @@ use crate::draws::DUO_DRAWS;
 use crate::duo_rows::{Drawn, Others, sweep_words_of_duo};
 use crate::dynamics::{Dynamics, HalfPlane, rule_of_slot};
 use crate::replica::{Duo, Plane};
-use crate::sweeping::{LEAST_FORKED, sweep_often};
+use crate::sweeping::{is_forked, sweep_often};
 use local_rule::ReadyRule;
 use scalar_rule::Plan;
 use std::thread::Threads;
@@ -47,7 +47,7 @@ pub fn sweep_duo_often<R: Threads + Sync>(
     ensures fits { FitsDuo plan.now.size duo.new }
 {
     let size = plan.lattice().size() as usize;
-    if size >= LEAST_IN_TURN && (pieces == 1 || size < LEAST_FORKED) {
+    if size >= LEAST_IN_TURN && !is_forked(size, pieces as usize) {
         sweep_in_turn(duo, plan, slot, count);
     } else {
         sweep_often(rt, &mut duo.first, plan, slot, pieces, count);

@@ -35,5 +35,5 @@ pub use replica::{Duo, Plane, Replica};
 pub use rows::{Row, first_row, kind_of, pulls_of, row_behind, sweep_words};
 pub use stand::{PairWheels, Stand};
 pub use surroundings::{Surroundings, lend};
-pub use sweeping::{LEAST_FORKED, sweep, sweep_often, sweep_plane};
+pub use sweeping::{is_forked, sweep, sweep_often, sweep_plane};
 pub use uneven::{Place, RaggedStand, record_in_range};

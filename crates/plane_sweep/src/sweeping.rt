@@ -1,6 +1,6 @@
 //! The sweep of all 64 samples of one replica.
 
-ghost use Rattle.std.specs.Prelude.{◌≡◌, ℕ, ◌*◌, ◌<◌, ◌≤◌, length, All};
+ghost use Rattle.std.specs.Prelude.{◌≡◌, ℕ, ◌*◌, ◌<◌, ◌≤◌, ◌&&◌, nat_le, nat_lt, length, All};
 ghost use Rattle.plane_sweep.specs.Packed.{part_copy, FitsPlane, FitsReplica};
 ghost use Rattle.plane_sweep.specs.PlaneSweep.{CanSweep, SweepsPlane, SweepsAt, SweepsColours};
 ghost use Rattle.plane_sweep.specs.Storing.{Changed};
@@ -21,9 +21,17 @@ use std::thread;
 use std::thread::Threads;
 use threshold_table::RuleKind;
 
-/// The least size whose planes are cut in pieces, which threads sweep: a smaller lattice is done sooner than
-/// they start.
-pub const LEAST_FORKED: usize = 48;
+// The least size whose planes are cut in pieces, which threads sweep: a smaller lattice is done sooner than
+// they start.
+const LEAST_FORKED: usize = 48;
+
+/// Whether the planes of a lattice of this size are cut where there may be so many pieces.
+#[inline]
+pub fn is_forked(size: usize, pieces: usize) -> bool
+    ensures { result ≡ (nat_lt 1 pieces && nat_le 48 size) }
+{
+    pieces > 1 && size >= LEAST_FORKED
+}
 
 /// A sweep of one replica of a temperature slot, in all 64 samples at once: the half sweep of colour
 /// 0, then that of colour 1, which sees the new spins of colour 0. The planes of a colour are cut into
@@ -108,7 +116,7 @@ fn sweep_colours<R: Threads + Sync>(
     requires planes { All (FitsPlane dynamics.now.couplings.now.size) planes.old }
     ensures { SweepsColours dynamics.now.couplings.now dynamics.now.rule.now planes.old planes.new }
 {
-    if pieces > 1 && size >= LEAST_FORKED {
+    if is_forked(size, pieces) {
         fork_both(rt, planes, dynamics, size, pieces);
     } else if is_small(size) {
         sweep_both(planes, dynamics, &mut [0u32; SMALL_DRAWS], size);

@@ -116,10 +116,9 @@ fn draw_of(wheel: &mut Wheel, bit: u32) -> u32
     draws[bit as usize]
 }
 
-/// Whether the configurations of pair `pair` swap, by a draw and from the unsatisfied bonds of the
-/// colder and the hotter slot.
-#[inline]
-pub fn is_swapped(table: &SwapTable, pair: u32, draw: u32, cold: u32, hot: u32) -> bool
+// Whether the configurations of pair `pair` swap, by a draw and from the unsatisfied bonds of the
+// colder and the hotter slot.
+fn is_swapped(table: &SwapTable, pair: u32, draw: u32, cold: u32, hot: u32) -> bool
     requires { pair < length table.now }
     ensures { result ≡ model.is_swapped table.now pair draw cold hot }
 {

@@ -17,7 +17,6 @@ mod sums;
 mod sweeps;
 mod turns;
 
-pub use exchange::is_swapped;
 pub use laws::{
     completed_slots_rest, energies_have_one_parity, level_end_is_serial,
     level_generators_are_serial, level_records_are_serial, level_start_is_serial,

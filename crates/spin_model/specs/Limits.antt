@@ -13,6 +13,14 @@ most_sweeps = 1000000
 abbrev pub greatest_demo : ℕ
 greatest_demo = 1000000
 
+-- the most temperature slots of a run
+abbrev pub most_slots : ℕ
+most_slots = 32
+
+-- the hand-outs of the longest run, one for each of its slots and epochs
+abbrev pub every_take : ℕ
+every_take = 32000000000
+
 -- the most rows of a report
 abbrev pub most_rows : ℕ
 most_rows = 4194304

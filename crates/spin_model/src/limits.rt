@@ -9,6 +9,12 @@ pub const MOST_SWEEPS: u64 = 1000000;
 /// The greatest number that a demonstration is made from.
 pub const GREATEST_DEMO: u64 = 1000000;
 
+/// The most temperature slots of a run.
+pub const MOST_SLOTS: u32 = 32;
+
+/// The hand-outs of the longest run, one for each of its slots and epochs.
+pub const EVERY_TAKE: u64 = 32000000000;
+
 /// The most rows of a report.
 pub const MOST_ROWS: u64 = 4194304;
 
