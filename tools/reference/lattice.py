@@ -4,6 +4,10 @@ from functools import lru_cache
 from reference.words import monus
 
 
+def is_lawful_size(l):
+    return 4 <= l <= 64 and l % 2 == 0
+
+
 def volume(l):
     return l * l * l
 

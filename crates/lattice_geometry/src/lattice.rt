@@ -3,6 +3,7 @@
 ghost use Rattle.std.specs.Prelude.{◌≡◌, ℕ, ◌+◌, ◌*◌, ◌/◌, ◌%◌, ◌<◌, IfOk, IfErr};
 ghost use Rattle.spin_model.specs.Lattice.{volume, site_at, x_of, y_of, z_of, forward, backward, colour, compact, from_compact, IsLawfulSize};
 
+use spin_model::is_lawful_size;
 use std::marker::Model;
 use thiserror::Error;
 
@@ -42,7 +43,7 @@ impl Lattice {
         ensures accepted { IfOk result (λ lattice. (lattice ≡ size) × IsLawfulSize size) }
         ensures refused { IfErr result (λ e. (e ≡ SizeRefused.OddOrOutOfRange size) × ¬ (IsLawfulSize size)) }
     {
-        if size < 4 || size > 64 || size % 2 != 0 {
+        if !is_lawful_size(size as u64) {
             return Err(SizeRefused::OddOrOutOfRange { size });
         }
         Ok(Lattice { size })

@@ -9,7 +9,7 @@ use Rattle.glass_edges.specs.FileNames.{is_file_name}
 use Rattle.glass_edges.specs.Refusals.{or_else, first_found, unless}
 use Rattle.scalar_rule.specs.declared.sample.Start.{Start}
 use Rattle.scalar_rule.specs.declared.sample.Start.TheVariants as starts
-use Rattle.spin_model.specs.Lattice.{IsLawfulSize}
+use Rattle.spin_model.specs.Lattice.{IsLawfulSize, is_lawful_size}
 use Rattle.spin_model.specs.Limits.{bank_samples, last_epoch, most_samples, most_sweeps}
 use Rattle.threshold_table.specs.declared.rule_table.RuleKind.{RuleKind}
 use Rattle.threshold_table.specs.declared.rule_table.RuleKind.TheVariants as kinds
@@ -82,7 +82,7 @@ is_between least most z = int_le least z && int_le z most
 
 -- whether an integer is the size of a lattice
 abbrev pub is_size : ℤ → Bool
-is_size (pos n) = nat_le 4 n && nat_le n 64 && (n % 2 == 0)
+is_size (pos n) = is_lawful_size n
 is_size (negsuc n) = false
 
 -- whether a text is one of two

@@ -9,7 +9,7 @@ ghost use Rattle.run_plan.specs.RunFile as model;
 use crate::key::{Key, is_key, keys};
 use crate::refused::PlanRefused;
 use glass_edges::is_file_name;
-use spin_model::{LAST_EPOCH, MOST_SAMPLES, MOST_SWEEPS};
+use spin_model::{LAST_EPOCH, MOST_SAMPLES, MOST_SWEEPS, is_lawful_size};
 use toml::{Table, Value};
 
 // Why an integer outside two bounds, or no integer, is refused.
@@ -31,7 +31,7 @@ fn size(key: Key, value: &Value) -> Option<PlanRefused>
 {
     match value.as_integer() {
         None => Some(PlanRefused::Kind { key }),
-        Some(n) if n >= 4 && n <= 64 && n % 2 == 0 => None,
+        Some(n) if n >= 0 && is_lawful_size(n as u64) => None,
         Some(value) => Some(PlanRefused::Range { key, value }),
     }
 }

@@ -34,11 +34,11 @@ nine-from a b c d e f g i j x = rw (x.a1, x.b1, x.c1, x.d1, x.e1, x.f1, x.g1, x.
 
 pub tested : (h : Header) → is_lawful h ≡ true → IsLawfulHeader h
 tested h is =
-    let p = nine-parts (h.size % 2 == 0) (nat_le 4 h.size) (nat_le h.size 64) (nat_le 1 h.slots) (nat_le h.slots 32) (nat_le 1 h.samples) (nat_le h.samples 256) (nat_le h.from h.to) (nat_le h.to 1000000000) is in
+    let p = nine-parts (nat_le 4 h.size) (nat_le h.size 64) (h.size % 2 == 0) (nat_le 1 h.slots) (nat_le h.slots 32) (nat_le 1 h.samples) (nat_le h.samples 256) (nat_le h.from h.to) (nat_le h.to 1000000000) is in
     record {
-      even = eqb-true _ _ p.a1;
-      least = leb-true _ _ p.b1;
-      most = leb-true _ _ p.c1;
+      least = leb-true _ _ p.a1;
+      most = leb-true _ _ p.b1;
+      even = eqb-true _ _ p.c1;
       some_slots = leb-true _ _ p.d1;
       few_slots = leb-true _ _ p.e1;
       some_samples = leb-true _ _ p.f1;
@@ -48,10 +48,10 @@ tested h is =
     }
 
 pub passes : (h : Header) → IsLawfulHeader h → is_lawful h ≡ true
-passes h l = nine-from (h.size % 2 == 0) (nat_le 4 h.size) (nat_le h.size 64) (nat_le 1 h.slots) (nat_le h.slots 32) (nat_le 1 h.samples) (nat_le h.samples 256) (nat_le h.from h.to) (nat_le h.to 1000000000) (record {
-  a1 = eq-eqb _ _ l.even;
-  b1 = le-leb _ _ l.least;
-  c1 = le-leb _ _ l.most;
+passes h l = nine-from (nat_le 4 h.size) (nat_le h.size 64) (h.size % 2 == 0) (nat_le 1 h.slots) (nat_le h.slots 32) (nat_le 1 h.samples) (nat_le h.samples 256) (nat_le h.from h.to) (nat_le h.to 1000000000) (record {
+  a1 = le-leb _ _ l.least;
+  b1 = le-leb _ _ l.most;
+  c1 = eq-eqb _ _ l.even;
   d1 = le-leb _ _ l.some_slots;
   e1 = le-leb _ _ l.few_slots;
   f1 = le-leb _ _ l.some_samples;

@@ -11,7 +11,7 @@ use crate::header_line::header_at;
 use crate::next_line::next_line;
 use crate::place::Place;
 use crate::row::Row;
-use spin_model::{LAST_EPOCH, MOST_SAMPLES};
+use spin_model::{LAST_EPOCH, MOST_SAMPLES, is_lawful_size};
 
 /// The header of a report and the number of its rows.
 #[derive(Clone, Copy, Debug, PartialEq, Eq)]
@@ -24,9 +24,7 @@ pub(crate) struct Scanned {
 fn is_lawful(header: &Header) -> bool
     ensures { result ≡ following.is_lawful header.now }
 {
-    header.size % 2 == 0
-        && header.size >= 4
-        && header.size <= 64
+    is_lawful_size(header.size as u64)
         && header.slots >= 1
         && header.slots <= 32
         && header.samples >= 1

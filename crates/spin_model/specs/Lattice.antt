@@ -1,10 +1,14 @@
 -- The simple cubic lattice of side l with periodic boundaries (Edwards and Anderson, J. Phys. F 5, 965 (1975)): sites,
 -- coordinates, neighbours, bonds, checkerboard colours, and the compact order of the sites colour by colour.
-use Rattle.std.specs.Prelude.{ℕ, zero, suc, ◌≡◌, ◌+◌, ◌-◌, ◌*◌, ◌/◌, ◌%◌, ◌≤◌}
+use Rattle.std.specs.Prelude.{Bool, ℕ, zero, suc, ◌≡◌, ◌+◌, ◌-◌, ◌*◌, ◌/◌, ◌%◌, ◌≤◌, ◌==◌, ◌&&◌, nat_le}
 
 -- an even side from 4 to 64
 abbrev pub IsLawfulSize : ℕ → Type 0
 IsLawfulSize l = (4 ≤ l) × (l ≤ 64) × (l % 2 ≡ 0)
+
+-- the same as a test
+abbrev pub is_lawful_size : ℕ → Bool
+is_lawful_size l = nat_le 4 l && nat_le l 64 && (l % 2 == 0)
 
 -- the number of sites
 abbrev pub volume : ℕ → ℕ

@@ -1,5 +1,8 @@
 //! The limits of the program that more than one crate tests.
 
+ghost use Rattle.std.specs.Prelude.{◌≡◌};
+ghost use Rattle.spin_model.specs.Lattice as model;
+
 /// The last epoch that a run ends at, and the most epochs from one that is printed to the next.
 pub const LAST_EPOCH: u64 = 1000000000;
 
@@ -29,3 +32,11 @@ pub const GREATEST_HALF_PLANE: usize = 2048;
 
 /// The greatest threshold, of probability 1: each draw, a word of 32 bits, is below it.
 pub const CERTAIN: u64 = 4294967296;
+
+/// Whether a lattice may have this size: an even number from 4 to 64.
+#[inline]
+pub fn is_lawful_size(size: u64) -> bool
+    ensures { result ≡ model.is_lawful_size size }
+{
+    size >= 4 && size <= 64 && size % 2 == 0
+}
