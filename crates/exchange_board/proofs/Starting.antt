@@ -5,6 +5,7 @@ use Rattle.std.specs.Arc.{arc_value}
 use Rattle.std.proofs.Math.ListN.{get_or-map as get_or-map_of}
 use Rattle.std.proofs.lemmas.Bool.{cases_lt, eqb-false}
 use Rattle.std.proofs.lemmas.List.{map_push, take_more, get_or_append_left, get_or_push, get_or-map, get_or_default, length-map}
+use Rattle.spin_model.specs.Limits.{every_take}
 use Rattle.scalar_rule.specs.Epoch.{slot_at, has_partner}
 use Rattle.scalar_rule.specs.Ragged.{Position, generators}
 use Rattle.scalar_rule.specs.Plan.{Plan, slots_of, IsLawfulPlan}
@@ -219,7 +220,7 @@ made-keeps b m =
 
 -- an origin of these parts
 pub made-lawful : (o : Origin) (plan : Plan) (base : RaggedStand) (window : Window) → plan_of o ≡ plan → o.base ≡ base → o.window ≡ window → IsLawfulPlan plan
-    → RaggedStandFits plan window.samples window.every base → window.until ≤ 1000000000 → window.every ≤ 1000000000 → window.takes ≤ 32000000000
+    → RaggedStandFits plan window.samples window.every base → window.until ≤ 1000000000 → window.every ≤ 1000000000 → window.takes ≤ every_take
     → deepest_of (positions_of base) ≤ window.until
     → (window.until / window.every - floor_of (positions_of base) / window.every) * window.samples * slots_of plan ≤ 4194304 → IsLawfulOrigin o
 made-lawful o plan base window plan_is base_is window_is lawful fits until every takes reach rows =
@@ -230,7 +231,7 @@ made-lawful o plan base window plan_is base_is window_is lawful fits until every
     let L : Plan → Type 0 = λ p. IsLawfulPlan p in
     let U : Window → Type 0 = λ w. w.until ≤ 1000000000 in
     let E : Window → Type 0 = λ w. w.every ≤ 1000000000 in
-    let K : Window → Type 0 = λ w. w.takes ≤ 32000000000 in
+    let K : Window → Type 0 = λ w. w.takes ≤ every_take in
     let R : RaggedStand → Window → Type 0 = λ b w. deepest_of (positions_of b) ≤ w.until in
     let r1 : R o.base window = subst (λ b. R b window) (sym base_is) reach in
     let N : Plan → RaggedStand → Window → Type 0 = λ p b w. (w.until / w.every - floor_of (positions_of b) / w.every) * w.samples * slots_of p ≤ 4194304 in

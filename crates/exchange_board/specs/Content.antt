@@ -1,7 +1,7 @@
 -- What an origin gives: the states of its samples, the content of its slots, and the records.
 use Rattle.std.specs.Prelude.{◌≡◌, ℕ, ◌+◌, ◌-◌, ◌*◌, ◌/◌, ◌<◌, ◌≤◌, List, [], slice_index_or, true}
 use Rattle.std.specs.Arc.{arc_value}
-use Rattle.spin_model.specs.Limits.{last_epoch, most_rows}
+use Rattle.spin_model.specs.Limits.{every_take, last_epoch, most_rows}
 use Rattle.scalar_rule.specs.Plan.{Plan, slots_of, IsLawfulPlan}
 use Rattle.scalar_rule.specs.Ragged.{Position, UnevenState}
 use Rattle.scalar_rule.specs.Positions.{position_in, done, rank, floor_of, deepest_of, sum_below, uneven_record}
@@ -72,7 +72,7 @@ pub record IsLawfulOrigin (o : Origin) : Type 0 where
   pub base : RaggedStandFits (plan_of o) o.window.samples o.window.every o.base
   pub until : o.window.until ≤ last_epoch
   pub every : o.window.every ≤ last_epoch
-  pub takes : o.window.takes ≤ 32000000000
+  pub takes : o.window.takes ≤ every_take
   pub reach : deepest_of (positions_in o) ≤ o.window.until
   pub rows : row_total o ≤ most_rows
 

@@ -2,7 +2,7 @@
 
 ghost use Rattle.std.specs.Prelude.{◌≡◌, ◌+◌, ◌-◌, ◌*◌, ◌/◌, ◌%◌, ◌<◌, ◌≤◌, true, false, length, replicate, IfOk, IsSomeAnd, slice_set};
 ghost use Rattle.std.specs.Arc.{arc_value};
-ghost use Rattle.spin_model.specs.Limits.{last_epoch, most_rows};
+ghost use Rattle.spin_model.specs.Limits.{every_take, last_epoch, most_rows};
 ghost use Rattle.plane_sweep.specs.Packed.{FitsDuo, StandFits};
 ghost use Rattle.plane_sweep.specs.Uneven.{positions_of, level_stand, RaggedStandFits};
 ghost use Rattle.scalar_rule.specs.Plan.{slots_of};
@@ -177,7 +177,7 @@ impl Board {
         requires base { RaggedStandFits (arc_value plan.now) window.samples window.every base }
         requires until { window.until ≤ last_epoch }
         requires every { window.every ≤ last_epoch }
-        requires takes { window.takes ≤ 32000000000 }
+        requires takes { window.takes ≤ every_take }
         requires reach { deepest_of (positions_of base) ≤ window.until }
         requires rows { (window.until / window.every - floor_of (positions_of base) / window.every) * window.samples
             * slots_of (arc_value plan.now) ≤ most_rows }
@@ -233,7 +233,7 @@ impl Board {
         requires every { window.every ≤ last_epoch }
         requires some_samples { 1 ≤ window.samples }
         requires samples { window.samples ≤ 64 }
-        requires takes { window.takes ≤ 32000000000 }
+        requires takes { window.takes ≤ every_take }
         requires rows { (window.until / window.every - stand.epoch / window.every) * window.samples
             * slots_of (arc_value plan.now) ≤ most_rows }
         ensures { IfOk result (Opened (arc_value plan.now) (level_stand stand) window) }

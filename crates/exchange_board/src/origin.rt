@@ -15,7 +15,7 @@ pub struct Window {
     pub every: u64,
     /// How many samples are recorded, from sample 0 on: 1 to 64.
     pub samples: u32,
-    /// How many times slots are handed out at most, all together; at most 32000000000.
+    /// How many times slots are handed out at most, all together; at most `EVERY_TAKE`.
     pub takes: u64,
 }
 

@@ -11,6 +11,7 @@ use crate::sameness::{same_sample, same_stand};
 use exchange_board::{Board, Ended, Window};
 use plane_sweep::Stand;
 use scalar_rule::{Plan, Record, Sample, Start};
+use spin_model::EVERY_TAKE;
 use std::alloc::Global;
 use std::process::Abort;
 use std::sync::Arc;
@@ -75,7 +76,7 @@ fn worked<R: Abort + Threads + Sync>(
         until: 4,
         every: 2,
         samples: 64,
-        takes: 32000000000,
+        takes: EVERY_TAKE,
     };
     let mut board = Board::open(alloc, plan, start.copy(alloc)?, window)?;
     finish(rt, &mut board, plan, order);

@@ -2,6 +2,7 @@
 
 ghost use Rattle.std.specs.Prelude.{◌≡◌, ◌<◌, ◌≤◌, IfOk};
 ghost use Rattle.std.specs.Arc.{arc_value};
+ghost use Rattle.spin_model.specs.Limits.{every_take};
 ghost use Rattle.scalar_rule.specs.Plan.{slots_of};
 
 use crate::boards::{
@@ -10,6 +11,7 @@ use crate::boards::{
 };
 use exchange_board::{Arrival, Board, Job, NextPair, Window};
 use scalar_rule::{Plan, Record, Start};
+use spin_model::EVERY_TAKE;
 use std::alloc::Global;
 use std::process::Abort;
 use std::sync::Arc;
@@ -18,13 +20,13 @@ use std::thread::Threads;
 
 // Every epoch of sample 0 is recorded, and hand-outs do not end.
 fn window(until: u64) -> Window
-    ensures { result ≡ record { until = until; every = 1; samples = 1; takes = 32000000000 } }
+    ensures { result ≡ record { until = until; every = 1; samples = 1; takes = every_take } }
 {
     Window {
         until,
         every: 1,
         samples: 1,
-        takes: 32000000000,
+        takes: EVERY_TAKE,
     }
 }
 

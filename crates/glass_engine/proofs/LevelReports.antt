@@ -2,6 +2,7 @@
 use Rattle.std.proofs.Common.{arith, ◌≡◌, ℕ, ◌+◌, ◌-◌, ◌<◌, ◌≤◌, true, cond, List, [], ◌++◌, refl, sym, ap, ap₂, ◌∙◌, subst, lit<}
 use Rattle.std.specs.Prelude.{◌&&◌}
 use Rattle.std.proofs.lemmas.Bool.{eq-eqb}
+use Rattle.spin_model.specs.Limits.{every_take}
 use Rattle.report_text.specs.Lines.{header_line, end_line}
 use Rattle.spin_model.proofs.Tables.{table-same}
 use Rattle.run_plan.specs.declared.run_file.Orders.{Orders}
@@ -81,7 +82,7 @@ report-same plan s t orders e few same =
     ap (λ k. parts k (rows_in_order (measured_from plan s) samples every k e) (all_spins plan samples (λ b. (serial plan (s b) e).slots))) c
     ∙ ap₂ (λ xs ys. parts (t 0).epoch xs ys) rows spins
 
-pub level-report : (run : RunView) (stand : Stand) (opened : ℕ → Sample) (d : RaggedEndedView) → run.takes ≡ 32000000000 → run.base ≡ level_stand stand → StandFits run.plan stand
+pub level-report : (run : RunView) (stand : Stand) (opened : ℕ → Sample) (d : RaggedEndedView) → run.takes ≡ every_take → run.base ≡ level_stand stand → StandFits run.plan stand
     → StandsFor run.plan opened stand → IsEnd run d → run_report run (positions_of d.stand) ≡ report run.plan opened run.orders run.until
 unfolding part
 level-report run stand opened d takes base fits stands e =

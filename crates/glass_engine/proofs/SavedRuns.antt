@@ -1,6 +1,7 @@
 -- The checkpoint of a run: what it is written from fits, and it is the rule's.
 use Rattle.std.proofs.Common.{arith, ◌≡◌, ℕ, ◌^◌, ◌<◌, Bool, true, false, List, [], length, map, replicate, pos, sym, ap, ap₂, ◌∙◌, subst}
 use Rattle.std.proofs.lemmas.List.{length-map, length-replicate, get_or-map, get_or-replicate, ext_get_or}
+use Rattle.spin_model.specs.Limits.{every_take}
 use Rattle.scalar_rule.specs.Plan.{Plan}
 use Rattle.scalar_rule.specs.Positions.{pending_count}
 use Rattle.scalar_rule.specs.Ragged.{all_ready}
@@ -82,20 +83,20 @@ ended-flattened until stand some ended =
 some-places : (run : RunView) (d : RaggedEndedView) → IsEnd run d → 0 < length d.stand.places
 some-places run d e = omega (arith, e.stop.fits.places, e.lawful.plan.rules.some)
 
-written-level : (run : RunView) (d : RaggedEndedView) → run.saves ≡ saves.Level → run.takes ≡ 32000000000 → IsEnd run d
+written-level : (run : RunView) (d : RaggedEndedView) → run.saves ≡ saves.Level → run.takes ≡ every_take → IsEnd run d
     → checkpoint run d.stand ≡ encoding run.plan (λ b. part run.plan.size b (stand_at run.until d.stand))
 written-level run d level takes e =
     let w = unstopped-whole run d takes e in
     ap (λ k. written k run.plan run.orders.samples run.orders.every d.stand) level
     ∙ ap (λ (s : Stand). encoding run.plan (λ b. part run.plan.size b s)) (ended-flattened run.until d.stand (some-places run d e) w.places)
 
-pub whole-checkpoint : (run : RunView) (d : RaggedEndedView) → run.saves ≡ saves.Level → run.takes ≡ 32000000000 → IsEnd run d
+pub whole-checkpoint : (run : RunView) (d : RaggedEndedView) → run.saves ≡ saves.Level → run.takes ≡ every_take → IsEnd run d
     → checkpoint run d.stand ≡ encoding run.plan (λ b. all_ready run.plan (starts run b) run.until)
 whole-checkpoint run d level takes e =
     written-level run d level takes e
     ∙ encoding-same run.plan (λ b. part run.plan.size b (stand_at run.until d.stand)) (λ b. all_ready run.plan (starts run b) run.until) (unstopped-whole run d takes e).stand
 
-pub level-checkpoint : (run : RunView) (stand : Stand) (start : ℕ → Sample) (d : RaggedEndedView) → run.saves ≡ saves.Level → run.takes ≡ 32000000000
+pub level-checkpoint : (run : RunView) (stand : Stand) (start : ℕ → Sample) (d : RaggedEndedView) → run.saves ≡ saves.Level → run.takes ≡ every_take
     → run.base ≡ level_stand stand → StandFits run.plan stand → StandsFor run.plan start stand → IsEnd run d
     → checkpoint run d.stand ≡ encoding run.plan (λ b. serial run.plan (start b) run.until)
 level-checkpoint run stand start d level takes base fits stands e =

@@ -2,6 +2,7 @@
 use Rattle.std.proofs.Common.{arith, ◌≡◌, ℕ, zero, suc, ◌+◌, ◌-◌, ◌*◌, ◌<◌, ◌≤◌, true, List, [], ◌++◌, length, drop, take, refl, sym, ap, ap₂, ◌∙◌, cond, append-nil, length-append}
 use Rattle.std.specs.Prelude.{ℤ, ◌+ℤ◌, not, ◌==◌}
 use Rattle.std.proofs.lemmas.List.{drop_at, take_all, length-drop}
+use Rattle.spin_model.specs.Limits.{every_take}
 use Rattle.spin_model.proofs.Tables.{length-table}
 use Rattle.report_text.specs.Lines.{summary_line, slot_line, end_line}
 use Rattle.plane_sweep.specs.Packed.{part}
@@ -71,7 +72,7 @@ lasts plan start every until records first some on is =
 -- what a run is that has a summary
 pub record HasSummary (run : RunView) (start : ℕ → Sample) (d : RaggedEndedView) : Type 0 where
   pub begins : BeginsLevel run start
-  pub takes : run.takes ≡ 32000000000
+  pub takes : run.takes ≡ every_take
   pub samples : run.orders.samples ≡ 64
   pub some : 1 ≤ run.until
   pub recorded : is_recorded run.orders.every (run.until - 1) ≡ true

@@ -4,6 +4,7 @@ use Rattle.std.proofs.Math.Nat.{mul-le-mul_right}
 use native.Mathlib.Nat.{suc-mul}
 use Rattle.std.proofs.lemmas.Bool.{cases_lt}
 use Rattle.std.proofs.lemmas.List.{length-map, get_or-map, take_all}
+use Rattle.spin_model.specs.Limits.{every_take}
 use Rattle.spin_model.specs.Steps.{table}
 use Rattle.spin_model.proofs.Tables.{table-of_items}
 use Rattle.scalar_rule.specs.Plan.{Plan, slots_of, pairs_of}
@@ -85,7 +86,7 @@ full-ended o d l s each =
     (λ t h rests. let z = each t h in omega arith) in
     λ t h. ended t (subst (λ k. t < k) long h)
 
-whole-ended : (run : RunView) (d : RaggedEndedView) → run.takes ≡ 32000000000 → IsEnd run d → AllEnded run.until (stages_of d.stand)
+whole-ended : (run : RunView) (d : RaggedEndedView) → run.takes ≡ every_take → IsEnd run d → AllEnded run.until (stages_of d.stand)
 whole-ended run d takes e = elim e.finished [
   | inl all ↦ all
   | inr spent ↦
@@ -181,7 +182,7 @@ whole-origin o until samples every plan base d plan_is base_is until_is samples_
     let r4 = subst (λ k. R plan base until k o.window.every) samples_is r3 in
     (subst (λ e. A plan base e) until_is a2, subst (λ v. R plan base until samples v) every_is r4)
 
-pub unstopped-whole : (run : RunView) (d : RaggedEndedView) → run.takes ≡ 32000000000 → IsEnd run d → IsWhole run d
+pub unstopped-whole : (run : RunView) (d : RaggedEndedView) → run.takes ≡ every_take → IsEnd run d → IsWhole run d
 unstopped-whole run d takes e =
     let o = d.origin in
     let ps = stages_of d.stand in
@@ -198,7 +199,7 @@ records-same plan s t samples every e same =
     let states : s ≡ t = λ i. λ b. same b i in
     ap (λ (z : ℕ → UnevenState). uneven_records plan z [] samples every e) states
 
-pub level-serial : (run : RunView) (stand : Stand) (d : RaggedEndedView) → run.takes ≡ 32000000000 → run.base ≡ level_stand stand → StandFits run.plan stand → IsEnd run d
+pub level-serial : (run : RunView) (stand : Stand) (d : RaggedEndedView) → run.takes ≡ every_take → run.base ≡ level_stand stand → StandFits run.plan stand → IsEnd run d
     → IsSerial run (λ b. part run.plan.size b stand) d
 unfolding part
 level-serial run stand d takes base fits e =

@@ -1,6 +1,6 @@
 -- The runs of several banks before and after they are driven: one run for each bank, from states at one epoch.
 use Rattle.std.specs.Prelude.{ℕ, ◌+◌, ◌-◌, ◌*◌, ◌<◌, ◌≤◌, min, Bool, if◌then◌else◌, List, [], ◌∷◌, map}
-use Rattle.spin_model.specs.Limits.{last_epoch, most_rows}
+use Rattle.spin_model.specs.Limits.{every_take, last_epoch, most_rows}
 use Rattle.run_plan.specs.declared.run_file.Orders.{Orders}
 use Rattle.run_checkpoint.specs.BankEncoding.{HaveShape, BanksFit}
 use Rattle.run_checkpoint.specs.Encoding.{flattened}
@@ -23,7 +23,7 @@ for_samples samples orders = record { samples = samples; epochs = orders.epochs;
 -- a bank's run from a state at one epoch, which isn't asked to stop
 abbrev pub bank_run : Plan → Stand → Orders → ℕ → SaveKind → RunView
 bank_run plan stand orders until kind =
-    record { plan = plan; base = level_stand stand; orders = orders; until = until; takes = 32000000000; saves = kind }
+    record { plan = plan; base = level_stand stand; orders = orders; until = until; takes = every_take; saves = kind }
 
 -- those of the banks, of which each prints the next 64 samples or what is left of them
 unfoldable pub bank_runs : List Plan → List Stand → Orders → ℕ → SaveKind → List RunView

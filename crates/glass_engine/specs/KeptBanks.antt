@@ -1,6 +1,6 @@
 -- What the runs of banks keep.
 use Rattle.std.specs.Prelude.{◌≡◌, ℕ, ◌-◌, ◌≤◌, min, List, [], ◌∷◌, length, map, All, Option, Some, None, vec_capacity}
-use Rattle.spin_model.specs.Limits.{last_epoch}
+use Rattle.spin_model.specs.Limits.{every_take, last_epoch}
 use Rattle.run_checkpoint.specs.Encoding.{flattened}
 use Rattle.run_checkpoint.specs.BankEncoding.{banks_len}
 use Rattle.run_checkpoint.specs.Rooms.{RoomView}
@@ -34,7 +34,7 @@ pub record IsBankRun (shared : Shared) (orders : Orders) (run : RunView) : Type 
   pub until : run.until ≡ shared.until
   pub every : run.orders.every ≡ orders.every
   pub spins : run.orders.spins ≡ orders.spins
-  pub takes : run.takes ≡ 32000000000
+  pub takes : run.takes ≡ every_take
 
 -- each bank prints 64 samples, or what is left of them
 unfoldable pub HaveSamples : ℕ → List RunView → Type 0

@@ -1,5 +1,6 @@
 -- The buffer that a run keeps for its checkpoint.
 use Rattle.std.specs.Prelude.{◌≡◌, ℕ, ◌+◌, ◌*◌, ◌≤◌, List, [], length}
+use Rattle.spin_model.specs.Limits.{every_take}
 use Rattle.scalar_rule.specs.Plan.{Plan, slots_of}
 use Rattle.plane_sweep.specs.Uneven.{level_stand}
 use Rattle.plane_sweep.specs.declared.uneven.RaggedStand.{RaggedStand}
@@ -52,4 +53,4 @@ IsWritten plan samples every stand kept = bytes_of kept ≡ written (kind_of kep
 -- what a run keeps of its buffer; a checkpoint at one epoch is of a run that is not asked to stop
 pub record KeepsSaving (run : RunView) (kept : Saving) : Type 0 where
   pub room : HasRoom run.plan run.orders.samples kept
-  pub whole : run.saves ≡ saves.Level → run.takes ≡ 32000000000
+  pub whole : run.saves ≡ saves.Level → run.takes ≡ every_take

@@ -1,6 +1,7 @@
 -- What holds of runs: one that was not asked to stop ends with every slot at until, and from a level starting state its end
 -- is that of the serial dynamics.
 use Rattle.std.specs.Prelude.{◌≡◌, ℕ}
+use Rattle.spin_model.specs.Limits.{every_take}
 use Rattle.scalar_rule.specs.Positions.{uneven_records}
 use Rattle.scalar_rule.specs.Records.{records_until}
 use Rattle.scalar_rule.specs.Serial.{serial}
@@ -26,9 +27,9 @@ pub record IsWhole (run : RunView) (d : RaggedEndedView) : Type 0 where
   pub stand : StandsFor run.plan (λ b. all_ready run.plan (starts run b) run.until) (stand_at run.until d.stand)
   pub records : d.records ≡ uneven_records run.plan (starts run) run.base.pending run.orders.samples run.orders.every run.until
 
--- no run makes more hand-outs than 32000000000
+-- no run makes more hand-outs than every_take
 abbrev pub UnstoppedRunIsWhole : Type 0
-UnstoppedRunIsWhole = (run : RunView) (d : RaggedEndedView) → run.takes ≡ 32000000000 → IsEnd run d → IsWhole run d
+UnstoppedRunIsWhole = (run : RunView) (d : RaggedEndedView) → run.takes ≡ every_take → IsEnd run d → IsWhole run d
 
 -- the same by the serial dynamics, from states of the samples at one epoch
 pub record IsSerial (run : RunView) (start : ℕ → Sample) (d : RaggedEndedView) : Type 0 where
@@ -37,11 +38,11 @@ pub record IsSerial (run : RunView) (start : ℕ → Sample) (d : RaggedEndedVie
   pub records : d.records ≡ records_until run.plan start run.orders.samples run.orders.every run.until
 
 abbrev pub LevelRunIsSerial : Type 0
-LevelRunIsSerial = (run : RunView) (stand : Stand) (d : RaggedEndedView) → run.takes ≡ 32000000000 → run.base ≡ level_stand stand
+LevelRunIsSerial = (run : RunView) (stand : Stand) (d : RaggedEndedView) → run.takes ≡ every_take → run.base ≡ level_stand stand
     → StandFits run.plan stand → IsEnd run d → IsSerial run (λ b. part run.plan.size b stand) d
 
 -- and its report is that of the states that the starting state stands for
 abbrev pub LevelReportIsSerial : Type 0
-LevelReportIsSerial = (run : RunView) (stand : Stand) (start : ℕ → Sample) (d : RaggedEndedView) → run.takes ≡ 32000000000 → run.base ≡ level_stand stand
+LevelReportIsSerial = (run : RunView) (stand : Stand) (start : ℕ → Sample) (d : RaggedEndedView) → run.takes ≡ every_take → run.base ≡ level_stand stand
     → StandFits run.plan stand → StandsFor run.plan start stand → IsEnd run d
     → run_report run (positions_of d.stand) ≡ report run.plan start run.orders run.until

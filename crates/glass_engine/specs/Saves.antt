@@ -1,5 +1,6 @@
 -- What a run places as its checkpoint.
 use Rattle.std.specs.Prelude.{◌≡◌, ℕ, List, []}
+use Rattle.spin_model.specs.Limits.{every_take}
 use Rattle.scalar_rule.specs.Plan.{Plan}
 use Rattle.scalar_rule.specs.Serial.{serial}
 use Rattle.scalar_rule.specs.Ragged.{all_ready}
@@ -30,11 +31,11 @@ checkpoint run stand = written run.saves run.plan run.orders.samples run.orders.
 
 -- the checkpoint of a run to its end is that of the rule's states at its last epoch
 abbrev pub WholeCheckpointIsTheRules : Type 0
-WholeCheckpointIsTheRules = (run : RunView) (d : RaggedEndedView) → run.saves ≡ saves.Level → run.takes ≡ 32000000000 → IsEnd run d
+WholeCheckpointIsTheRules = (run : RunView) (d : RaggedEndedView) → run.saves ≡ saves.Level → run.takes ≡ every_take → IsEnd run d
     → checkpoint run d.stand ≡ encoding run.plan (λ b. all_ready run.plan (starts run b) run.until)
 
 -- from states at one epoch it is that of the serial dynamics
 abbrev pub LevelCheckpointIsSerial : Type 0
-LevelCheckpointIsSerial = (run : RunView) (stand : Stand) (start : ℕ → Sample) (d : RaggedEndedView) → run.saves ≡ saves.Level → run.takes ≡ 32000000000
+LevelCheckpointIsSerial = (run : RunView) (stand : Stand) (start : ℕ → Sample) (d : RaggedEndedView) → run.saves ≡ saves.Level → run.takes ≡ every_take
     → run.base ≡ level_stand stand → StandFits run.plan stand → StandsFor run.plan start stand → IsEnd run d
     → checkpoint run d.stand ≡ encoding run.plan (λ b. serial run.plan (start b) run.until)

@@ -18,12 +18,9 @@ use plane_sweep::{RaggedStand, Stand};
 use run_checkpoint::{Room, length};
 use run_plan::Orders;
 use scalar_rule::Plan;
-use spin_model::BANK_SAMPLES;
+use spin_model::{BANK_SAMPLES, EVERY_TAKE};
 use std::alloc::Global;
 use std::sync::Arc;
-
-/// So many hand-outs of a slot stop no run.
-pub const EVERY_TAKE: u64 = 32000000000;
 
 /// Opens a run over 2 to 4 banks from their states at one epoch to epoch `until`: each bank as `open`
 /// does, and the buffer of the one checkpoint of all where it is to be saved. Each bank has its own

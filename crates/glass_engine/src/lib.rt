@@ -20,7 +20,7 @@ mod summary;
 mod workers;
 
 pub use bank_driving::drive_banks;
-pub use bank_opening::{EVERY_TAKE, open_banks};
+pub use bank_opening::open_banks;
 pub use bank_report::write_banks;
 pub use bank_saving::save_banks;
 pub use banks::{Banks, BanksDone};

@@ -1,6 +1,7 @@
 //! The summary of a run whose plan is made from a number.
 
 ghost use Rattle.std.specs.Prelude.{◌≡◌, ℕ, ◌+ℤ◌, ◌-◌, ◌*◌, ◌<◌, ◌≤◌, ◌==◌, not, true, unsigned_abs, length, slice_index, flat_map, OnOk, OnErr};
+ghost use Rattle.spin_model.specs.Limits.{every_take};
 ghost use Rattle.glass_edges.specs.Causes.{HasCause};
 ghost use Rattle.glass_edges.specs.Contents.{appended, AppendsPrefix};
 ghost use Rattle.plane_sweep.specs.Uneven.{uneven_part};
@@ -33,7 +34,7 @@ const SAMPLES: usize = 64;
 pub fn write_summary<O: Sink>(done: &Done, plan: &Plan, n: u64, out: &mut O) -> Result<(), Fault>
     requires plan { plan.now ≡ done.now.run.plan }
     requires level { (start : ℕ → samples.Sample) × text.BeginsLevel done.now.run start }
-    requires takes { done.now.run.takes ≡ 32000000000 }
+    requires takes { done.now.run.takes ≡ every_take }
     requires samples { done.now.run.orders.samples ≡ 64 }
     requires some { 1 ≤ done.now.run.until }
     requires recorded { is_recorded done.now.run.orders.every (done.now.run.until - 1) ≡ true }

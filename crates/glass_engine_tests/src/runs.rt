@@ -10,7 +10,7 @@ ghost use Rattle.plane_sweep.specs.Uneven.{level_stand, positions_of, RaggedStan
 ghost use Rattle.run_plan.specs.Amounts.{row_count};
 ghost use Rattle.scalar_rule.specs.Opening as model;
 ghost use Rattle.scalar_rule.specs.Positions.{deepest_of, floor_of};
-ghost use Rattle.spin_model.specs.Limits.{last_epoch, most_rows};
+ghost use Rattle.spin_model.specs.Limits.{every_take, last_epoch, most_rows};
 
 use coupling_set::Couplings;
 use glass_edges::NoMemory;
@@ -19,6 +19,7 @@ use lattice_geometry::Lattice;
 use plane_sweep::{RaggedStand, Stand};
 use run_plan::{Orders, check_amount};
 use scalar_rule::{Plan, Start};
+use spin_model::EVERY_TAKE;
 use std::alloc::Global;
 use std::sync::Arc;
 use std::test::Fail;
@@ -37,9 +38,6 @@ pub(super) const THREE_UP: &str = "0,0,0,0,0,0,4294967296
 0,0,0,0,0,0,4294967296
 0,0,0,0,0,0,4294967296
 ";
-
-/// The number of hand-outs at which no run stops.
-const ENDLESS: u64 = 32000000000;
 
 /// Fails, with the name of the case, where something does not hold.
 pub(super) fn holds(case: &str, whether: bool) -> Result<(), Fail> {
@@ -92,7 +90,7 @@ pub(super) struct Reach {
     pub(super) takes: u64,
     pub(super) workers: u32,
     ghost in_time: { until ≤ last_epoch },
-    ghost few_takes: { takes ≤ 32000000000 },
+    ghost few_takes: { takes ≤ every_take },
     ghost some_workers: { 1 ≤ workers },
     ghost few_workers: { workers ≤ 64 },
 }
@@ -103,11 +101,11 @@ pub(super) fn whole(until: u64, workers: u32) -> Reach
     requires some_workers { 1 ≤ workers }
     requires few_workers { workers ≤ 64 }
     ensures until { result.until ≡ until }
-    ensures takes { result.takes ≡ 32000000000 }
+    ensures takes { result.takes ≡ every_take }
 {
     Reach {
         until,
-        takes: ENDLESS,
+        takes: EVERY_TAKE,
         workers,
     }
 }
@@ -156,7 +154,7 @@ fn begun(
     requires stand { StandFits (arc_value plan.now) stand }
     requires first { stand.epoch ≡ 0 }
     requires rows { row_count (arc_value plan.now) orders.now 0 reach.now.until ≤ most_rows }
-    requires whole { save ≡ saves.Level → reach.now.takes ≡ 32000000000 }
+    requires whole { save ≡ saves.Level → reach.now.takes ≡ every_take }
     ensures { IfOk result (λ run. run ≡ record {
       plan = arc_value plan.now;
       base = level_stand stand;
@@ -188,7 +186,7 @@ pub(super) fn opened(
     save: SaveKind,
 ) -> Result<Run, Fail>
     requires orders { AreRunOrders orders.now }
-    requires whole { save ≡ saves.Level → reach.now.takes ≡ 32000000000 }
+    requires whole { save ≡ saves.Level → reach.now.takes ≡ every_take }
     ensures plan { IfOk result (λ run. run.plan ≡ arc_value plan.now) }
     ensures orders { IfOk result (λ run. run.orders ≡ orders.now) }
     ensures until { IfOk result (λ run. run.until ≡ reach.now.until) }

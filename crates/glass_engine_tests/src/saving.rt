@@ -1,6 +1,7 @@
 //! The checkpoints that a run places.
 
 ghost use Rattle.std.specs.Prelude.{◌≡◌, ◌≢◌};
+ghost use Rattle.spin_model.specs.Limits.{every_take};
 ghost use Rattle.glass_engine.specs.declared.run.SaveKind.TheVariants as saves;
 
 use crate::runs::{ORDERS, Reach, holds, opened, two_slots, whole};
@@ -48,7 +49,7 @@ fn placed_twice<R: Threads + Wait + Sync>(
     reach: &Reach,
     kind: SaveKind,
 ) -> Result<MemoryShelf, Fail>
-    requires whole { kind ≡ saves.Level → reach.now.takes ≡ 32000000000 }
+    requires whole { kind ≡ saves.Level → reach.now.takes ≡ every_take }
     requires some { kind ≢ saves.Never }
 {
     let mut shelf = two_rooms(alloc)?;
@@ -76,7 +77,7 @@ fn saves<R: Threads + Wait + Sync>(
     len: usize,
     last: &[u8],
 ) -> Result<(), Fail>
-    requires whole { kind ≡ saves.Level → reach.now.takes ≡ 32000000000 }
+    requires whole { kind ≡ saves.Level → reach.now.takes ≡ every_take }
     requires some { kind ≢ saves.Never }
 {
     let mut shelf = placed_twice(rt, alloc, reach, kind)?;

@@ -1,6 +1,7 @@
 //! The summary of a run from epoch 0.
 
 ghost use Rattle.std.specs.Prelude.{◌≡◌};
+ghost use Rattle.spin_model.specs.Limits.{every_take};
 ghost use Rattle.glass_engine.specs.Summary.{BeginsLevel};
 ghost use Rattle.scalar_rule.specs.Opening.{opening};
 ghost use Rattle.scalar_rule.specs.declared.sample.Start.TheVariants.{Up};
@@ -32,7 +33,7 @@ end,2
 fn summarized<R: Threads + Wait + Sync>(rt: &R, run: Run, plan: &Plan, out: &mut MemorySink) -> bool
     requires plan { plan.now ≡ run.plan }
     requires level { BeginsLevel run (opening run.plan Up 0) }
-    requires takes { run.takes ≡ 32000000000 }
+    requires takes { run.takes ≡ every_take }
     requires until { run.until ≡ 2 }
     requires samples { run.orders.samples ≡ 64 }
     requires every { run.orders.every ≡ 1 }

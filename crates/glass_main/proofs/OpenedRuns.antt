@@ -1,6 +1,7 @@
 -- The report and the checkpoint of a run that is opened as it is to be, and the epoch at which its starting state begins.
 use Rattle.std.proofs.Common.{◌≡◌, ℕ, ◌<◌, ◌≤◌, false, List, length, Option, Some, None, ap, ap₂, sym, ◌∙◌, subst, arith}
 use Rattle.std.proofs.lemmas.List.{length-map, length-replicate, get_or-replicate, ext_get_or}
+use Rattle.spin_model.specs.Limits.{every_take}
 use Rattle.run_checkpoint.specs.Encoding.{encoding}
 use Rattle.run_plan.specs.declared.run_file.Orders.{Orders}
 use Rattle.scalar_rule.specs.Plan.{Plan, slots_of}
@@ -44,7 +45,7 @@ run-of stop_after planned base e name opened from o begun = record {
 }
 
 -- the positions of a run to its end
-ended-at : (run : RunView) (d : RaggedEndedView) → UnstoppedRunIsWhole → run.takes ≡ 32000000000 → IsEnd run d → positions_of d.stand ≡ all_at run.plan run.until
+ended-at : (run : RunView) (d : RaggedEndedView) → UnstoppedRunIsWhole → run.takes ≡ every_take → IsEnd run d → positions_of d.stand ≡ all_at run.plan run.until
 ended-at run d whole takes e =
     let w = whole run d takes e in
     let n = slots_of run.plan in

@@ -3,7 +3,7 @@ use Rattle.std.proofs.Common.{◌≡◌, ℕ, List, ◌++◌, codes, Option, Som
 use Rattle.std.specs.Str.{bytes_eq}
 use Rattle.std.proofs.lemmas.Option.{none-some}
 use Rattle.std.proofs.lemmas.Slice.Eq.{bytes_eq-Decides}
-use Rattle.spin_model.specs.Limits.{last_epoch}
+use Rattle.spin_model.specs.Limits.{every_take, last_epoch}
 use Rattle.glass_main.specs.Words.{number_word, file_word, name_word}
 use Rattle.glass_main.specs.RunWords.{RunOption, Workers, Pieces, Until, From, Save, StopAfter, name_of, if_same}
 use Rattle.glass_main.specs.RunReading.{RunWords, with_option}
@@ -17,7 +17,7 @@ pub record AddsAll (said : RunWords) (names : List (List ℕ)) (values : RunOpti
   pub until : Adds (number_word 0 last_epoch) said.until (values Until) later.until
   pub from : Adds file_word said.from (values From) later.from
   pub save : Adds file_word said.save (values Save) later.save
-  pub stop_after : Adds (number_word 0 32000000000) said.stop_after (values StopAfter) later.stop_after
+  pub stop_after : Adds (number_word 0 every_take) said.stop_after (values StopAfter) later.stop_after
 
 abbrev pub with_value : RunOption → List ℕ → (RunOption → List (List ℕ)) → RunOption → List (List ℕ)
 with_value other value values option = if_same option other value ++ values option

@@ -6,7 +6,7 @@ use Rattle.std.specs.Str.{bytes_eq}
 use Rattle.std.proofs.lemmas.Bool.{true≢false}
 use Rattle.std.proofs.lemmas.Option.{none-some, same_Some}
 use Rattle.std.proofs.lemmas.Slice.Eq.{bytes_eq-Decides}
-use Rattle.spin_model.specs.Limits.{last_epoch}
+use Rattle.spin_model.specs.Limits.{every_take, last_epoch}
 use Rattle.glass_main.specs.Words.{given, number_word, word_at, file_word, name_word}
 use Rattle.glass_main.specs.RunWords.{RunOrder, Workers, Pieces, Until, From, Save, StopAfter, words_of, names_in, values_in, SaysRun}
 use Rattle.glass_main.specs.RunReading.{RunWords, nothing_said, with_word, said_by, is_kept, order_in, run_order}
@@ -75,7 +75,7 @@ run_order-said (word ∷ words) order first h =
       until = may-be-said (number_word 0 last_epoch) (values_in Until s.items) later.until a.until;
       from = may-be-said file_word (values_in From s.items) later.from a.from;
       save = may-be-said file_word (values_in Save s.items) later.save a.save;
-      stop_after = may-be-said (number_word 0 32000000000) (values_in StopAfter s.items) later.stop_after a.stop_after;
+      stop_after = may-be-said (number_word 0 every_take) (values_in StopAfter s.items) later.stop_after a.stop_after;
       saved = is-saved later.stop_after later.save o.kept;
     })
 
@@ -106,7 +106,7 @@ said-run_order words order s =
       until = may-adds (number_word 0 last_epoch) (values_in Until s.items) order.until s.until;
       from = may-adds file_word (values_in From s.items) order.from s.from;
       save = may-adds file_word (values_in Save s.items) order.save s.save;
-      stop_after = may-adds (number_word 0 32000000000) (values_in StopAfter s.items) order.stop_after s.stop_after;
+      stop_after = may-adds (number_word 0 every_take) (values_in StopAfter s.items) order.stop_after s.stop_after;
     }) in
     let same : order_from order.run later ≡ order =
     λ i. record {

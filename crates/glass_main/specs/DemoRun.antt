@@ -1,5 +1,6 @@
 -- The run whose plan is made from a number, as it is opened.
 use Rattle.std.specs.Prelude.{◌≡◌, ℕ}
+use Rattle.spin_model.specs.Limits.{every_take}
 use Rattle.glass_engine.specs.Runs.{RunView}
 use Rattle.glass_engine.specs.Summary.{BeginsLevel}
 use Rattle.run_plan.specs.DemoPlan.{demo_plan, demo_orders}
@@ -11,5 +12,5 @@ pub record IsDemoRun (n : ℕ) (run : RunView) : Type 0 where
   pub plan : run.plan ≡ demo_plan n
   pub orders : run.orders ≡ demo_orders
   pub until : run.until ≡ 16
-  pub takes : run.takes ≡ 32000000000
+  pub takes : run.takes ≡ every_take
   pub begins : BeginsLevel run (opening (demo_plan n) Random 0)

@@ -1,6 +1,7 @@
 -- A run as it is opened, and why it isn't.
 use Rattle.std.specs.Prelude.{◌≡◌, ◌≢◌, ℕ, List, Option, Some, None, unwrap_or, Result}
 use Rattle.std.specs.Arc.{arc_value}
+use Rattle.spin_model.specs.Limits.{every_take}
 use Rattle.glass_engine.specs.Runs.{RunView}
 use Rattle.glass_engine.specs.declared.run.SaveKind.{SaveKind}
 use Rattle.glass_engine.specs.declared.run.SaveKind.TheVariants as saves
@@ -17,9 +18,9 @@ use Rattle.glass_main.specs.declared.ending.Ending.TheVariants.{Done, Refused, U
 use Rattle.glass_main.specs.declared.planned.Planned.{Planned}
 use Rattle.glass_main.specs.declared.finishing.Opened.{Opened}
 
--- how many hand-outs of a slot a run makes at most: no run makes more than 32000000000
+-- how many hand-outs of a slot a run makes at most: no run makes more than every_take
 abbrev pub takes_of : Option ℕ → ℕ
-takes_of stop_after = unwrap_or stop_after 32000000000
+takes_of stop_after = unwrap_or stop_after every_take
 
 -- which checkpoint is saved: none where there is no name for it; that of the last epoch, or where the run may stop that of each
 -- slot at its own place

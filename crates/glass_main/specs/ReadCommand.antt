@@ -1,7 +1,7 @@
 -- A command of the program as a command of the definitions, and the limits of its numbers.
 use Rattle.std.specs.Borrow.{Bor}
 use Rattle.std.specs.Prelude.{ℕ, ◌≤◌, List, Option, option_map, IfSome}
-use Rattle.spin_model.specs.Limits.{greatest_demo, last_epoch}
+use Rattle.spin_model.specs.Limits.{every_take, greatest_demo, last_epoch}
 use Rattle.glass_main.specs.CommandLine as model
 use Rattle.glass_main.specs.RunWords as run_words
 use Rattle.glass_main.specs.RunReading as run_reading
@@ -67,21 +67,21 @@ read_said said = record {
   stop_after = said.stop_after;
 }
 
--- 1 to 64 workers, 1 to 16 pieces, an epoch up to 1000000000, up to 32000000000 hand-outs
+-- 1 to 64 workers, 1 to 16 pieces, an epoch up to 1000000000, up to every_take hand-outs
 pub record IsLawfulOrder (order : RunOrder) : Type 0 where
   pub some_workers : 1 ≤ order.workers
   pub few_workers : order.workers ≤ 64
   pub some_pieces : 1 ≤ order.pieces
   pub few_pieces : order.pieces ≤ 16
   pub until : IfSome order.until (λ e. e ≤ last_epoch)
-  pub stop_after : IfSome order.stop_after (λ n. n ≤ 32000000000)
+  pub stop_after : IfSome order.stop_after (λ n. n ≤ every_take)
 
 -- the same of what the words have said
 pub record AreLawfulWords (said : RunWords) : Type 0 where
   pub workers : IfSome said.workers (λ n. (1 ≤ n) × (n ≤ 64))
   pub pieces : IfSome said.pieces (λ n. (1 ≤ n) × (n ≤ 16))
   pub until : IfSome said.until (λ e. e ≤ last_epoch)
-  pub stop_after : IfSome said.stop_after (λ n. n ≤ 32000000000)
+  pub stop_after : IfSome said.stop_after (λ n. n ≤ every_take)
 
 -- 1 to 256 blocks
 pub record IsLawfulAverage (order : AverageOrder) : Type 0 where

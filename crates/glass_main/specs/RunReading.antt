@@ -3,7 +3,7 @@
 use Rattle.std.specs.Prelude.{ℕ, Bool, true, false, ◌==◌, nat_lt, if◌then◌else◌, List, length, drop, codes, Option, Some, None, option_map, unwrap_or}
 use Rattle.std.specs.List.{fold, position_or_len, before_first, after_first}
 use Rattle.std.specs.Str.{bytes_eq}
-use Rattle.spin_model.specs.Limits.{last_epoch}
+use Rattle.spin_model.specs.Limits.{every_take, last_epoch}
 use Rattle.glass_main.specs.RunWords.{RunOrder}
 use Rattle.glass_edges.specs.FileNames.{is_file_name}
 use Rattle.glass_main.specs.Words.{given, number_word, is_option, file_word}
@@ -37,7 +37,7 @@ once None next = next
 once (Some earlier) next = None
 
 -- an option with its value, each at most once: 1 to 64 workers, 1 to 16 pieces, an epoch up to 1000000000, names of files,
--- up to 32000000000 hand-outs
+-- up to every_take hand-outs
 abbrev pub with_workers : RunWords → List ℕ → Option RunWords
 with_workers said value = once said.workers (option_map (λ n. record said { waiting = None; workers = Some n }) (number_word 1 64 value))
 
@@ -54,7 +54,7 @@ abbrev pub with_save : RunWords → List ℕ → Option RunWords
 with_save said value = once said.save (option_map (λ name. record said { waiting = None; save = Some name }) (file_word value))
 
 abbrev pub with_stop_after : RunWords → List ℕ → Option RunWords
-with_stop_after said value = once said.stop_after (option_map (λ n. record said { waiting = None; stop_after = Some n }) (number_word 0 32000000000 value))
+with_stop_after said value = once said.stop_after (option_map (λ n. record said { waiting = None; stop_after = Some n }) (number_word 0 every_take value))
 
 unfoldable pub with_option : RunWords → List ℕ → List ℕ → Option RunWords
 with_option said name value =

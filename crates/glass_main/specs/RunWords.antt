@@ -2,7 +2,7 @@
 use Rattle.std.specs.Prelude.{◌≡◌, ℕ, List, [], ◌∷◌, ◌++◌, if◌then◌else◌, codes, Option, Some, None, option_map, IsSome}
 use Rattle.std.specs.List.{flat_map}
 use Rattle.std.specs.Str.{bytes_eq}
-use Rattle.spin_model.specs.Limits.{last_epoch}
+use Rattle.spin_model.specs.Limits.{every_take, last_epoch}
 use Rattle.glass_main.specs.Words.{number_word, file_word, name_word}
 
 -- a run: the name of its run file, the workers, the pieces that the planes of a sweep are cut into, the epoch to stop at
@@ -83,7 +83,7 @@ MaySay read texts value = SayAtMostOnce (λ text. option_map Some (read text)) N
 
 -- the words ask for this run: they are `run` and the words of items, in any order; one item names the run file, and each option
 -- is in one at most, with a value that it may have: 1 to 64 workers, 1 to 16 pieces, an epoch up to 1000000000, names of files,
--- up to 32000000000 hand-outs; a run that may stop between epochs is saved
+-- up to every_take hand-outs; a run that may stop between epochs is saved
 pub record SaysRun (words : List (List ℕ)) (order : RunOrder) : Type 0 where
   pub items : List RunItem
   pub written : words ≡ codes "run" ∷ flat_map words_of items
@@ -94,5 +94,5 @@ pub record SaysRun (words : List (List ℕ)) (order : RunOrder) : Type 0 where
   pub until : MaySay (number_word 0 last_epoch) (values_in Until items) order.until
   pub from : MaySay file_word (values_in From items) order.from
   pub save : MaySay file_word (values_in Save items) order.save
-  pub stop_after : MaySay (number_word 0 32000000000) (values_in StopAfter items) order.stop_after
+  pub stop_after : MaySay (number_word 0 every_take) (values_in StopAfter items) order.stop_after
   pub saved : IsSome order.stop_after → IsSome order.save

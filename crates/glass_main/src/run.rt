@@ -2,7 +2,7 @@
 //! state or from a checkpoint, to its last epoch or until it stops, its report, and its own checkpoint.
 
 ghost use Rattle.std.specs.Prelude.{◌≡◌, ◌≤◌, None, Some, Ok, IfSome, IfOk, IfErr, option_map, unwrap_or};
-ghost use Rattle.spin_model.specs.Limits.{last_epoch, most_rows};
+ghost use Rattle.spin_model.specs.Limits.{every_take, last_epoch, most_rows};
 ghost use Rattle.plane_sweep.specs.Uneven.{positions_of};
 ghost use Rattle.run_plan.specs.Amounts.{amount_refusal, row_count};
 ghost use Rattle.run_plan.specs.RunFile.{AreLawfulOrders};
@@ -27,10 +27,11 @@ use crate::refusal::Refusal;
 use crate::resuming::gather_base;
 use crate::run_words::RunOrder;
 use glass_edges::{Gate, NoMemory, Shelf, Sink};
-use glass_engine::{EVERY_TAKE, SaveKind, open};
+use glass_engine::{SaveKind, open};
 use plane_sweep::RaggedStand;
 use run_plan::{Orders, check_amount};
 use scalar_rule::Plan;
+use spin_model::EVERY_TAKE;
 use std::alloc::Global;
 use std::sync::{Arc, Wait};
 use std::thread::Threads;
@@ -181,7 +182,7 @@ fn open_planned(
 fn takes_of(order: &RunOrder<'_>) -> u64
     requires { IsLawfulOrder order.now }
     ensures value { result ≡ takes_of order.now.stop_after }
-    ensures within { result ≤ 32000000000 }
+    ensures within { result ≤ every_take }
 {
     order.stop_after.unwrap_or(EVERY_TAKE)
 }

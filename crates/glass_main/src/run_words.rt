@@ -7,7 +7,7 @@ ghost use Rattle.glass_main.specs.Words.{texts};
 
 use crate::words::{number_word, word_at};
 use glass_edges::is_file_name;
-use spin_model::LAST_EPOCH;
+use spin_model::{EVERY_TAKE, LAST_EPOCH};
 
 /// What `run` asks for.
 #[derive(Clone, Copy)]
@@ -24,7 +24,7 @@ pub struct RunOrder<'a> {
     pub from: Option<&'a str>,
     /// The name under which the checkpoint of the end is saved; none for no checkpoint.
     pub save: Option<&'a str>,
-    /// After how many hand-outs of a slot the run stops, at most 32000000000, wherever its slots are;
+    /// After how many hand-outs of a slot the run stops, at most `EVERY_TAKE`, wherever its slots are;
     /// none for a run to its last epoch.
     pub stop_after: Option<u64>,
 }
@@ -257,7 +257,7 @@ fn with_stop_after<'a>(said: RunWords<'a>, value: &str) -> Option<RunWords<'a>>
     if said.stop_after.is_some() {
         return None;
     }
-    let takes = number_word(value, 0, 32000000000)?;
+    let takes = number_word(value, 0, EVERY_TAKE)?;
     Some(RunWords {
         waiting: None,
         stop_after: Some(takes),
