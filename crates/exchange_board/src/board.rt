@@ -1,6 +1,7 @@
 //! The board, and its hand-outs.
 
 ghost use Rattle.std.specs.Prelude.{◌≡◌, ◌↔◌, ◌+◌, ◌*◌, ◌<◌, ◌≤◌, ◌&&◌, nat_le, nat_lt, true, false, length, IfSome, IfNone, IfOk, IfErr, OnErr, slice_set};
+ghost use Rattle.spin_model.specs.Limits.{most_slots};
 ghost use Rattle.scalar_rule.specs.Epoch.{has_partner, partner, pair_of};
 ghost use Rattle.exchange_board.specs.Views.{place_at, out_at, placed, progress};
 ghost use Rattle.exchange_board.specs.BoardKeeps.{phase_of};
@@ -79,7 +80,7 @@ impl Board {
     /// How many slots it has, at most 32.
     pub fn slots(&self) -> u32
         ensures count { result ≡ length self.now.places }
-        ensures few { result ≤ 32 }
+        ensures few { result ≤ most_slots }
     {
         self.slots.len() as u32
     }

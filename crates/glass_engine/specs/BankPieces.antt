@@ -1,6 +1,6 @@
 -- What banks that were driven hold: their records, epoch by epoch and sample by sample, and the states that they ended with.
 use Rattle.std.specs.Prelude.{◌≡◌, ℕ, ◌-◌, ◌*◌, ◌<◌, ◌≤◌, nat_lt, if◌then◌else◌, List, [], ◌∷◌, length, map, drop, All}
-use Rattle.spin_model.specs.Limits.{last_epoch}
+use Rattle.spin_model.specs.Limits.{last_epoch, most_slots}
 use Rattle.run_checkpoint.specs.Encoding.{flattened}
 use Rattle.run_plan.specs.declared.run_file.Orders.{Orders}
 use Rattle.scalar_rule.specs.Plan.{Plan, slots_of, IsLawfulPlan}
@@ -32,7 +32,7 @@ pub record HasRowsFrom (slots every f to passed : ℕ) (d : DoneView) : Type 0 w
 pub record AreRowsFrom (ds : List DoneView) (orders : Orders) (slots f to passed : ℕ) : Type 0 where
   pub some_every : 1 ≤ orders.every
   pub some_slots : 1 ≤ slots
-  pub few_slots : slots ≤ 32
+  pub few_slots : slots ≤ most_slots
   pub from : f ≤ to
   pub short : to ≤ last_epoch
   pub counted : passed ≤ f

@@ -3,7 +3,7 @@
 ghost use Rattle.std.specs.Prelude.{◌≡◌, ◌+◌, ◌*◌, ◌/◌, ◌<◌, ◌≤◌, ◌++◌, [], if◌then◌else◌, length, take, drop, slice_index_or, true, IfOk, OnOk, OnErr};
 ghost use Rattle.glass_edges.specs.Causes.{HasCause};
 ghost use Rattle.glass_edges.specs.Contents.{appended, AppendsPrefix, PutsFront};
-ghost use Rattle.spin_model.specs.Limits.{last_epoch};
+ghost use Rattle.spin_model.specs.Limits.{last_epoch, most_slots};
 ghost use Rattle.scalar_rule.specs.Records.{is_recorded};
 ghost use Rattle.glass_engine.specs.BankPieces.{banks_in, AreRowsFrom, HaveNext};
 ghost use Rattle.glass_engine.specs.Banks.{banks_measured};
@@ -140,7 +140,7 @@ pub(crate) fn bank_with(driven: &[Done], sample: u32) -> &Done
 // The records of a bit of a bank in a recorded epoch, before which so many were recorded.
 fn sample_records(bank: &Done, slots: usize, passed: usize, bit: usize) -> &[Record]
     requires short { passed ≤ last_epoch }
-    requires few_slots { slots ≤ 32 }
+    requires few_slots { slots ≤ most_slots }
     requires few_bits { bit < 64 }
     requires within { (passed * bank.now.run.orders.samples + bit) * slots + slots ≤ length bank.now.ended.records }
     ensures { result.now ≡ take slots

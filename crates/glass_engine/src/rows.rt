@@ -3,7 +3,7 @@
 ghost use Rattle.std.specs.Prelude.{◌≡◌, ◌+◌, ◌-◌, ◌*◌, ◌^◌, ◌<◌, ◌≤◌, ◌++◌, [], if◌then◌else◌, length, IfOk, OnOk, OnErr};
 ghost use Rattle.glass_edges.specs.Causes.{HasCause};
 ghost use Rattle.glass_edges.specs.Contents.{appended, AppendsPrefix, PutsFront};
-ghost use Rattle.spin_model.specs.Limits.{last_epoch};
+ghost use Rattle.spin_model.specs.Limits.{last_epoch, most_slots};
 ghost use Rattle.exchange_board.specs.Content as board;
 ghost use Rattle.scalar_rule.specs.Records.{in_order, is_recorded};
 ghost use Rattle.glass_engine.specs.RecordPieces.{piece_rows, measured};
@@ -91,7 +91,7 @@ fn add_recorded<O: Sink>(
 ) -> Result<usize, Fault>
     requires samples { shape.now.samples ≤ 64 }
     requires every { 1 ≤ shape.now.every }
-    requires slots { shape.now.slots ≤ 32 }
+    requires slots { shape.now.slots ≤ most_slots }
     requires records { (if is_recorded shape.now.every epoch then shape.now.samples * shape.now.slots else 0)
         ≤ length records.now }
     ensures count { IfOk result (λ count. count
@@ -122,7 +122,7 @@ fn add_epoch<O: Sink>(
     records: &[Record],
 ) -> Result<(), Fault>
     requires records { shape.now.samples * shape.now.slots ≤ length records.now }
-    requires slots { shape.now.slots ≤ 32 }
+    requires slots { shape.now.slots ≤ most_slots }
     ensures front { OnOk result (PutsFront (O.taken out.old) (O.taken out.new)
         (line.old ++ piece_rows epoch shape.now.samples shape.now.slots records.now) line.new) }
     ensures prefix { OnErr result (AppendsPrefix (O.taken out.old) (O.taken out.new)

@@ -1,7 +1,7 @@
 //! The summary of a run whose plan is made from a number.
 
 ghost use Rattle.std.specs.Prelude.{◌≡◌, ℕ, ◌+ℤ◌, ◌-◌, ◌*◌, ◌<◌, ◌≤◌, ◌==◌, not, true, unsigned_abs, length, slice_index, flat_map, OnOk, OnErr};
-ghost use Rattle.spin_model.specs.Limits.{every_take};
+ghost use Rattle.spin_model.specs.Limits.{every_take, most_slots};
 ghost use Rattle.glass_edges.specs.Causes.{HasCause};
 ghost use Rattle.glass_edges.specs.Contents.{appended, AppendsPrefix};
 ghost use Rattle.plane_sweep.specs.Uneven.{uneven_part};
@@ -108,7 +108,7 @@ fn put_slots<O: Sink>(
 fn slot_energy(records: &[Record], slots: usize, slot: usize) -> i64
     requires records { length records.now ≡ 64 * slots }
     requires slot { slot < slots }
-    requires few { slots ≤ 32 }
+    requires few { slots ≤ most_slots }
     ensures { result ≡ sum_of (λ b. text.both_energies (piece records.now slots b) slot) 64 }
 {
     let mut sum = 0;

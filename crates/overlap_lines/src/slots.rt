@@ -10,9 +10,10 @@ use crate::counting::{agreeing_bonds, agreeing_line};
 use lattice_geometry::Lattice;
 use plane_sweep::{Duo, Stand};
 use scalar_rule::Plan;
+use spin_model::MOST_SLOTS;
 
 /// The most slots of a state.
-pub(crate) const SLOTS: usize = 32;
+pub(crate) const SLOTS: usize = MOST_SLOTS as usize;
 
 /// The most counts of a slot: of its bonds, and of 32 lines in each direction.
 pub(crate) const COUNTS: usize = 97;

@@ -2,6 +2,7 @@
 
 ghost use Rattle.std.specs.Arc.{arc_value};
 ghost use Rattle.std.specs.Prelude.{◌≡◌, ℕ, ◌+◌, ◌*◌, ◌≤◌, List, None, All, drop, map, length, IfOk, IfErr, IfNone};
+ghost use Rattle.spin_model.specs.Limits.{most_slots};
 ghost use Rattle.glass_edges.specs.Refusals.{GivesAfterTests};
 ghost use Rattle.run_checkpoint.specs.BankDecoding as model;
 ghost use Rattle.run_checkpoint.specs.BankEncoding.{bank_len, banks_encoding, HaveOneShape, AreBanks, BanksStand};
@@ -233,7 +234,7 @@ fn unfilled_stands(
 ) -> Result<Vec<Stand>, NoMemory>
     requires size { size ≤ 64 }
     requires some { 1 ≤ count }
-    requires few { count ≤ 32 }
+    requires few { count ≤ most_slots }
     ensures count { IfOk result (λ stands. length stands.items ≡ banks) }
     ensures room { IfOk result (λ stands. All (HasRoom size count) stands.items) }
 {

@@ -2,6 +2,7 @@
 //! earlier slots.
 
 ghost use Rattle.std.specs.Prelude.{◌≡◌, ◌*◌, ◌<◌, ◌≤◌, ◌==◌, if◌then◌else◌, length};
+ghost use Rattle.spin_model.specs.Limits.{most_slots};
 ghost use Rattle.run_checkpoint.specs.Lengths as lengths;
 ghost use Rattle.run_checkpoint.specs.Reading.{parts_in};
 ghost use Rattle.run_checkpoint.specs.Tests as tests;
@@ -21,7 +22,7 @@ struct LabelPlace {
 #[tactic(auto, unfolding(crate::specs::Tests::wrong_label))]
 pub(crate) fn wrong_label(bytes: &[u8], size: u32, slots: usize) -> Option<CheckpointRefused>
     requires size { size ≤ 64 }
-    requires slots { slots ≤ 32 }
+    requires slots { slots ≤ most_slots }
     requires len { lengths.slot_len size * slots ≤ length bytes.now }
     ensures { result ≡ tests.wrong_label slots (parts_in size slots bytes.now) }
 {
@@ -36,7 +37,7 @@ pub(crate) fn wrong_label(bytes: &[u8], size: u32, slots: usize) -> Option<Check
 #[tactic(auto, unfolding(crate::specs::Tests::wrong_at))]
 fn wrong_at(bytes: &[u8], size: u32, slots: usize, place: usize) -> Option<CheckpointRefused>
     requires size { size ≤ 64 }
-    requires slots { slots ≤ 32 }
+    requires slots { slots ≤ most_slots }
     requires len { lengths.slot_len size * slots ≤ length bytes.now }
     requires place { place < 128 * slots }
     ensures { result ≡ tests.wrong_at slots (parts_in size slots bytes.now) place }
@@ -59,7 +60,7 @@ fn wrong_at(bytes: &[u8], size: u32, slots: usize, place: usize) -> Option<Check
 // Whether the label is no slot's number, or an earlier slot's in its replica and sample.
 fn is_wrong(bytes: &[u8], size: u32, slots: usize, place: LabelPlace) -> bool
     requires size { size ≤ 64 }
-    requires slots { slots ≤ 32 }
+    requires slots { slots ≤ most_slots }
     requires len { lengths.slot_len size * slots ≤ length bytes.now }
     requires slot { place.slot < slots }
     requires sample { place.sample < 64 }
@@ -85,7 +86,7 @@ fn is_wrong(bytes: &[u8], size: u32, slots: usize, place: LabelPlace) -> bool
 // The label at its place.
 fn label(bytes: &[u8], size: u32, slots: usize, place: LabelPlace) -> u8
     requires size { size ≤ 64 }
-    requires slots { slots ≤ 32 }
+    requires slots { slots ≤ most_slots }
     requires len { lengths.slot_len size * slots ≤ length bytes.now }
     requires slot { place.slot < slots }
     requires sample { place.sample < 64 }

@@ -1,6 +1,7 @@
 //! How long checkpoints are.
 
 ghost use Rattle.std.specs.Prelude.{◌≡◌, ◌+◌, ◌*◌, ◌<◌, ◌≤◌};
+ghost use Rattle.spin_model.specs.Limits.{most_slots};
 ghost use Rattle.spin_model.specs.Lattice.{IsLawfulSize};
 ghost use Rattle.run_checkpoint.specs.Lengths as lengths;
 
@@ -9,7 +10,7 @@ ghost use Rattle.run_checkpoint.specs.Lengths as lengths;
 pub fn length(size: u32, slots: u32) -> u64
     requires size { IsLawfulSize size }
     requires some { 1 ≤ slots }
-    requires few { slots ≤ 32 }
+    requires few { slots ≤ most_slots }
     ensures value { result ≡ lengths.encoding_len size slots }
     ensures least { 88 ≤ result }
     ensures bound { result ≤ 136235888 }
@@ -21,7 +22,7 @@ pub fn length(size: u32, slots: u32) -> u64
 pub fn length_ragged(size: u32, slots: u32, pending: u64) -> u64
     requires size { IsLawfulSize size }
     requires some { 1 ≤ slots }
-    requires few { slots ≤ 32 }
+    requires few { slots ≤ most_slots }
     requires pending { pending ≤ 65536 }
     ensures value { result ≡ lengths.uneven_len size slots pending }
     ensures bound { result ≤ 137153688 }
@@ -34,7 +35,7 @@ pub fn length_ragged(size: u32, slots: u32, pending: u64) -> u64
 pub(crate) fn uneven_len(size: u32, slots: u32, pending: u64) -> u64
     requires size { size ≤ 64 }
     requires some { 1 ≤ slots }
-    requires few { slots ≤ 32 }
+    requires few { slots ≤ most_slots }
     requires pending { pending < 4294967296 }
     ensures value { result ≡ lengths.uneven_len size slots pending }
     ensures bound { result ≤ 136236184 + 14 * pending }
@@ -47,7 +48,7 @@ pub(crate) fn uneven_len(size: u32, slots: u32, pending: u64) -> u64
 pub(crate) fn contents_len(size: u32, slots: u32) -> u64
     requires size { size ≤ 64 }
     requires some { 1 ≤ slots }
-    requires few { slots ≤ 32 }
+    requires few { slots ≤ most_slots }
     ensures value { result ≡ lengths.contents_len size slots }
     ensures bound { result ≤ 136235800 }
 {

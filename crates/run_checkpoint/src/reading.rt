@@ -1,6 +1,7 @@
 //! A packed state is filled with what bytes say that passed the tests. No memory is taken.
 
 ghost use Rattle.std.specs.Prelude.{◌≡◌, ◌+◌, ◌-◌, ◌*◌, ◌<◌, ◌≤◌, All, length, take};
+ghost use Rattle.spin_model.specs.Limits.{most_slots};
 ghost use Rattle.run_checkpoint.specs.Lengths as lengths;
 ghost use Rattle.run_checkpoint.specs.UnevenDecoding as uneven;
 ghost use Rattle.run_checkpoint.specs.Unfilled.{HasWords, HasPlanes, HasReplicas};
@@ -24,7 +25,7 @@ pub(crate) fn fill_contents(
 )
     requires size { size ≤ 64 }
     requires some { 1 ≤ count }
-    requires few { count ≤ 32 }
+    requires few { count ≤ most_slots }
     requires count { length slots.old ≡ count }
     requires rooms { All (HasReplicas size) slots.old }
     requires pairs { length pairs.old ≡ count - 1 }
@@ -39,7 +40,7 @@ pub(crate) fn fill_contents(
 #[tactic(auto, unfolding(crate::specs::Reading::slots_in))]
 fn fill_slots(slots: &mut Items<Duo>, size: u32, count: u32, bytes: &[u8])
     requires size { size ≤ 64 }
-    requires few { count ≤ 32 }
+    requires few { count ≤ most_slots }
     requires count { length slots.old ≡ count }
     requires rooms { All (HasReplicas size) slots.old }
     requires len { lengths.slot_len size * count ≤ length bytes.now }
@@ -56,7 +57,7 @@ fn fill_slots(slots: &mut Items<Duo>, size: u32, count: u32, bytes: &[u8])
 fn fill_pairs(pairs: &mut Items<PairWheels>, size: u32, count: u32, bytes: &[u8])
     requires size { size ≤ 64 }
     requires some { 1 ≤ count }
-    requires few { count ≤ 32 }
+    requires few { count ≤ most_slots }
     requires count { length pairs.old ≡ count - 1 }
     requires len { lengths.slot_len size * count + 488 * (count - 1) ≤ length bytes.now }
     ensures { pairs.new ≡ pairs_in size count bytes.now }
@@ -158,7 +159,7 @@ fn generator_of(bytes: &[u8]) -> Wheel
 // The positions of the slots.
 #[tactic(auto, unfolding(crate::specs::UnevenDecoding::places_in))]
 pub(crate) fn fill_places(places: &mut Items<Place>, count: usize, bytes: &[u8])
-    requires few { count ≤ 32 }
+    requires few { count ≤ most_slots }
     requires count { length places.old ≡ count }
     requires len { 9 * count ≤ length bytes.now }
     ensures { places.new ≡ uneven.places_in count bytes.now }

@@ -1,6 +1,7 @@
 //! The tests of positions, orders and records.
 
 ghost use Rattle.std.specs.Prelude.{◌≡◌, ◌*◌, ◌<◌, ◌≤◌, min, max, length, map, IfNone};
+ghost use Rattle.spin_model.specs.Limits.{most_slots};
 ghost use Rattle.plane_sweep.specs.Uneven.{position_of};
 ghost use Rattle.run_checkpoint.specs.UnevenDecoding as model;
 ghost use Rattle.spin_model.specs.Words.{one_if};
@@ -15,7 +16,7 @@ use spin_model::LAST_EPOCH;
 // The first slot with a wrong place, in the bytes of the positions.
 #[tactic(auto, unfolding(crate::specs::UnevenDecoding::wrong_place))]
 pub(crate) fn wrong_place(bytes: &[u8], slots: usize) -> Option<CheckpointRefused>
-    requires slots { slots ≤ 32 }
+    requires slots { slots ≤ most_slots }
     requires len { 9 * slots ≤ length bytes.now }
     ensures value { result ≡ model.wrong_place slots bytes.now }
     ensures right { IfNone result (model.HasRightPlaces slots bytes.now) }
@@ -30,7 +31,7 @@ pub(crate) fn wrong_place(bytes: &[u8], slots: usize) -> Option<CheckpointRefuse
 
 #[tactic(auto, unfolding(crate::specs::UnevenDecoding::wrong_place_at))]
 fn wrong_place_at(bytes: &[u8], slots: usize, slot: usize) -> Option<CheckpointRefused>
-    requires slots { slots ≤ 32 }
+    requires slots { slots ≤ most_slots }
     requires len { 9 * slots ≤ length bytes.now }
     requires slot { slot < slots }
     ensures { result ≡ model.wrong_place_at slots (model.epoch_in bytes.now) (model.phase_in bytes.now) slot }
@@ -43,7 +44,7 @@ fn wrong_place_at(bytes: &[u8], slots: usize, slot: usize) -> Option<CheckpointR
 
 #[tactic(auto, unfolding(crate::specs::UnevenDecoding::is_wrong_place))]
 fn is_wrong_place(bytes: &[u8], slots: usize, slot: usize) -> bool
-    requires slots { slots ≤ 32 }
+    requires slots { slots ≤ most_slots }
     requires len { 9 * slots ≤ length bytes.now }
     requires slot { slot < slots }
     ensures { result ≡ model.is_wrong_place slots (model.epoch_in bytes.now) (model.phase_in bytes.now) slot }
@@ -68,7 +69,7 @@ fn is_wrong_place(bytes: &[u8], slots: usize, slot: usize) -> bool
 
 // How many of the epochs below one are turns of the pair; no epoch is too great.
 fn turns(pair: usize, epoch: u64) -> u64
-    requires { pair ≤ 32 }
+    requires { pair ≤ most_slots }
     ensures { result ≡ turns pair epoch }
 {
     epoch / 2 + (epoch % 2 + (pair as u64 + 1) % 2) / 2
@@ -102,7 +103,7 @@ pub(crate) fn other_count(
     count: u32,
 ) -> Option<CheckpointRefused>
     requires some { 1 ≤ slots }
-    requires slots { slots ≤ 32 }
+    requires slots { slots ≤ most_slots }
     requires len { 9 * slots ≤ length bytes.now }
     requires right { model.HasRightPlaces slots bytes.now }
     requires some_samples { 1 ≤ samples }
@@ -123,7 +124,7 @@ pub(crate) fn other_count(
 // are slots, however great their epochs are.
 fn pending_count(bytes: &[u8], slots: usize, samples: usize, every: u64) -> u64
     requires some { 1 ≤ slots }
-    requires slots { slots ≤ 32 }
+    requires slots { slots ≤ most_slots }
     requires len { 9 * slots ≤ length bytes.now }
     requires right { model.HasRightPlaces slots bytes.now }
     requires some_samples { 1 ≤ samples }
@@ -150,7 +151,7 @@ fn is_pending(
     cell: usize,
 ) -> bool
     requires some { 1 ≤ slots }
-    requires slots { slots ≤ 32 }
+    requires slots { slots ≤ most_slots }
     requires len { 9 * slots ≤ length bytes.now }
     requires right { model.HasRightPlaces slots bytes.now }
     requires some_samples { 1 ≤ samples }
@@ -166,7 +167,7 @@ fn is_pending(
 // The least number of epochs that a slot has completed.
 fn least_done(bytes: &[u8], slots: usize) -> u64
     requires some { 1 ≤ slots }
-    requires slots { slots ≤ 32 }
+    requires slots { slots ≤ most_slots }
     requires len { 9 * slots ≤ length bytes.now }
     requires right { model.HasRightPlaces slots bytes.now }
     ensures { result ≡ floor_of (map position_of (model.places_in slots bytes.now)) }
@@ -181,7 +182,7 @@ fn least_done(bytes: &[u8], slots: usize) -> u64
 // The greatest number of epochs that a slot has completed.
 pub(crate) fn greatest_done(bytes: &[u8], slots: usize) -> u64
     requires some { 1 ≤ slots }
-    requires slots { slots ≤ 32 }
+    requires slots { slots ≤ most_slots }
     requires len { 9 * slots ≤ length bytes.now }
     requires right { model.HasRightPlaces slots bytes.now }
     ensures { result ≡ deepest_of (map position_of (model.places_in slots bytes.now)) }
@@ -195,7 +196,7 @@ pub(crate) fn greatest_done(bytes: &[u8], slots: usize) -> u64
 
 // How many epochs a slot has completed.
 fn done_at(bytes: &[u8], slots: usize, slot: usize) -> u64
-    requires slots { slots ≤ 32 }
+    requires slots { slots ≤ most_slots }
     requires len { 9 * slots ≤ length bytes.now }
     requires right { model.HasRightPlaces slots bytes.now }
     requires slot { slot < slots }

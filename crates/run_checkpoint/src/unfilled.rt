@@ -1,6 +1,7 @@
 //! The memory of a state that is to be read, taken before any of it is filled.
 
 ghost use Rattle.std.specs.Prelude.{◌≡◌, ◌-◌, ◌*◌, ◌≤◌, All, length, IfOk};
+ghost use Rattle.spin_model.specs.Limits.{most_slots};
 ghost use Rattle.run_checkpoint.specs.Unfilled.{HasWords, HasPlanes, HasReplicas, HasRoom};
 
 use glass_edges::NoMemory;
@@ -19,7 +20,7 @@ pub(crate) fn unfilled_stand(
 ) -> Result<Stand, NoMemory>
     requires size { size ≤ 64 }
     requires some { 1 ≤ count }
-    requires few { count ≤ 32 }
+    requires few { count ≤ most_slots }
     ensures epoch { IfOk result (λ stand. stand.epoch ≡ epoch) }
     ensures room { IfOk result (HasRoom size count) }
 {
@@ -33,7 +34,7 @@ pub(crate) fn unfilled_stand(
 // So many slots.
 pub(crate) fn unfilled_slots(alloc: Global, size: u32, count: u32) -> Result<Items<Duo>, NoMemory>
     requires size { size ≤ 64 }
-    requires few { count ≤ 32 }
+    requires few { count ≤ most_slots }
     ensures count { IfOk result (λ slots. length slots ≡ count) }
     ensures slots { IfOk result (All (HasReplicas size)) }
 {
@@ -111,7 +112,7 @@ pub(crate) fn unfilled_ragged(
 ) -> Result<RaggedStand, NoMemory>
     requires size { size ≤ 64 }
     requires some { 1 ≤ count }
-    requires few { count ≤ 32 }
+    requires few { count ≤ most_slots }
     ensures places { IfOk result (λ ragged. length ragged.places ≡ count) }
     ensures count { IfOk result (λ ragged. length ragged.slots ≡ count) }
     ensures slots { IfOk result (λ ragged. All (HasReplicas size) ragged.slots) }

@@ -2,7 +2,7 @@
 use Rattle.std.specs.Prelude.{◌≡◌, ℕ, ◌+◌, ◌*◌, ◌/◌, ◌%◌, ◌<◌, ◌≤◌, ◌⊎◌, Bool, false, ◌&&◌, ◌||◌, nat_le, nat_lt, ◌==◌, if◌then◌else◌, List, [], ◌∷◌, ◌++◌, length, map, take, drop, flat_map, slice_index, Option, Some, None}
 use Rattle.std.specs.List.{AllByRecursion, list_all}
 use Rattle.spin_model.specs.Lattice.{is_lawful_size}
-use Rattle.spin_model.specs.Limits.{last_epoch, most_samples}
+use Rattle.spin_model.specs.Limits.{last_epoch, most_samples, most_slots}
 use Rattle.sample_average.specs.declared.header.Header.{Header}
 use Rattle.sample_average.specs.declared.row.Row.{Row}
 use Rattle.sample_average.specs.declared.place.Place.{Place}
@@ -95,5 +95,5 @@ may_end h place = false
 
 -- every number of the header is lawful
 abbrev pub is_lawful : Header → Bool
-is_lawful h = is_lawful_size h.size && nat_le 1 h.slots && nat_le h.slots 32 && nat_le 1 h.samples && nat_le h.samples most_samples
+is_lawful h = is_lawful_size h.size && nat_le 1 h.slots && nat_le h.slots most_slots && nat_le 1 h.samples && nat_le h.samples most_samples
     && nat_le h.from h.to && nat_le h.to last_epoch

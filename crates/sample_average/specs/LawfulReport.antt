@@ -2,7 +2,7 @@
 use Rattle.std.specs.Prelude.{◌≡◌, ℕ, ◌+◌, ◌*◌, ◌/◌, ◌%◌, ◌<◌, ◌≤◌, ◌⊎◌, unsigned_abs, Bool, true, ◌&&◌, ◌||◌, nat_le, ◌==◌, if◌then◌else◌, List, [], ◌∷◌, ◌++◌, length, map, take, flat_map, codes, decimal}
 use Rattle.std.specs.Fmt.{signed_decimal}
 use Rattle.std.specs.List.{AllByRecursion, list_all, concat}
-use Rattle.spin_model.specs.Limits.{last_epoch, most_samples}
+use Rattle.spin_model.specs.Limits.{last_epoch, most_samples, most_slots}
 use Rattle.sample_average.specs.declared.header.Header.{Header}
 use Rattle.sample_average.specs.declared.header.Rule.{Rule}
 use Rattle.sample_average.specs.declared.header.Rule.TheVariants as rules_of
@@ -23,7 +23,7 @@ pub record IsLawfulHeader (h : Header) : Type 0 where
   pub least : 4 ≤ h.size
   pub most : h.size ≤ 64
   pub some_slots : 1 ≤ h.slots
-  pub few_slots : h.slots ≤ 32
+  pub few_slots : h.slots ≤ most_slots
   pub some_samples : 1 ≤ h.samples
   pub few_samples : h.samples ≤ most_samples
   pub rising : h.from ≤ h.to

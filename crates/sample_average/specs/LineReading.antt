@@ -3,7 +3,7 @@ use Rattle.std.specs.Prelude.{ℕ, ◌+◌, ◌*◌, ◌-◌, ℤ, pos, neg_ℤ,
 use Rattle.std.specs.Char.{is_ascii_digit}
 use Rattle.std.specs.List.{prefix_len}
 use Rattle.glass_edges.specs.Decimal.{value_of}
-use Rattle.spin_model.specs.Limits.{last_epoch, most_samples}
+use Rattle.spin_model.specs.Limits.{last_epoch, most_samples, most_slots}
 use Rattle.sample_average.specs.LawfulReport.{sites}
 use Rattle.sample_average.specs.declared.header.Header.{Header}
 use Rattle.sample_average.specs.declared.header.Rule.{Rule}
@@ -54,7 +54,7 @@ counts_at bytes = do
   b0 ← after (codes "glass 1 size=") bytes
   size ← number_at 64 32 b0
   b1 ← after (codes "slots=") size.1
-  slots ← number_at 32 32 b1
+  slots ← number_at most_slots 32 b1
   b2 ← after (codes "samples=") slots.1
   samples ← number_at most_samples 32 b2
   Some ((size.0, slots.0, samples.0), samples.1)

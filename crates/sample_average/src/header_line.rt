@@ -5,7 +5,7 @@ ghost use Rattle.sample_average.specs.LineReading as reading;
 
 use crate::digits::{after, number_at};
 use crate::header::{Header, Rule};
-use spin_model::{LAST_EPOCH, MOST_SAMPLES};
+use spin_model::{LAST_EPOCH, MOST_SAMPLES, MOST_SLOTS};
 
 // The word of the dynamics.
 fn rule_at(bytes: &[u8]) -> Option<(Rule, &[u8])>
@@ -24,7 +24,7 @@ fn counts_at(bytes: &[u8]) -> Option<((u32, u32, u32), &[u8])>
     ensures { option_map (λ x. (x.0, x.1.now)) result ≡ reading.counts_at bytes.now }
 {
     let (size, rest) = number_at(64, b' ', after(b"glass 1 size=", bytes)?)?;
-    let (slots, rest) = number_at(32, b' ', after(b"slots=", rest)?)?;
+    let (slots, rest) = number_at(MOST_SLOTS as u64, b' ', after(b"slots=", rest)?)?;
     let (samples, rest) = number_at(MOST_SAMPLES as u64, b' ', after(b"samples=", rest)?)?;
     Some(((size as u32, slots as u32, samples as u32), rest))
 }

@@ -11,7 +11,7 @@ use crate::header_line::header_at;
 use crate::next_line::next_line;
 use crate::place::Place;
 use crate::row::Row;
-use spin_model::{LAST_EPOCH, MOST_SAMPLES, is_lawful_size};
+use spin_model::{LAST_EPOCH, MOST_SAMPLES, MOST_SLOTS, is_lawful_size};
 
 /// The header of a report and the number of its rows.
 #[derive(Clone, Copy, Debug, PartialEq, Eq)]
@@ -26,7 +26,7 @@ fn is_lawful(header: &Header) -> bool
 {
     is_lawful_size(header.size as u64)
         && header.slots >= 1
-        && header.slots <= 32
+        && header.slots <= MOST_SLOTS
         && header.samples >= 1
         && header.samples <= MOST_SAMPLES
         && header.from <= header.to

@@ -2,6 +2,7 @@
 
 ghost use Rattle.std.specs.Prelude.{◌≡◌, ◌+◌, ◌*◌, ◌<◌, ◌≤◌, true, false, Some, length, if◌then◌else◌, ◌==◌, IfOk, OnErr, IfErr};
 ghost use Rattle.std.specs.Arc.{arc_value};
+ghost use Rattle.spin_model.specs.Limits.{most_slots};
 ghost use Rattle.exchange_board.specs.Views.{place_at, progress, words_of};
 ghost use Rattle.turn_cell.specs.Sums.{times, without};
 ghost use Rattle.turn_cell.specs.AtomicSteps.{with_refused, after_refusal, after_return, IsLawfulStore, IsStored};
@@ -16,7 +17,7 @@ use turn_cell::Tried;
 
 // The other slot of a pair.
 fn mate_of(slot: u32, pair: u32) -> u32
-    requires { slot < 32 }
+    requires { slot < most_slots }
     ensures { result ≡ (if pair == slot then slot + 1 else pair) }
 {
     if pair == slot { slot + 1 } else { pair }

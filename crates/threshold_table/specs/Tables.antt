@@ -3,7 +3,7 @@
 use Rattle.std.specs.Prelude.{ℕ, ◌-◌, ◌≤◌, ◌++◌, Bool, ◌&&◌, ◌==◌, nat_le, List, [], length, take, drop, replicate, slice_index, slice_index_or, Result}
 use Rattle.std.specs.List.{All, list_all}
 use Rattle.glass_edges.specs.Refusals.{unless}
-use Rattle.spin_model.specs.Limits.{certain}
+use Rattle.spin_model.specs.Limits.{certain, most_slots}
 use Rattle.spin_model.specs.SiteRule.{Rule, HeatBath, Metropolis}
 use Rattle.threshold_table.specs.declared.bounds.Bounds.{Bounds}
 use Rattle.threshold_table.specs.declared.refused.TableRefused.{TableRefused}
@@ -65,12 +65,12 @@ rule_width kind = record { least = cases_of kind; most = cases_of kind }
 
 -- and there are 1 to 32 records
 abbrev pub rule_height : Bounds
-rule_height = record { least = 1; most = 32 }
+rule_height = record { least = 1; most = most_slots }
 
 -- a rule table has 1 to 32 slots
 pub record IsLawfulRules (table : RuleView) : Type 0 where
   pub some : 1 ≤ length table.rows
-  pub few : length table.rows ≤ 32
+  pub few : length table.rows ≤ most_slots
   pub rows : All (IsLawfulRow (rule_width table.kind)) table.rows
 
 -- whether seven values are the thresholds of a slot with zeros after them

@@ -1,6 +1,7 @@
 //! The two readers of tables.
 
 ghost use Rattle.std.specs.Prelude.{◌≤◌};
+ghost use Rattle.spin_model.specs.Limits.{most_slots};
 ghost use Rattle.glass_edges.specs.Refusals.{Gives};
 ghost use Rattle.threshold_table.specs.Tables.{rule_table, swap_table};
 
@@ -9,6 +10,7 @@ use crate::refused::TableRefused;
 use crate::rows::read_rows;
 use crate::rule_table::{RuleKind, RuleTable, width_of};
 use crate::swap_table::SwapTable;
+use spin_model::MOST_SLOTS;
 use std::alloc::Global;
 
 /// Reads a rule table: 1 to 32 records, slot 0 first, each of 7 numbers for heat bath or 3 for
@@ -21,7 +23,7 @@ use std::alloc::Global;
 pub fn read_rule(alloc: Global, bytes: &[u8], kind: RuleKind) -> Result<RuleTable, TableRefused>
     ensures { Gives TableRefused.NoMemory (λ t. t) result (rule_table kind bytes.now) }
 {
-    let height = Bounds { least: 1, most: 32 };
+    let height = Bounds { least: 1, most: MOST_SLOTS as usize };
     let rows = read_rows(alloc, bytes, width_of(kind), height)?;
     let table = RuleTable::of_lists(alloc, kind, rows.as_slice())?;
     Ok(table)
@@ -36,7 +38,7 @@ pub fn read_rule(alloc: Global, bytes: &[u8], kind: RuleKind) -> Result<RuleTabl
 #[tactic(auto, unfolding(crate::specs::Tables::swap_table))]
 pub fn read_swap(alloc: Global, bytes: &[u8], slots: u32) -> Result<SwapTable, TableRefused>
     requires some { 1 ≤ slots }
-    requires few { slots ≤ 32 }
+    requires few { slots ≤ most_slots }
     ensures { Gives TableRefused.NoMemory (λ t. t) result (swap_table slots bytes.now) }
 {
     let pairs = (slots - 1) as usize;

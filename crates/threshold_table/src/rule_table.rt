@@ -2,6 +2,7 @@
 
 ghost use Rattle.std.specs.Prelude.{◌≡◌, ℕ, ◌<◌, ◌≤◌, IsTrue, IfOk, length, map, slice_index};
 ghost use Rattle.std.specs.List.{list_all};
+ghost use Rattle.spin_model.specs.Limits.{most_slots};
 ghost use Rattle.threshold_table.specs.Tables.{padded, rule_width, thresholds_in, thresholds_of, threshold_of, is_lawful_row, IsLawfulRow, IsLawfulRules};
 
 use crate::bounds::Bounds;
@@ -63,7 +64,7 @@ impl RuleTable {
     /// Only where memory runs out.
     pub fn from_rows(alloc: Global, kind: RuleKind, rows: &[RuleRow]) -> Result<RuleTable, NoMemory>
         requires some { 1 ≤ length rows.now }
-        requires few { length rows.now ≤ 32 }
+        requires few { length rows.now ≤ most_slots }
         requires lawful { IsTrue (list_all (is_lawful_row kind) rows.now) }
         ensures { IfOk result (λ t.
             t ≡ record { kind = kind; rows = map (thresholds_in kind) rows.now }) }
