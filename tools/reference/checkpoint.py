@@ -115,5 +115,9 @@ def encoding_len(l, n):
     return 56 + contents_len(l, n) + 32
 
 
+longest_encoding = encoding_len(64, 32)
+longest_checkpoint = 44 + 4 * longest_encoding
+
+
 def uneven_len(l, n, count):
     return 64 + position_len * n + contents_len(l, n) + record_len * count + 32

@@ -6,7 +6,7 @@ use Rattle.glass_edges.specs.Contents.{Files, HoldsFile, LacksFile, HoldsAtLeast
 use Rattle.glass_edges.specs.declared.shelf.Fetched.{Fetched}
 use Rattle.glass_edges.specs.declared.shelf.Fetched.TheVariants as answer
 use Rattle.sample_average.specs.Averages.{AveragesView}
-use Rattle.sample_average.specs.ReadReport.{averages_in}
+use Rattle.sample_average.specs.ReadReport.{averages_in, most_report_bytes}
 use Rattle.sample_average.specs.declared.refused.ReportRefused.{ReportRefused}
 use Rattle.glass_main.specs.CommandLine.{AverageOrder, Average}
 use Rattle.glass_main.specs.Endings.{IsOfAverages, TellsLength}
@@ -96,12 +96,12 @@ ends-unread order held holds o same failed later = record {
 
 pub record FetchesReport (order : AverageOrder) (result : Result (List ℕ) Ending) (held holds : Store) : Type 0 where
   pub found : IfOk result (λ bytes. IfSome (option_map (bytes_at roles.Report order.report) held.holds) (λ asked. asked ≡ Ok bytes))
-  pub limit : IfOk result (λ bytes. length bytes ≤ 67108864)
+  pub limit : IfOk result (λ bytes. length bytes ≤ most_report_bytes)
   pub passed : OnOk result (holds.faults ≡ held.faults)
   pub stopped : IfErr result (λ ending. (o : Output) → Ends (Some (Average order)) ending held holds o o)
 
 pub fetches-report : (order : AverageOrder) (held holds : Option Files) (before now : ℕ) (lengths later_lengths : List ℕ → ℕ → Option ℕ) (limit : ℕ) (fetched : Fetched) (result : Result (List ℕ) Ending)
-    → result ≡ gathered roles.Report fetched → limit ≡ 67108864
+    → result ≡ gathered roles.Report fetched → limit ≡ most_report_bytes
     → ((v : Vec ℕ Global) → fetched ≡ answer.Held v → HoldsFile held order.report v.items)
     → ((v : Vec ℕ Global) → fetched ≡ answer.Held v → length v.items ≤ limit)
     → (fetched ≡ answer.Absent → LacksFile held order.report)
@@ -113,7 +113,7 @@ pub fetches-report : (order : AverageOrder) (held holds : Option Files) (before 
     → before ≤ now → holds ≡ held
     → FetchesReport order result (record { holds = held; faults = before; lengths = lengths }) (record { holds = holds; faults = now; lengths = later_lengths })
 fetches-report order held holds before now lengths later_lengths limit (answer.Held v) result is most found within absent above long length_told failed quiet later same =
-    let few : length v.items ≤ 67108864 = omega (arith, most, within v refl) in
+    let few : length v.items ≤ most_report_bytes = omega (arith, most, within v refl) in
     rw is (record {
       found = bytes-found roles.Report held order.report v.items (found v refl) few;
       limit = few;
@@ -127,7 +127,7 @@ fetches-report order held holds before now lengths later_lengths limit answer.Ab
   stopped = λ (o : Output). ends-refused order (Absent roles.Report) _ _ o refl (bytes-refused order held (Absent roles.Report) (bytes-absent roles.Report held order.report (absent refl))) tt same (quiet (λ e. search rules));
 })
 fetches-report order held holds before now lengths later_lengths limit (answer.TooLong n) result is most found within absent above long length_told failed quiet later same =
-    let past : 67108864 < n = omega (arith, most, above n refl) in
+    let past : most_report_bytes < n = omega (arith, most, above n refl) in
     rw is (record {
       found = tt;
       limit = tt;

@@ -20,12 +20,13 @@ use Rattle.run_plan.specs.declared.run_file.CouplingSource.{CouplingSource}
 use Rattle.run_plan.specs.declared.run_file.CouplingSource.TheVariants as sources
 use Rattle.run_plan.specs.PlanOf.{plan_with}
 use Rattle.run_checkpoint.specs.Decoding.{decoded}
+use Rattle.run_checkpoint.specs.Lengths.{longest_checkpoint}
 use Rattle.run_checkpoint.specs.declared.refused.CheckpointRefused.{CheckpointRefused}
 use Rattle.plane_sweep.specs.declared.stand.Stand.{Stand}
 use Rattle.scalar_rule.specs.Plan.{Plan}
 use Rattle.scalar_rule.specs.declared.sample.Sample.{Sample}
 use Rattle.sample_average.specs.Averages.{AveragesView, averages_text}
-use Rattle.sample_average.specs.ReadReport.{averages_in}
+use Rattle.sample_average.specs.ReadReport.{averages_in, most_report_bytes}
 use Rattle.glass_main.specs.RunWords.{RunOrder}
 use Rattle.glass_main.specs.CommandLine.{PlainOrder, AverageOrder, LinesOrder, Command, Plain, Check, Run, Average, Demo, Lines, Potts, Age, command_of}
 use Rattle.glass_main.specs.PottsRun.{potts_report}
@@ -93,8 +94,8 @@ limit_of roles.RunFile = 1048576
 limit_of roles.RuleTable = 65536
 limit_of roles.SwapTable = 4194304
 limit_of roles.Couplings = 25165872
-limit_of roles.Checkpoint = 544943596
-limit_of roles.Report = 67108864
+limit_of roles.Checkpoint = longest_checkpoint
+limit_of roles.Report = most_report_bytes
 
 -- the bytes of a file, unless the name isn't held or they are too many
 abbrev pub bytes_in : Role → Option (List ℕ) → Result (List ℕ) Refusal

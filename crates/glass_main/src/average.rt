@@ -1,6 +1,7 @@
 //! The command `average`: a report is read, and its sums by slot and block of samples are printed.
 
 ghost use Rattle.std.specs.Prelude.{◌≡◌, ◌≤◌, ◌<◌, length, option_map, Some, IfOk, IfErr, IfSome, OnOk};
+ghost use Rattle.sample_average.specs.ReadReport.{most_report_bytes};
 ghost use Rattle.glass_main.specs.CommandLine as commands;
 ghost use Rattle.glass_main.specs.Outside as outside;
 ghost use Rattle.glass_main.specs.Outside.{output, store};
@@ -72,7 +73,7 @@ fn gather_report<H: Shelf>(
 ) -> Result<Items<u8>, Ending>
     ensures found { IfOk result (λ bytes. IfSome
         (option_map (bytes_at Role.Report order.now.report.now) (H.holds shelf.old)) (λ asked. asked ≡ Ok bytes)) }
-    ensures limit { IfOk result (λ bytes. length bytes ≤ 67108864) }
+    ensures limit { IfOk result (λ bytes. length bytes ≤ most_report_bytes) }
     ensures passed { OnOk result (H.faults shelf.new ≡ H.faults shelf.old) }
     ensures stopped { IfErr result (λ ending. (o : outside.Output)
         → Ends (Some (commands.Average (read_average_order order.now))) ending

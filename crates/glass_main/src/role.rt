@@ -4,6 +4,9 @@ ghost use Rattle.std.specs.Prelude.{◌≡◌, ◌≤◌, length};
 ghost use Rattle.glass_main.specs.Lines.{role_name};
 ghost use Rattle.glass_main.specs.Request.{limit_of};
 
+use run_checkpoint::LONGEST_CHECKPOINT;
+use sample_average::MOST_REPORT_BYTES;
+
 /// What a file is read as.
 #[derive(Clone, Copy, Debug, PartialEq, Eq)]
 pub enum Role {
@@ -41,8 +44,8 @@ impl Role {
             Role::RuleTable => 65536,
             Role::SwapTable => 4194304,
             Role::Couplings => 25165872,
-            Role::Checkpoint => 544943596,
-            Role::Report => 67108864,
+            Role::Checkpoint => LONGEST_CHECKPOINT,
+            Role::Report => MOST_REPORT_BYTES,
         }
     }
 }

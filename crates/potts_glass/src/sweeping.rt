@@ -14,9 +14,10 @@ use coupling_set::Couplings;
 use lattice_geometry::Lattice;
 use plain_list::Items;
 use pr_generator::Wheel;
+use spin_model::GREATEST_HALF_PLANE;
 
 /// The most draws of a plane: two for each of its sites of one class.
-const DRAWS: usize = 4096;
+const DRAWS: usize = 2 * GREATEST_HALF_PLANE;
 
 /// What all sites of a half sweep share: where they stand, their bonds, the thresholds of their
 /// update, and the class that is swept.

@@ -27,6 +27,14 @@ contents_len l n = slot_len l * n + pair_len * (n - 1)
 unfoldable pub encoding_len : ℕ → ℕ → ℕ
 encoding_len l n = 56 + contents_len l n + 32
 
+-- the longest of them: at side 64 with 32 slots
+abbrev pub longest_encoding : ℕ
+longest_encoding = 136235888
+
+-- the longest checkpoint, of four banks: four times that, with 12 bytes before and a digest of 32 behind
+abbrev pub longest_checkpoint : ℕ
+longest_checkpoint = 544943596
+
 -- a position and a record
 abbrev pub position_len : ℕ
 position_len = 9

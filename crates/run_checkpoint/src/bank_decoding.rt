@@ -7,7 +7,7 @@ ghost use Rattle.glass_edges.specs.Refusals.{GivesAfterTests};
 ghost use Rattle.run_checkpoint.specs.BankDecoding as model;
 ghost use Rattle.run_checkpoint.specs.BankEncoding.{bank_len, banks_encoding, HaveOneShape, AreBanks, BanksStand};
 ghost use Rattle.run_checkpoint.specs.declared.refused.CheckpointRefused.TheVariants as refused;
-ghost use Rattle.run_checkpoint.specs.Lengths.{encoding_len};
+ghost use Rattle.run_checkpoint.specs.Lengths.{encoding_len, longest_encoding};
 ghost use Rattle.run_checkpoint.specs.Unfilled.{HasRoom};
 ghost use Rattle.scalar_rule.specs.Plan.{slots_of, IsLawfulPlan};
 ghost use Rattle.scalar_rule.specs.declared.sample.Sample.{Sample};
@@ -86,7 +86,7 @@ fn read_banks(
 fn bank_len(plan: &Plan) -> u64
     ensures value { result ≡ encoding_len plan.now.size (slots_of plan.now) }
     ensures least { 88 ≤ result }
-    ensures bound { result ≤ 136235888 }
+    ensures bound { result ≤ longest_encoding }
 {
     length(plan.lattice().size(), plan.slots())
 }
@@ -103,7 +103,7 @@ fn banks_refusal(
     requires few { length plans.now ≤ 4 }
     requires len { len ≡ bank_len (map arc_value plans.now) }
     requires least { 88 ≤ len }
-    requires bound { len ≤ 136235888 }
+    requires bound { len ≤ longest_encoding }
     ensures value { result ≡ model.banks_refusal (map arc_value plans.now) until bytes.now }
     ensures long { IfNone result (length bytes.now ≡ 44 + len * length plans.now) }
     ensures each { IfNone result (None ≡ model.banks_refused len until (map arc_value plans.now) (drop 12 bytes.now)) }
@@ -123,7 +123,7 @@ fn banks_refusal(
 fn banks_form(plans: &[Arc<Plan, Global>], len: usize, bytes: &[u8]) -> Option<CheckpointRefused>
     requires few { length plans.now ≤ 4 }
     requires len { len ≡ bank_len (map arc_value plans.now) }
-    requires bound { len ≤ 136235888 }
+    requires bound { len ≤ longest_encoding }
     ensures value { result ≡ model.banks_form (map arc_value plans.now) bytes.now }
     ensures long { IfNone result (length bytes.now ≡ 44 + len * length plans.now) }
 {
@@ -164,7 +164,7 @@ fn banks_refused(
     bytes: &[u8],
 ) -> Option<CheckpointRefused>
     requires few { length plans.now ≤ 4 }
-    requires bound { len ≤ 136235888 }
+    requires bound { len ≤ longest_encoding }
     requires long { len * length plans.now ≤ length bytes.now }
     ensures { result ≡ model.banks_refused len until (map arc_value plans.now) bytes.now }
 {
@@ -182,7 +182,7 @@ fn epochs_refused(count: usize, len: usize, bytes: &[u8]) -> Option<CheckpointRe
     requires some { 1 ≤ count }
     requires few { count ≤ 4 }
     requires header { 48 ≤ len }
-    requires bound { len ≤ 136235888 }
+    requires bound { len ≤ longest_encoding }
     requires long { len * count ≤ length bytes.now }
     ensures { result ≡ model.epochs_refused len (model.first_epoch len bytes.now) 0 count bytes.now }
 {
@@ -210,7 +210,7 @@ fn stands_of(
 ) -> Result<Vec<Stand>, NoMemory>
     requires some { 1 ≤ length plans.now }
     requires few { length plans.now ≤ 4 }
-    requires bound { len ≤ 136235888 }
+    requires bound { len ≤ longest_encoding }
     requires long { len * length plans.now ≤ length bytes.now }
     requires shape { HaveOneShape (map arc_value plans.now) }
     requires len { len ≡ bank_len (map arc_value plans.now) }

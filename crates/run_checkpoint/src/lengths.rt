@@ -5,6 +5,9 @@ ghost use Rattle.spin_model.specs.Limits.{most_slots};
 ghost use Rattle.spin_model.specs.Lattice.{IsLawfulSize};
 ghost use Rattle.run_checkpoint.specs.Lengths as lengths;
 
+/// The most bytes of a checkpoint: one of four banks of the most slots on the greatest lattice.
+pub const LONGEST_CHECKPOINT: u64 = 544943596;
+
 /// The number of bytes of a checkpoint of so many slots on the lattice of this size.
 #[tactic(auto, unfolding(crate::specs::Lengths::encoding_len))]
 pub fn length(size: u32, slots: u32) -> u64
@@ -13,7 +16,7 @@ pub fn length(size: u32, slots: u32) -> u64
     requires few { slots ≤ most_slots }
     ensures value { result ≡ lengths.encoding_len size slots }
     ensures least { 88 ≤ result }
-    ensures bound { result ≤ 136235888 }
+    ensures bound { result ≤ lengths.longest_encoding }
 {
     56 + contents_len(size, slots) + 32
 }

@@ -24,7 +24,7 @@ pub use bank_encoding::{begin_banks, end_banks};
 pub use decoding::decode;
 pub use encoding::{encode, encode_level};
 pub use laws::{banks_encoding_is_one, encoding_is_one, uneven_encoding_is_one};
-pub use lengths::{length, length_ragged};
+pub use lengths::{LONGEST_CHECKPOINT, length, length_ragged};
 pub use refused::CheckpointRefused;
 pub use room::Room;
 pub use uneven_decoding::decode_any;

@@ -5,6 +5,7 @@ ghost use Rattle.byteorder.specs.Endian.{big_bytes};
 ghost use Rattle.sha2.specs.Sha256.{sha256};
 ghost use Rattle.spin_model.specs.Limits.{greatest_half_plane};
 ghost use Rattle.spin_model.specs.Words.{words_32, words_64};
+ghost use Rattle.run_checkpoint.specs.Lengths.{longest_checkpoint};
 ghost use Rattle.run_checkpoint.specs.Rooms.{Puts};
 ghost use Rattle.run_checkpoint.specs.UnevenEncoding.{signed_bytes};
 
@@ -36,13 +37,13 @@ impl Model for Room {
 }
 
 impl Room {
-    /// An empty buffer for so many bytes, at most 544943596, the length of the greatest checkpoint.
+    /// An empty buffer for so many bytes, at most `LONGEST_CHECKPOINT`.
     ///
     /// # Errors
     ///
     /// Refuses only for want of memory.
     pub fn reserve(alloc: Global, len: u64) -> Result<Room, NoMemory>
-        requires { len ≤ 544943596 }
+        requires { len ≤ longest_checkpoint }
         ensures empty { IfOk result (λ room. room.bytes ≡ []) }
         ensures spare { IfOk result (λ room. len ≤ room.spare) }
     {

@@ -12,6 +12,10 @@ use Rattle.sample_average.specs.LineReading.{header_at}
 use Rattle.sample_average.specs.Following.{line_at, may_end, is_lawful, row_then}
 use Rattle.sample_average.specs.Averages.{AveragesView, IsRefusal}
 
+-- the most bytes of a report that is read: it has fewer rows than bytes, and no sum over so many rows wraps
+abbrev pub most_report_bytes : ℕ
+most_report_bytes = 67108864
+
 -- ---- line by line
 
 -- what comes of a line that may stand here, or where none may

@@ -7,6 +7,7 @@ use Rattle.sample_average.specs.declared.sums.Sums.{Sums}
 use Rattle.sample_average.specs.declared.averages.Averages.TheInside.{Inside}
 use Rattle.sample_average.specs.LawfulReport.{IsInRange, IsLawfulHeader}
 use Rattle.sample_average.specs.Averages.{energy_of, square_of, fourth_of, sums_of, block_of, AveragesView}
+use Rattle.sample_average.specs.ReadReport.{most_report_bytes}
 
 -- with one row more
 abbrev pub sums_after : Sums → Row → Sums
@@ -47,7 +48,7 @@ pub record KeepsAverages (a : Inside) : Type 0 where
   pub lawful : IsLawfulHeader a.header
   pub some : 0 < a.blocks
   pub few : a.blocks ≤ a.header.samples
-  pub short : length a.rows ≤ 67108864
+  pub short : length a.rows ≤ most_report_bytes
   pub fit : AllByRecursion (IsRowOfReport a.header) a.rows
   pub slots : length a.totals ≡ a.header.slots
   pub cells : length a.parts ≡ a.header.slots * a.blocks

@@ -22,7 +22,7 @@ mod text;
 pub use averages::Averages;
 pub use header::{Header, Rule};
 pub use laws::averages_are_of_the_report;
-pub use reading::read_report;
+pub use reading::{MOST_REPORT_BYTES, read_report};
 pub use refused::ReportRefused;
 pub use row::Row;
 pub use sums::Sums;

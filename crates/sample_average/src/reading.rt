@@ -4,7 +4,7 @@ ghost use Rattle.std.specs.Prelude.{◌≡◌, ◌*◌, ◌<◌, ◌≤◌, List
 ghost use Rattle.glass_edges.specs.Refusals.{Gives};
 ghost use Rattle.sample_average.specs.Averages.{IsRefusal};
 ghost use Rattle.sample_average.specs.LawfulReport.{IsLawfulHeader, IsReading};
-ghost use Rattle.sample_average.specs.ReadReport.{averages_in};
+ghost use Rattle.sample_average.specs.ReadReport.{averages_in, most_report_bytes};
 ghost use Rattle.sample_average.specs.Tallies.{Tallies};
 ghost use Rattle.sample_average.specs.declared.row.Row.{Row as RowValue};
 
@@ -18,7 +18,10 @@ use crate::tally::tally;
 use plain_list::Items;
 use std::alloc::Global;
 
-/// Reads a report of at most 67108864 bytes and takes its sums, in this many blocks of its samples.
+/// The most bytes of a report that is read.
+pub const MOST_REPORT_BYTES: u64 = 67108864;
+
+/// Reads a report of at most `MOST_REPORT_BYTES` bytes and takes its sums, in this many blocks of its samples.
 /// All memory is taken here, and only after the report is tested.
 ///
 /// # Errors
@@ -28,7 +31,7 @@ use std::alloc::Global;
 /// lawful and has samples enough.
 #[tactic(auto, using(crate::proofs::ReadReports::gives_averages))]
 pub fn read_report(alloc: Global, bytes: &[u8], blocks: u32) -> Result<Averages, ReportRefused>
-    requires limit { length bytes.now ≤ 67108864 }
+    requires limit { length bytes.now ≤ most_report_bytes }
     requires some { 0 < blocks }
     ensures found { IfOk result (λ a. IsReading bytes.now a.header a.rows) }
     ensures blocks { IfOk result (λ a. a.blocks ≡ blocks) }
@@ -103,7 +106,7 @@ fn tallied(
     requires lawful { IsLawfulHeader header.now }
     requires some { 0 < count }
     requires few { count ≤ header.now.samples }
-    requires short { length rows.now ≤ 67108864 }
+    requires short { length rows.now ≤ most_report_bytes }
     ensures told { IfOk result (λ table. Tallies header.now.samples count table rows.now) }
     ensures sized { IfOk result (λ table. length table ≡ header.now.slots * count) }
     ensures refused { IfErr result (IsRefusal bytes.now blocks) }

@@ -3,6 +3,7 @@
 ghost use Rattle.std.specs.Prelude.{◌≡◌, ◌+◌, ◌*◌, ◌≤◌, unsigned_abs, []};
 ghost use Rattle.sample_average.specs.Averages as sums;
 ghost use Rattle.sample_average.specs.Averages.{sums_of};
+ghost use Rattle.sample_average.specs.ReadReport.{most_report_bytes};
 ghost use Rattle.sample_average.specs.Tallies.{sums_after, sums_without, AreSmall};
 
 use crate::row::Row;
@@ -35,7 +36,7 @@ impl Sums {
 
     /// The sums with one row more.
     pub(crate) fn with(self, row: &Row) -> Sums
-        requires small { AreSmall 67108864 self }
+        requires small { AreSmall most_report_bytes self }
         requires first { unsigned_abs row.now.first_energy ≤ 786432 }
         requires second { unsigned_abs row.now.second_energy ≤ 786432 }
         requires overlap { unsigned_abs row.now.overlap ≤ 262144 }
@@ -55,8 +56,8 @@ impl Sums {
         requires rows { part.rows ≤ self.rows }
         requires squares { part.squares ≤ self.squares }
         requires fourths { part.fourths ≤ self.fourths }
-        requires energy { AreSmall 67108864 self }
-        requires its_energy { AreSmall 67108864 part }
+        requires energy { AreSmall most_report_bytes self }
+        requires its_energy { AreSmall most_report_bytes part }
         ensures { result ≡ sums_without self part }
     {
         Sums {

@@ -3,6 +3,7 @@
 ghost use Rattle.std.specs.Prelude.{◌≡◌, ◌+◌, ◌*◌, ◌<◌, ◌≤◌, length};
 ghost use Rattle.std.specs.List.{AllByRecursion};
 ghost use Rattle.sample_average.specs.LawfulReport.{IsLawfulHeader};
+ghost use Rattle.sample_average.specs.ReadReport.{most_report_bytes};
 ghost use Rattle.sample_average.specs.Tallies.{cell_of, IsRowOfReport, Tallies, AllNone};
 
 use crate::header::Header;
@@ -27,7 +28,7 @@ pub(crate) fn tally(header: &Header, blocks: u32, rows: &[Row], table: &mut [Sum
     requires some { 0 < blocks }
     requires few { blocks ≤ header.now.samples }
     requires rows { AllByRecursion (IsRowOfReport header.now) rows.now }
-    requires short { length rows.now ≤ 67108864 }
+    requires short { length rows.now ≤ most_report_bytes }
     requires sized { length table.old ≡ header.now.slots * blocks }
     requires empty { AllNone table.old }
     ensures sized { length table.new ≡ length table.old }

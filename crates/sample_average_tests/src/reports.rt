@@ -1,7 +1,7 @@
 //! Small reports, and what is read and printed of them.
 
 use glass_edges::{MemorySink, NoMemory};
-use sample_average::{Averages, ReportRefused, read_report, write_averages};
+use sample_average::{Averages, MOST_REPORT_BYTES, ReportRefused, read_report, write_averages};
 use std::alloc::{AllocError, Global};
 use std::fmt::Debug;
 use std::process::Abort;
@@ -43,7 +43,7 @@ pub fn read(
     blocks: u32,
 ) -> Result<Averages, ReportRefused> {
     let text = joined(alloc, header, rest)?;
-    if text.len() > 67108864 || blocks == 0 {
+    if text.len() as u64 > MOST_REPORT_BYTES || blocks == 0 {
         return Err(ReportRefused::NoMemory);
     }
     read_report(alloc, text.as_bytes(), blocks)

@@ -23,7 +23,10 @@ use std::alloc::Global;
 pub fn read_rule(alloc: Global, bytes: &[u8], kind: RuleKind) -> Result<RuleTable, TableRefused>
     ensures { Gives TableRefused.NoMemory (λ t. t) result (rule_table kind bytes.now) }
 {
-    let height = Bounds { least: 1, most: MOST_SLOTS as usize };
+    let height = Bounds {
+        least: 1,
+        most: MOST_SLOTS as usize,
+    };
     let rows = read_rows(alloc, bytes, width_of(kind), height)?;
     let table = RuleTable::of_lists(alloc, kind, rows.as_slice())?;
     Ok(table)
