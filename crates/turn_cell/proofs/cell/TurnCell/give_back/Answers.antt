@@ -13,4 +13,5 @@ store-requires g c =
     let slots = c.args.self.now.table.shared.table_id.slots in
     let some_slot : 0 < slots = omega (arith, c.args.self.now.sized.1) in
     let had = own.carries ∙ ap carried c.requires.held in
-    (e.0 ∙ own.same, c.args.self.now.sized.0, gives_back g.V.Kept.origin g.V.Kept.marks slots seat.id seat.me me.0 me.1 c.args.value some_slot e.3 had own.stands c.requires.held (c.requires.base, c.requires.words))
+    -- the first side is named, since it would be found with the seat's value written out
+    (◌∙◌ {a = seat.table_id} e.0 own.same, c.args.self.now.sized.0, gives_back g.V.Kept.origin g.V.Kept.marks slots seat.id seat.me me.0 me.1 c.args.value some_slot e.3 had own.stands c.requires.held (c.requires.base, c.requires.words))
