@@ -180,5 +180,6 @@ returns-clause-counted g c = λ b h.
     let sites = c.args.sites.now in
     let l = sites.couplings.now.size in
     let end : 2 * c.pairs.i ≡ l = omega arith in
-    let all = ap (λ n. plane_count sites.couplings.now c.args.other.now sites.colour sites.z c.pairs.own b (n * (l / 2))) end in
-    c.pairs.invariant.counted b h ∙ ap (λ n. tallied c.args.counts.now b + n) all
+    let Counted : ℕ → Type 0 = λ n.
+    tallied c.pairs.counts b ≡ tallied c.args.counts.now b + plane_count sites.couplings.now c.args.other.now sites.colour sites.z c.pairs.own b (n * (l / 2)) in
+    subst Counted end (c.pairs.invariant.counted b h)

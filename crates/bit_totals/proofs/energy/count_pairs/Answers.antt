@@ -119,7 +119,9 @@ pairs-preserved g c =
 
 pub returns : goal.returns
 returns g c = λ b h.
-    let couplings = c.args.plane.now.couplings.now in
-    let end : 2 * c.pairs.i ≡ couplings.size = omega arith in
-    let all = ap (λ n. plane_count couplings c.args.plane.now.other.now c.args.plane.now.colour c.args.plane.now.z c.args.plane.now.own.now b (n * (couplings.size / 2))) end in
-    c.pairs.invariant.counted b h ∙ ap (λ n. tallied c.args.counts.now b + n) all
+    let plane = c.args.plane.now in
+    let l = plane.couplings.now.size in
+    let end : 2 * c.pairs.i ≡ l = omega arith in
+    let Counted : ℕ → Type 0 = λ n.
+    tallied c.pairs.counts b ≡ tallied c.args.counts.now b + plane_count plane.couplings.now plane.other.now plane.colour plane.z plane.own.now b (n * (l / 2)) in
+    subst Counted end (c.pairs.invariant.counted b h)
