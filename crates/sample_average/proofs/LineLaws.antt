@@ -218,7 +218,8 @@ counts-takes bytes x is =
     let t1 = number-takes 64 32 n0.0 n1.0 n1.1 in
     let t3 = number-takes 32 32 n2.0 n3.0 n3.1 in
     let t5 = number-takes 256 32 n4.0 n5.0 n5.1 in
-    subst (AreCounts bytes) (same_Some _ x n5.2) (record {
+    let read : (ℕ × ℕ × ℕ) × List ℕ = ((n1.0.0, n3.0.0, n5.0.0), n5.0.1) in
+    subst (AreCounts bytes) {x = read} (same_Some read x n5.2) (record {
       text = six-joined bytes n0.0 n1.0.1 n2.0 n3.0.1 n4.0 (codes "glass 1 size=") (decimal n1.0.0) (codes "slots=") (decimal n3.0.0) (codes "samples=") (decimal n5.0.0) (32 ∷ n5.0.1)
           (after-takes (codes "glass 1 size=") bytes n0.0 n0.1) t1.0 (after-takes (codes "slots=") n1.0.1 n2.0 n2.1) t3.0 (after-takes (codes "samples=") n3.0.1 n4.0 n4.1) t5.0;
       size = t1.1;
@@ -242,7 +243,8 @@ span-takes bytes x is =
     let n5 = bind-some (number_at 1000000000 10 n4.0) _ x n4.2 in
     let t3 = number-takes 1000000000 32 n2.0 n3.0 n3.1 in
     let t5 = number-takes 1000000000 10 n4.0 n5.0 n5.1 in
-    subst (IsSpan bytes) (same_Some _ x n5.2) (record {
+    let read : (Rule × ℕ × ℕ) × List ℕ = ((n1.0.0, n3.0.0, n5.0.0), n5.0.1) in
+    subst (IsSpan bytes) {x = read} (same_Some read x n5.2) (record {
       text = six-joined bytes n0.0 n1.0.1 n2.0 n3.0.1 n4.0 (codes "rule=") (rule_text n1.0.0) (codes "from=") (decimal n3.0.0) (codes "to=") (decimal n5.0.0) (10 ∷ n5.0.1)
           (after-takes (codes "rule=") bytes n0.0 n0.1) (rule-takes n0.0 n1.0 n1.1) (after-takes (codes "from=") n1.0.1 n2.0 n2.1) t3.0 (after-takes (codes "to=") n3.0.1 n4.0 n4.1) t5.0;
       to = t5.1;
