@@ -14,7 +14,8 @@ words-preserved c =
     let long = words-long c.args.board.now.places in
     let word = c.progress.ensures.value ∙ sym (word-at c.args.board.now.places c.words.slot) in
     record {
-      words = c.in_ok-push.ensures.items ∙ (ap₂ (λ (l : List ℕ) (n : ℕ). l ++ n ∷ []) c.words.invariant.words word ∙ sym (take_more (words_of c.args.board.now) c.words.slot 0 (omega arith)));
+      -- the type is named, since it would be found with the calls' values written out
+      words = ◌∙◌ {A = List ℕ} c.in_ok-push.ensures.items (ap₂ (λ (l : List ℕ) (n : ℕ). l ++ n ∷ []) c.words.invariant.words word ∙ sym (take_more (words_of c.args.board.now) c.words.slot 0 (omega arith)));
       phased = λ t h. elim (cases_lt t c.words.slot) [
         | inl before ↦ c.words.invariant.phased t before
         | inr last ↦ let same : c.words.slot ≡ t = omega arith in subst (λ k. phases c.args.board.now.places k < 3) same c.progress.ensures.phase
