@@ -1,7 +1,7 @@
 use Rattle.std.specs.Arc.{arc_value}
 use Rattle.std.specs.Prelude.{All, vec_len}
 use Rattle.std.specs.Vec.Iter.{into_iter_items}
-use Rattle.std.proofs.Common.{rules, arith, ◌≡◌, ◌<◌, ap, ap₂, sym, subst, ◌∙◌, length, length-append, get_or, [], ◌∷◌, ◌++◌, append_assoc, append-nil}
+use Rattle.std.proofs.Common.{rules, arith, ◌≡◌, ◌<◌, ap, ap₂, sym, subst, ◌∙◌, List, length, length-append, get_or, [], ◌∷◌, ◌++◌, append_assoc, append-nil}
 use Rattle.std.proofs.lemmas.List.{length-map}
 use Rattle.std.proofs.lemmas.List.Elements.{All-push}
 use Rattle.glass_engine.specs.BankRuns.{runs_of}
@@ -11,11 +11,39 @@ use Rattle.glass_engine.proofs.BankDrives.{plan-within, plan-at, runs-push}
 use Rattle.glass_engine.proofs.bank_driving.drive_each.Goals as goal
 use Rattle.glass_engine.proofs.bank_driving.drive_each.Goals.{After-len-bank}
 
+-- ---- of lists that are given by name, since they would be found with the values of all calls written out
+
+-- the runs that were driven, the one at hand and the rest are all runs
+next-steps : (yielded before rest first all : List RunView) (x : RunView) → before ≡ x ∷ rest → yielded ++ before ≡ first → first ≡ all
+    → yielded ++ x ∷ rest ≡ all
+next-steps yielded before rest first all x is so_far from = ap (λ xs. yielded ++ xs) (sym is) ∙ so_far ∙ from
+
+more-steps : (yielded before rest first : List RunView) (x : RunView) → before ≡ x ∷ rest → yielded ++ before ≡ first
+    → (yielded ++ x ∷ []) ++ rest ≡ first
+more-steps yielded before rest first x is so_far = append_assoc yielded (x ∷ []) rest ∙ ap (λ xs. yielded ++ xs) (sym is) ∙ so_far
+
+more-driven : (ds more : List DoneView) (d : DoneView) (yielded : List RunView) (x : RunView) → more ≡ ds ++ d ∷ [] → runs_of ds ≡ yielded
+    → d.run ≡ x → runs_of more ≡ yielded ++ x ∷ []
+more-driven ds more d yielded x is so_far own = ap runs_of is ∙ runs-push ds d ∙ ap₂ (λ rs (r : RunView). rs ++ r ∷ []) so_far own
+
+more-ended : (ds more : List DoneView) (d : DoneView) (x : RunView) → more ≡ ds ++ d ∷ [] → All (λ (e : DoneView). IsEnd e.run e.ended) ds
+    → d.run ≡ x → IsEnd x d.ended → All (λ (e : DoneView). IsEnd e.run e.ended) more
+more-ended ds more d x is so_far own end =
+    subst (λ es. All (λ (e : DoneView). IsEnd e.run e.ended) es) (sym is)
+    (All-push (λ (e : DoneView). IsEnd e.run e.ended) ds d so_far (subst (λ (r : RunView). IsEnd r d.ended) (sym own) end))
+
+-- all runs were driven where none is left
+all-driven : (ds : List DoneView) (yielded left first all : List RunView) → runs_of ds ≡ yielded → left ≡ [] → yielded ++ left ≡ first → first ≡ all
+    → runs_of ds ≡ all
+all-driven ds yielded left first all driven none so_far from = driven ∙ sym (append-nil yielded) ∙ ap (λ xs. yielded ++ xs) (sym none) ∙ so_far ∙ from
+
+-- ---- the loop
+
 -- the run at hand is behind those that were driven, and before the rest
 behind : (g : _) (c : After-len-bank g) → c.banks.yielded ++ c.in-Some.opened ∷ into_iter_items c.next.new.self ≡ c.args.runs.items
 behind g c =
-    let steps : into_iter_items c.banks.opened-iterator ≡ c.in-Some.opened ∷ into_iter_items c.next.new.self = c.in-Some.ensures.steps.0 in
-    ap (λ xs. c.banks.yielded ++ xs) (sym steps) ∙ c.banks.invariant.steps ∙ c.into_iter-opened-iterator.ensures.into_iter_gives.0
+    next-steps c.banks.yielded (into_iter_items c.banks.opened-iterator) (into_iter_items c.next.new.self) (into_iter_items c.into_iter-opened-iterator.result) c.args.runs.items c.in-Some.opened
+    c.in-Some.ensures.steps.0 c.banks.invariant.steps c.into_iter-opened-iterator.ensures.into_iter_gives.0
 
 -- as many were driven as came before it
 number : (g : _) (c : After-len-bank g) → c.len-bank.result ≡ length c.banks.yielded
@@ -52,12 +80,10 @@ banks-preserved g c =
     let rest = into_iter_items c.next.new.self in
     let steps : into_iter_items at.opened-iterator ≡ x ∷ rest = c.in-Some.ensures.steps.0 in
     record {
-      steps = append_assoc at.yielded (x ∷ []) rest ∙ ap (λ xs. at.yielded ++ xs) (sym steps) ∙ at.invariant.steps;
+      steps = more-steps at.yielded (into_iter_items at.opened-iterator) rest (into_iter_items c.into_iter-opened-iterator.result) x steps at.invariant.steps;
       left = let short = ap length steps in let was = at.invariant.left in let gone = c.in-Some.ensures.steps.1 in omega arith;
-      driven = ap runs_of c.put.ensures.items ∙ runs-push at.driven.items c.drive-done.result ∙ ap₂ (λ rs (r : RunView). rs ++ r ∷ []) at.invariant.driven c.drive-done.ensures.run;
-      ended = subst (λ ds. All (λ (d : DoneView). IsEnd d.run d.ended) ds) (sym c.put.ensures.items)
-          (All-push (λ (d : DoneView). IsEnd d.run d.ended) at.driven.items c.drive-done.result at.invariant.ended
-          (subst (λ (r : RunView). IsEnd r c.drive-done.result.ended) (sym c.drive-done.ensures.run) c.drive-done.ensures.ended));
+      driven = more-driven at.driven.items c.put.new.driven.items c.drive-done.result at.yielded x c.put.ensures.items at.invariant.driven c.drive-done.ensures.run;
+      ended = more-ended at.driven.items c.put.new.driven.items c.drive-done.result x c.put.ensures.items at.invariant.ended c.drive-done.ensures.run c.drive-done.ensures.ended;
       room = omega (arith, at.invariant.room, c.put.ensures.room);
     }
 
@@ -65,5 +91,6 @@ pub returns-clause-runs : goal.returns-clause-runs
 returns-clause-runs g c =
     let at = c.banks in
     let none = c.in-None.ensures.steps in
-    let empty : into_iter_items at.opened-iterator ≡ [] = nothing-left _ (sym at.invariant.left ∙ none.0) in
-    at.invariant.driven ∙ sym (append-nil at.yielded) ∙ ap (λ xs. at.yielded ++ xs) (sym empty) ∙ at.invariant.steps ∙ c.into_iter-opened-iterator.ensures.into_iter_gives.0
+    let empty : into_iter_items at.opened-iterator ≡ [] = nothing-left (into_iter_items at.opened-iterator) (sym at.invariant.left ∙ none.0) in
+    all-driven at.driven.items at.yielded (into_iter_items at.opened-iterator) (into_iter_items c.into_iter-opened-iterator.result) c.args.runs.items
+    at.invariant.driven empty at.invariant.steps c.into_iter-opened-iterator.ensures.into_iter_gives.0

@@ -56,7 +56,10 @@ pub samples-preserved : goal.samples-preserved
 samples-preserved g c =
     let at = (goal.at.samples-preserved g c).After-stand-stand in
     record {
-      text = put-more _ _ _ _ _ _ c.samples.invariant.text (c.in_ok-write_sample_spins.ensures.whole ∙ ap (appended _) (own g at)) (joined-more _ _ c.samples.b);
+      -- what is put is named, since it would be found with the bank's values written out
+      text = put-more _ _ _ _ _ _ c.samples.invariant.text
+          (◌∙◌ {b = appended _ (sample_spins c.args.plan.now c.samples.b (uneven_part c.args.plan.now.size (c.samples.b % 64) c.stand-stand.result.now).slots)} c.in_ok-write_sample_spins.ensures.whole (ap (appended _) (own g at)))
+          (joined-more _ _ c.samples.b);
       passed = c.in_ok-write_sample_spins.ensures.cause.passed ∙ c.samples.invariant.passed;
     }
 

@@ -29,7 +29,10 @@ slots-preserved g c =
     let below : c.slots.slot < length c.args.stand.now.slots = omega (arith, c.slots-test.true, c.slots-slot-end.ensures.value, c.requires.count) in
     let read = spins-read _ _ c.args.sample (c.args.sample % 64) c.slots.slot c.args.stand.now c.at.result.now c.lattice.ensures.value below c.at.ensures in
     record {
-      text = put-more _ _ _ _ _ _ c.slots.invariant.text (c.in_ok-write_slot_spins.ensures.whole ∙ ap (appended _) read) (joined-more _ _ c.slots.slot);
+      -- what is put is named, since it would be found with the lattice's values written out
+      text = put-more _ _ _ _ _ _ c.slots.invariant.text
+          (◌∙◌ {b = appended _ (slot_spins _ c.args.sample c.slots.slot (part_slot _ (c.args.sample % 64) c.at.result.now))} c.in_ok-write_slot_spins.ensures.whole (ap (appended _) read))
+          (joined-more _ _ c.slots.slot);
       passed = c.in_ok-write_slot_spins.ensures.cause.passed ∙ c.slots.invariant.passed;
     }
 

@@ -4,7 +4,9 @@ use Rattle.glass_edges.specs.Contents.{appended, AppendsPrefix}
 use Rattle.glass_edges.proofs.Puts.{OnErr_of}
 use Rattle.report_text.specs.Lines.{slot_line}
 use Rattle.glass_engine.specs.RecordPieces.{piece}
-use Rattle.glass_engine.specs.Summary.{both_energies}
+use Rattle.glass_engine.specs.Summary.{both_energies, slot_sums}
+use Rattle.plane_sweep.specs.Uneven.{uneven_part}
+use Rattle.scalar_rule.specs.Plan.{slots_of}
 use Rattle.spin_model.proofs.Joined.{joined-zero, joined-more, joined-at}
 use Rattle.spin_model.specs.SignedSums.{sum_of}
 use Rattle.glass_edges.proofs.Putting.{put-none, put-more, put-failed}
@@ -25,7 +27,10 @@ slots-preserved g c =
     let fits : SFits w64 c.slot_energy-energy.result = search rules in
     let read = ap₂ (slot_line c.slots.slot) (to_z-of_z w64 c.slot_energy-energy.result fits ∙ c.slot_energy-energy.ensures ∙ wide) (c.away_count-away.ensures ∙ away) in
     record {
-      text = put-more _ _ _ _ _ _ c.slots.invariant.text (c.in_ok-slot_line.ensures.whole ∙ ap (appended _) read) (joined-more _ _ c.slots.slot);
+      -- what is put and what each slot adds are named, since they would be found with the run's values written out
+      text = put-more _ _ _ _ _ _ c.slots.invariant.text
+          (◌∙◌ {b = appended _ (slot_line c.slots.slot _ c.away_count-away.result)} c.in_ok-slot_line.ensures.whole (ap (appended _) read))
+          (joined-more (slot_sums (λ b. piece c.args.records.now (slots_of c.args.plan.now) b) (λ b. (uneven_part c.args.plan.now.size b c.args.stand.now).slots)) _ c.slots.slot);
       passed = c.in_ok-slot_line.ensures.cause.passed ∙ c.slots.invariant.passed;
     }
 
