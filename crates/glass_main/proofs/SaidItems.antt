@@ -100,7 +100,8 @@ name-word word words said later more rests is h =
     let a = rest.adds in
     record {
       items = Named word ∷ rest.items;
-      written = ap (λ ws. word ∷ ws) written;
+      -- the words of the rest are named, since they would be found with how the rest was split written out
+      written = ap (λ ws. word ∷ ws) {y = flat_map words_of rest.items} written;
       adds = record { run = (word, first.0, named, a.run); workers = a.workers; pieces = a.pieces; until = a.until; from = a.from; save = a.save; stop_after = a.stop_after };
     }
 

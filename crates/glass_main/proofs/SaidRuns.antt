@@ -143,6 +143,10 @@ other : {A : Type 0} (make : A → Command) (asked : Option A) (command : Option
 other make None command order apart is h = none-some (Run order) (sym is ∙ h)
 other make (Some x) command order apart is h = none-some order (sym (apart x) ∙ ap run_in (sym is ∙ h))
 
+-- a run's order is that of its command
+same-run : (asked : Option RunOrder) (found order : RunOrder) → asked ≡ Some found → Run found ≡ Run order → asked ≡ Some order
+same-run asked found order is same = is ∙ ap (λ (c : Command). run_in (Some c)) same
+
 run-command : (words : List (List ℕ)) (order : RunOrder) → command_of words ≡ Some (Run order) → (word_at words 0 ≡ codes "run") × (run_order words ≡ Some order)
 unfolding command_of
 run-command words order h =
@@ -152,7 +156,7 @@ run-command words order h =
     by-test (bytes_eq name (codes "run")) (λ t.
     let is : command_of words ≡ option_map Run (run_order words) = rw (a, b, t) refl in
     let read = map-some Run (run_order words) (Run order) (sym is ∙ h) in
-    ((bytes_eq-Decides name (codes "run")).0 t, read.1 ∙ ap (λ (c : Command). run_in (Some c)) read.2)) (λ c.
+    ((bytes_eq-Decides name (codes "run")).0 t, same-run (run_order words) read.0 order read.1 read.2)) (λ c.
     by-test (bytes_eq name (codes "average")) (λ t. absurd (other Average (average_order words) (command_of words) order (λ x. refl) (rw (a, b, c, t) refl) h)) (λ d.
     by-test (bytes_eq name (codes "demo")) (λ t. absurd (other Demo (demo_number words) (command_of words) order (λ x. refl) (rw (a, b, c, d, t) refl) h)) (λ e.
     by-test (bytes_eq name (codes "lines")) (λ t. absurd (other Lines (lines_order words) (command_of words) order (λ x. refl) (rw (a, b, c, d, e, t) refl) h)) (λ f.

@@ -28,7 +28,7 @@ banks-preserved c =
     let F : Plan → Type 0 = λ p. StandFits p stand in
     let own = subst S c.deref.ensures c.in_ok-opening_bank.ensures.opening in
     let fits = subst F c.deref.ensures c.in_ok-opening_bank.ensures.fits in
-    let pushed = sym c.in_ok-push.ensures.items in
+    let pushed = sym {A = List Stand} c.in_ok-push.ensures.items in
     let O : List Stand → Type 0 = λ xs. BanksStand (take (g + 1) (map arc_value plans)) (openings_from 0 (take (g + 1) (map arc_value plans)) start) xs in
     let T : List Stand → Type 0 = λ xs. BanksFit 0 (take (g + 1) (map arc_value plans)) xs in
     record {

@@ -6,6 +6,10 @@ use Rattle.glass_main.specs.Request.{bonds_in}
 use Rattle.glass_main.proofs.BankPlans.{AreFirst, first-none, first-more}
 use Rattle.glass_main.proofs.bank_tables.plans_of.Goals as goal
 
+-- the plan that was pushed is the last of the plans
+with-pushed : {X : Type 0} (f : X → Plan) (xs more : List X) (x : X) → more ≡ xs ++ x ∷ [] → map f xs ++ f x ∷ [] ≡ map f more
+with-pushed f xs more x is = sym (map-append f xs (x ∷ [])) ∙ ap (map f) (sym is)
+
 pub banks-init : goal.banks-init
 banks-init c =
     let file = c.args.file.now in
@@ -20,5 +24,5 @@ banks-preserved c =
     let F : List Plan → Type 0 = λ ps. AreFirst file c.args.rules.now.rules c.args.swaps.now.swaps given (c.banks.bank + 1) ps in
     let x = c.in_ok-bank_plan.field-0 in
     let pushed : map arc_value c.banks.plans.items ++ arc_value x ∷ [] ≡ map arc_value c.push.new.self.items =
-    sym (map-append arc_value c.banks.plans.items (x ∷ [])) ∙ ap (map arc_value) (sym c.in_ok-push.ensures.items) in
+    with-pushed arc_value c.banks.plans.items c.push.new.self.items x c.in_ok-push.ensures.items in
     subst F pushed (first-more file c.args.rules.now.rules c.args.swaps.now.swaps given c.banks.bank (map arc_value c.banks.plans.items) (arc_value x) c.banks.invariant c.in_ok-bank_plan.ensures)
