@@ -4,22 +4,28 @@ use Rattle.scalar_rule.specs.declared.sample.Sample.{Sample}
 use Rattle.glass_main.proofs.BankRuns.{stand-epoch, banks-accepted}
 use Rattle.glass_main.proofs.BankStands.{parts-stand}
 use Rattle.glass_main.proofs.RunEndings.{has-begun, ends-unbegun, ends-unopened, ends-finished}
+use Rattle.glass_main.specs.KeptPlans.{banks_view}
 use Rattle.glass_main.specs.ManyBanks.{PlannedBanks, banks_amount_refusal, starts_at, stands_at}
 use Rattle.glass_main.specs.Opened.{IsUnopened}
 use Rattle.glass_main.specs.Outside.{output, store}
 use Rattle.glass_main.specs.ReadCommand.{read_run_order}
 use Rattle.glass_main.specs.Request.{BanksWork, banks_beginning_at, banks_work, until_of}
 use Rattle.glass_main.specs.Resumes.{Begins}
+use Rattle.glass_main.specs.RunWords.{RunOrder}
 use Rattle.glass_main.specs.Statuses.{Wrote}
 use Rattle.glass_main.specs.declared.plans.Plans.TheVariants.{Banks}
 use Rattle.glass_main.proofs.bank_run.run_banks.Goals as goal
+
+-- the epoch at which a run ends, by the orders of its plans; all values are given, since the order would be found written out
+until-by : (order : RunOrder) (kept planned : PlannedBanks) (until : ℕ) → until ≡ until_of order kept.orders → kept ≡ planned → until ≡ until_of order planned.orders
+until-by order kept planned until told is = told ∙ ap (λ (p : PlannedBanks). until_of order p.orders) is
 
 pub returns-in-Err : goal.returns-in-Err
 returns-in-Err g c =
     let order = read_run_order c.args.asked.order in
     let planned = c.args.asked.planned in
     let e = until_of order planned.orders in
-    let same : c.until_of-until.result ≡ e = c.until_of-until.ensures.value ∙ ap (λ (p : PlannedBanks). until_of order p.orders) c.planned.view_is in
+    let same : c.until_of-until.result ≡ e = until-by order (banks_view c.planned.inside) planned c.until_of-until.result c.until_of-until.ensures.value c.planned.view_is in
     let B : ℕ → Type 0 = λ e. Begins order.from (BanksStand planned.plans) (option_map (banks_beginning_at order.from planned e) (g.H.Shelf.holds c.args.shelf.now)) (Err c.in-Err.ending) (store g.H.Shelf.holds g.H.Shelf.faults g.H.Shelf.lengths c.args.shelf.now) (store g.H.Shelf.holds g.H.Shelf.faults g.H.Shelf.lengths c.gather_stands.new.shelf) in
     ends-unbegun order (Banks planned) (banks_beginning_at order.from planned e) (banks_work planned e) (λ files. refl) (BanksStand planned.plans) c.in-Err.ending _ _ _
     c.requires.planned (subst B same c.in-Err.ensures.asked)
@@ -30,7 +36,7 @@ returns-in-Err-open_run g c =
     let planned = c.args.asked.planned in
     let stands = c.in-Ok.stands in
     let e = until_of order planned.orders in
-    let same : c.until_of-until.result ≡ e = c.until_of-until.ensures.value ∙ ap (λ (p : PlannedBanks). until_of order p.orders) c.planned.view_is in
+    let same : c.until_of-until.result ≡ e = until-by order (banks_view c.planned.inside) planned c.until_of-until.result c.until_of-until.ensures.value c.planned.view_is in
     let r = c.in-Ok.ensures.resumable in
     let B : ℕ → Type 0 = λ e. Begins order.from (BanksStand planned.plans) (option_map (banks_beginning_at order.from planned e) (g.H.Shelf.holds c.args.shelf.now)) (Ok stands) (store g.H.Shelf.holds g.H.Shelf.faults g.H.Shelf.lengths c.args.shelf.now) (store g.H.Shelf.holds g.H.Shelf.faults g.H.Shelf.lengths c.gather_stands.new.shelf) in
     let begun = has-begun order (Banks planned) (banks_beginning_at order.from planned e) (banks_work planned e) (λ files. refl) (BanksStand planned.plans) stands _ _ c.requires.planned (subst B same c.in-Ok.ensures.asked) in
@@ -47,7 +53,7 @@ returns g c =
     let stands = c.in-Ok.stands in
     let until = c.until_of-until.result in
     let e = until_of order planned.orders in
-    let same : c.until_of-until.result ≡ e = c.until_of-until.ensures.value ∙ ap (λ (p : PlannedBanks). until_of order p.orders) c.planned.view_is in
+    let same : c.until_of-until.result ≡ e = until-by order (banks_view c.planned.inside) planned c.until_of-until.result c.until_of-until.ensures.value c.planned.view_is in
     let opened = c.in-Ok-open_run.opened in
     let B : ℕ → Type 0 = λ e. Begins order.from (BanksStand planned.plans) (option_map (banks_beginning_at order.from planned e) (g.H.Shelf.holds c.args.shelf.now)) (Ok stands) (store g.H.Shelf.holds g.H.Shelf.faults g.H.Shelf.lengths c.args.shelf.now) (store g.H.Shelf.holds g.H.Shelf.faults g.H.Shelf.lengths c.gather_stands.new.shelf) in
     let begun = has-begun order (Banks planned) (banks_beginning_at order.from planned e) (banks_work planned e) (λ files. refl) (BanksStand planned.plans) stands _ _ c.requires.planned (subst B same c.in-Ok.ensures.asked) in

@@ -1,6 +1,10 @@
-use Rattle.std.proofs.Common.{sym, subst}
+use Rattle.std.proofs.Common.{◌≡◌, ℕ, List, sym, subst}
+use Rattle.glass_edges.specs.Contents.{appended, AppendsPrefix}
 use Rattle.glass_engine.specs.Runs.{RunView}
 use Rattle.glass_main.specs.Opened.{IsRunOf}
+use Rattle.glass_main.specs.Outside.{Output, Store, output, store}
+use Rattle.glass_main.specs.ReadCommand.{name_bytes}
+use Rattle.glass_main.specs.Statuses.{IsGiven}
 use Rattle.glass_main.proofs.OpenedRuns.{run-comes, run-gives}
 use Rattle.glass_main.proofs.finishing.finish_run.Goals as goal
 
@@ -9,15 +13,22 @@ returns-in-Err-clause-wrote g c = λ planned from e is.
     let stop_after = c.args.order.now.stop_after in
     let R : RunView → Type 0 = λ r. IsRunOf stop_after planned from e r in
     let done = subst R (sym c.drive-done.ensures.run) is in
-    run-gives stop_after planned from e c.drive-done.result.ended.stand _ (run-comes stop_after planned from e c.args.opened.run c.drive-done.result.ended is c.drive-done.ensures.ended)
+    let P : List ℕ → List ℕ → Type 0 = λ text bytes. AppendsPrefix (g.O.Sink.taken c.args.out.now) (g.O.Sink.taken c.put_run.new.out) text in
+    run-gives stop_after planned from e c.drive-done.result.ended.stand P (run-comes stop_after planned from e c.args.opened.run c.drive-done.result.ended is c.drive-done.ensures.ended)
     (c.in-Err.ensures.prefix stop_after planned from e done)
 
+-- what is given is named, since it would be found with the store and the output written out
 pub returns-in-Ok-save_run-clause-wrote : goal.returns-in-Ok-save_run-clause-wrote
 returns-in-Ok-save_run-clause-wrote g c = λ planned from e is.
     let stop_after = c.args.order.now.stop_after in
     let R : RunView → Type 0 = λ r. IsRunOf stop_after planned from e r in
     let done = subst R (sym c.drive-done.ensures.run) is in
-    run-gives stop_after planned from e c.drive-done.result.ended.stand _ (run-comes stop_after planned from e c.args.opened.run c.drive-done.result.ended is c.drive-done.ensures.ended)
+    let held : Store = store g.H.Shelf.holds g.H.Shelf.faults g.H.Shelf.lengths c.args.shelf.now in
+    let holds : Store = store g.H.Shelf.holds g.H.Shelf.faults g.H.Shelf.lengths c.save_run.new.shelf in
+    let before : Output = output g.O.Sink.taken g.O.Sink.faults c.args.out.now in
+    let now : Output = output g.O.Sink.taken g.O.Sink.faults c.put_run.new.out in
+    let P : List ℕ → List ℕ → Type 0 = IsGiven (name_bytes c.args.order.now.save) held holds before now in
+    run-gives stop_after planned from e c.drive-done.result.ended.stand P (run-comes stop_after planned from e c.args.opened.run c.drive-done.result.ended is c.drive-done.ensures.ended)
     (c.in-Ok.ensures.whole stop_after planned from e done, c.in-Ok-save_run.ensures.placed planned from e done)
 
 pub returns-clause-ending : goal.returns-clause-ending
@@ -28,5 +39,6 @@ returns-clause-wrote g c = λ planned from e is.
     let stop_after = c.args.order.now.stop_after in
     let R : RunView → Type 0 = λ r. IsRunOf stop_after planned from e r in
     let done = subst R (sym c.drive-done.ensures.run) is in
-    run-gives stop_after planned from e c.drive-done.result.ended.stand _ (run-comes stop_after planned from e c.args.opened.run c.drive-done.result.ended is c.drive-done.ensures.ended)
+    let P : List ℕ → List ℕ → Type 0 = λ text bytes. g.O.Sink.taken c.put_run.new.out ≡ appended (g.O.Sink.taken c.args.out.now) text in
+    run-gives stop_after planned from e c.drive-done.result.ended.stand P (run-comes stop_after planned from e c.args.opened.run c.drive-done.result.ended is c.drive-done.ensures.ended)
     (c.in-Ok.ensures.whole stop_after planned from e done)

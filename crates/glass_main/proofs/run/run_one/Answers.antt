@@ -16,14 +16,16 @@ use Rattle.glass_main.specs.Statuses.{Wrote}
 use Rattle.glass_main.specs.declared.plans.Plans.TheVariants.{One}
 use Rattle.glass_main.proofs.run.run_one.Goals as goal
 
+-- the type of the equation of the epochs is given in each answer, since its right side would be found written out
 pub returns-in-Err : goal.returns-in-Err
 returns-in-Err g c =
     let order = read_run_order c.args.asked.order in
     let planned = c.args.asked.planned in
     let e = until_of order planned.orders in
+    let same : c.until_of-until.result ≡ e = c.until_of-until.ensures.value in
     let B : ℕ → Type 0 = λ e. Begins order.from (IsBaseOf planned.plan) (option_map (beginning_at order.from planned e) (g.H.Shelf.holds c.args.shelf.now)) (Err c.in-Err.ending) (store g.H.Shelf.holds g.H.Shelf.faults g.H.Shelf.lengths c.args.shelf.now) (store g.H.Shelf.holds g.H.Shelf.faults g.H.Shelf.lengths c.gather_base.new.shelf) in
     ends-unbegun order (One planned) (beginning_at order.from planned e) (run_work order.stop_after planned e) (λ files. refl) (IsBaseOf planned.plan) c.in-Err.ending _ _ _
-    c.requires.planned (subst B c.until_of-until.ensures.value c.in-Err.ensures.asked)
+    c.requires.planned (subst B same c.in-Err.ensures.asked)
 
 pub returns-in-Err-open_run : goal.returns-in-Err-open_run
 returns-in-Err-open_run g c =
@@ -31,7 +33,7 @@ returns-in-Err-open_run g c =
     let planned = c.args.asked.planned in
     let base = c.in-Ok.base in
     let e = until_of order planned.orders in
-    let same = c.until_of-until.ensures.value in
+    let same : c.until_of-until.result ≡ e = c.until_of-until.ensures.value in
     let B : ℕ → Type 0 = λ e. Begins order.from (IsBaseOf planned.plan) (option_map (beginning_at order.from planned e) (g.H.Shelf.holds c.args.shelf.now)) (Ok base) (store g.H.Shelf.holds g.H.Shelf.faults g.H.Shelf.lengths c.args.shelf.now) (store g.H.Shelf.holds g.H.Shelf.faults g.H.Shelf.lengths c.gather_base.new.shelf) in
     let begun = has-begun order (One planned) (beginning_at order.from planned e) (run_work order.stop_after planned e) (λ files. refl) (IsBaseOf planned.plan) base _ _ c.requires.planned (subst B same c.in-Ok.ensures.asked) in
     let U : Beginning → ℕ → Type 0 = λ from n. IsUnopened (run_work order.stop_after planned n from) c.in-Err-open_run.ending in
@@ -46,7 +48,7 @@ returns g c =
     let base = c.in-Ok.base in
     let until = c.until_of-until.result in
     let e = until_of order planned.orders in
-    let same = c.until_of-until.ensures.value in
+    let same : c.until_of-until.result ≡ e = c.until_of-until.ensures.value in
     let B : ℕ → Type 0 = λ e. Begins order.from (IsBaseOf planned.plan) (option_map (beginning_at order.from planned e) (g.H.Shelf.holds c.args.shelf.now)) (Ok base) (store g.H.Shelf.holds g.H.Shelf.faults g.H.Shelf.lengths c.args.shelf.now) (store g.H.Shelf.holds g.H.Shelf.faults g.H.Shelf.lengths c.gather_base.new.shelf) in
     let begun = has-begun order (One planned) (beginning_at order.from planned e) (run_work order.stop_after planned e) (λ files. refl) (IsBaseOf planned.plan) base _ _ c.requires.planned (subst B same c.in-Ok.ensures.asked) in
     let A : ℕ → Type 0 = λ e. amount_refusal planned.plan planned.orders (floor_of (positions_of base)) e ≡ None in
