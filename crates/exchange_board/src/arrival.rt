@@ -37,6 +37,22 @@ fn colder(slot: u32, other: u32, is_low: bool) -> u32
     if is_low { slot } else { other }
 }
 
+/// The partner at an epoch of a slot, of so many.
+pub(crate) fn partner_among(slots: u32, slot: u32, epoch: u64) -> Option<u32>
+    requires { slot < slots }
+    ensures some { IfSome result (λ p. (has_partner slots slot epoch ≡ true) × (p ≡ partner slot epoch) × (p < slots)) }
+    ensures none { IfNone result (has_partner slots slot epoch ≡ false) }
+{
+    if !has_partner(slots, slot, epoch) {
+        return None;
+    }
+    if has_turn(slot, epoch) {
+        Some(slot + 1)
+    } else {
+        Some(slot - 1)
+    }
+}
+
 // A slot at rest.
 fn at_rest(share: Arc<Origin, Global>, duo: Duo, epoch: u64) -> Slot
     ensures { result ≡ record { epoch = epoch; home = Some (record { share = share; duo = duo; totals = None }) } }
@@ -151,15 +167,7 @@ impl Board {
         ensures phased { IsPhased self.now.places }
         ensures behind { IsBehind self.now.places slot epoch }
     {
-        let slots = self.slots.len() as u32;
-        if !has_partner(slots, slot, epoch) {
-            return None;
-        }
-        if has_turn(slot, epoch) {
-            Some(slot + 1)
-        } else {
-            Some(slot - 1)
-        }
+        partner_among(self.slots.len() as u32, slot, epoch)
     }
 
     fn alone(&mut self, plan: &Plan, swept: Swept)

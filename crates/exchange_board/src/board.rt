@@ -8,6 +8,7 @@ ghost use Rattle.exchange_board.specs.BoardKeeps.{phase_of};
 ghost use Rattle.exchange_board.specs.Content.{slots_in, row_total, taken_before, KeepsRows};
 ghost use Rattle.exchange_board.specs.Machine.{taken, IsReady, NoneReady, NoneOut, AllEnded, IsPhased, numbers};
 
+use crate::arrival::partner_among;
 use crate::job::Job;
 use crate::origin::Origin;
 use crate::pair::PairJob;
@@ -106,21 +107,20 @@ impl Board {
         self.records.as_slice()
     }
 
-    // Of the slots that may be handed out one of least epoch, of the share's first. With the least epoch first
-    // the others keep partners to meet.
-    fn ready_slot(&self, share: Share) -> Option<u32>
+    // Of the slots that may be handed out one of least rank.
+    fn ready_slot(&self, share: Option<Share>) -> Option<u32>
         ensures some { IfSome result (λ t. (t < length self.now.places) × IsReady self.now.origin.window.until self.now.places t) }
         ensures none { IfNone result (NoneReady self.now.origin.window.until self.now.places) }
         ensures lively { IfNone result (NoneOut self.now.places → AllEnded self.now.origin.window.until self.now.places) }
         ensures phased { IsPhased self.now.places }
     {
         let end = 4 * self.origin.window.until;
-        let mut least = 2 * end;
+        let mut least = 4 * end;
         let mut found = None;
         'slots: for t in 0..self.slots.len() as u32 {
             let number = self.progress(t);
             if number % 4 == 0 && number < end {
-                let rank = if share.has(t) { number } else { end + number };
+                let rank = self.rank(t, number, share);
                 if rank < least {
                     least = rank;
                     found = Some(t);
@@ -128,6 +128,34 @@ impl Board {
             }
         }
         found
+    }
+
+    // How far behind others a slot at rest with this progress number stands. One of least epoch comes first, so
+    // that the others keep partners to meet. For a worker who takes partners and prefers a share, the share's
+    // come before, whose spins that worker had last; and in the share, as outside, those that go with their
+    // partner, since a slot that goes alone is exchanged under the lock, while others wait.
+    fn rank(&self, slot: u32, number: u64, share: Option<Share>) -> u64
+        requires known { slot < length self.now.places }
+        requires few { number ≤ 4 * self.now.origin.window.until }
+        ensures { result ≤ number + 12 * self.now.origin.window.until }
+    {
+        let Some(share) = share else {
+            return number;
+        };
+        let end = 4 * self.origin.window.until;
+        let far = if share.has(slot) { 0 } else { 2 * end };
+        let alone = if self.has_mate(slot, number) { 0 } else { end };
+        number + far + alone
+    }
+
+    // Whether the partner of a slot at rest with this progress number is at rest beside it, or there is none.
+    fn has_mate(&self, slot: u32, number: u64) -> bool
+        requires { slot < length self.now.places }
+    {
+        match partner_among(self.slots.len() as u32, slot, number / 4) {
+            Some(other) => self.progress(other) == number,
+            None => true,
+        }
     }
 
     // Whether every slot is at rest at until.
@@ -177,12 +205,11 @@ impl Board {
         ensures next { Nexts self.old self.new result }
         ensures phased { IsPhased self.old.places }
     {
-        let none = Share { first: 0, count: 0 };
-        self.next_of(none)
+        self.next_of(None)
     }
 
-    // The same, of this share first.
-    fn next_of(&mut self, share: Share) -> Next
+    // The same, for a worker who takes partners where a share is given, which it prefers.
+    fn next_of(&mut self, share: Option<Share>) -> Next
         ensures next { Nexts self.old self.new result }
         ensures phased { IsPhased self.old.places }
     {
@@ -237,7 +264,7 @@ impl Board {
         ensures next { NextPairs self.old self.new result }
         ensures phased { IsPhased self.old.places }
     {
-        match self.next_of(share) {
+        match self.next_of(Some(share)) {
             Next::Job(job) => match self.take_partner(job) {
                 Ok(pair) => NextPair::Pair(pair),
                 Err(job) => NextPair::Single(Next::Job(job)),
