@@ -257,9 +257,8 @@ impl Board {
     ghost use Rattle.exchange_board.specs.PairKeeps.{TakesPartner};
 
     /// As `next`, but both slots of a pair are then in work where the partner is at rest at the same epoch
-    /// and a hand-out is left for it. Which of several slots is not promised; those of the share come
-    /// first, so that a worker who always gives the same finds slots that it had before. Takes no memory, and
-    /// time by the number of slots.
+    /// and a hand-out is left for it. Which of several slots is not promised. Takes no memory, and time by the
+    /// number of slots.
     pub fn next_pair(&mut self, share: Share) -> NextPair
         ensures next { NextPairs self.old self.new result }
         ensures phased { IsPhased self.old.places }

@@ -124,13 +124,6 @@ impl PairSwept {
     {
         self.slot
     }
-
-    /// Its epoch.
-    pub fn epoch(&self) -> u64
-        ensures { result ≡ self.now.epoch }
-    {
-        self.epoch
-    }
 }
 
 // The exchange of two partners that were swept; their records are made before it.

@@ -15,7 +15,7 @@ impl SharedBoard {
     ghost use Rattle.shared_board.specs.Shared.{lock_id, HasFound, IsHolderOf};
 
     /// Takes two partners in one turn of the lock, for which it waits, where the board may hand out both;
-    /// they are then in this seat's work. Else as `take`. Which slots is not promised; those of the share come first.
+    /// they are then in this seat's work. Else as `take`. Which slots is not promised.
     pub fn take_pair<R: Wait>(&self, rt: &R, pass: &mut BoardPass, share: Share) -> NextPair
         requires own { IsSeatOf (lock_id self.now) pass.old }
         requires free { (seat_view pass.old).holding ≡ false }
