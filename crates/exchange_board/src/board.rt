@@ -133,7 +133,8 @@ impl Board {
     // How far behind others a slot at rest with this progress number stands. One of least epoch comes first, so
     // that the others keep partners to meet. For a worker who takes partners and prefers a share, the share's
     // come before, whose spins that worker had last; and in the share, as outside, those that go with their
-    // partner, since a slot that goes alone is exchanged under the lock, while others wait.
+    // partner or have none, since a slot that goes before its partner is exchanged under the lock, while others
+    // wait.
     fn rank(&self, slot: u32, number: u64, share: Option<Share>) -> u64
         requires known { slot < length self.now.places }
         requires few { number ≤ 4 * self.now.origin.window.until }
