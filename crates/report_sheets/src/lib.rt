@@ -1,0 +1,13 @@
+//! The rows of a report on their way to an output: straight, or part by part through sheets, whose texts
+//! threads make side by side.
+#![tactic(auto)]
+
+mod sheet;
+mod source;
+#[cfg(test)]
+mod tests;
+mod writer;
+
+pub use sheet::{Sheet, sheets_for};
+pub use source::RowSource;
+pub use writer::{put_rows, put_rows_by};

@@ -1,0 +1,194 @@
+//! Rows of one letter an epoch, straight and by sheets.
+
+ghost use Rattle.std.specs.Prelude.{◌≡◌, ◌+◌, ◌-◌, ◌++◌, length, take, drop, slice_range};
+ghost use Rattle.std.proofs.Common.{arith, ap, ◌∙◌};
+ghost use Rattle.std.proofs.Math.Seq.{take-add};
+ghost use Rattle.std.proofs.lemmas.List.{drop-drop};
+
+use super::*;
+use glass_edges::{Fault, Line, MemorySink, NoMemory, Sink};
+use std::alloc::Global;
+use std::process::Abort;
+use std::test::Fail;
+use std::thread::Threads;
+
+/// The letters of a text, of which the row of each epoch is one.
+#[derive(Drop)]
+struct Letters<'a> {
+    text: &'a [u8],
+}
+
+impl<'a> RowSource for Letters<'a> {
+    ghost ready = { λ _. Unit {0} };
+
+    ghost text = { λ rows from to. slice_range rows.text.now from to };
+
+    ghost begin = { λ _. 0 };
+
+    ghost end = { λ rows. length rows.text.now };
+
+    fn first(&self) -> u64 {
+        0
+    }
+
+    fn last(&self) -> u64 {
+        self.text.len() as u64
+    }
+
+    // A sheet has three of them.
+    fn epochs_of(&self, _rows: u64) -> u64 {
+        3
+    }
+
+    fn add<O: Sink>(&self, out: &mut O, line: &mut Line, from: u64, to: u64) -> Result<(), Fault> {
+        line.extend(out, &self.text[from as usize..to as usize])
+    }
+
+    ghost empty = { λ rows e.
+        let none : e - e ≡ 0 = Prim.omega arith in
+        ap (λ n. take n (drop e rows.text.now)) none };
+
+    ghost joined = { λ rows a b c first second.
+        let xs = rows.text.now in
+        let whole : c - a ≡ (b - a) + (c - b) = Prim.omega arith in
+        let place : a + (b - a) ≡ b = Prim.omega arith in
+        ap (λ n. take n (drop a xs)) whole ∙ (take-add (b - a) (c - b) (drop a xs)
+        ∙ ap (λ ys. take (b - a) (drop a xs) ++ take (c - b) ys)
+        (drop-drop (b - a) a xs ∙ ap (λ n. drop n xs) place)) };
+}
+
+const ALPHABET: &str = "abcdefghijklmnopqrstuvwxyz";
+
+/// The rows of the alphabet.
+fn alphabet() -> Letters<'static>
+    ensures { length result.text.now ≡ 26 }
+{
+    Letters {
+        text: ALPHABET.as_bytes(),
+    }
+}
+
+#[test]
+fn as_many_sheets_as_asked_for(rt: HostRuntime) -> Result<(), Fail> {
+    let mut sheets = sheets_for(rt.alloc(), 2, 1)?;
+    assert_eq!(rt; sheets.len(), 2);
+    // A row has room for 64 bytes.
+    for sheet in sheets.as_mut_slice() {
+        assert_eq!(rt; sheet.put(&[0; 64]), Ok(64));
+        assert_eq!(rt; sheet.put(&[0]), Err(Fault));
+    }
+    Ok(())
+}
+
+/// So many sheets, each with room for so many bytes.
+fn sheets(alloc: Global, count: u32, room: usize) -> Result<Vec<Sheet>, NoMemory> {
+    let mut sheets = Vec::new(alloc);
+    for _sheet in 0..count {
+        sheets.push(Sheet::new(alloc, room)?)?;
+    }
+    Ok(sheets)
+}
+
+// Ends the test where an output has taken another text. It is given as one text, since a proof goes
+// through a long list of bytes one by one.
+fn took<R: Abort>(rt: &R, out: &MemorySink, text: &str) {
+    assert_eq!(rt; out.taken(), text.as_bytes());
+}
+
+// Ends the test where a sheet gives another text.
+fn gives<R: Abort>(rt: &R, sheet: &Sheet, text: Option<&str>) {
+    assert_eq!(rt; sheet.text(), text.map(|text| text.as_bytes()));
+}
+
+#[test]
+fn a_sheet_takes_what_it_has_room_for(rt: HostRuntime) -> Result<(), Fail> {
+    let mut sheet = Sheet::new(rt.alloc(), 5)?;
+    let puts: [(&[u8], Result<usize, Fault>); 5] = [
+        (b"abc", Ok(3)),
+        (b"def", Err(Fault)),
+        (b"", Ok(0)),
+        (b"de", Ok(2)),
+        (b"f", Err(Fault)),
+    ];
+    for (piece, answer) in puts {
+        assert_eq!(rt; sheet.put(piece), answer);
+    }
+    gives(&rt, &sheet, None);
+    Ok(())
+}
+
+#[test]
+fn a_sheet_is_filled_anew(rt: HostRuntime) -> Result<(), Fail> {
+    let rows = alphabet();
+    let mut sheet = Sheet::new(rt.alloc(), 100)?;
+    gives(&rt, &sheet, None);
+    sheet.fill(&rows, 0, 26);
+    gives(&rt, &sheet, Some(ALPHABET));
+    sheet.fill(&rows, 5, 7);
+    gives(&rt, &sheet, Some("fg"));
+    sheet.fill(&rows, 9, 9);
+    gives(&rt, &sheet, Some(""));
+    let mut small = Sheet::new(rt.alloc(), 2)?;
+    small.fill(&rows, 23, 26);
+    gives(&rt, &small, None);
+    small.fill(&rows, 24, 26);
+    gives(&rt, &small, Some("yz"));
+    Ok(())
+}
+
+// By no sheet, by one, by three and by more than there are rows for; and by three in which no rows fit, or
+// those of the last epochs alone.
+#[test]
+fn the_text_is_the_same_by_any_sheets(rt: HostRuntime) -> Result<(), Fail> {
+    let alloc = rt.alloc();
+    let rows = alphabet();
+    let mut straight = MemorySink::new(alloc, 100, 4, Vec::new(alloc))?;
+    put_rows(&mut straight, &rows)?;
+    took(&rt, &straight, ALPHABET);
+    for (count, room) in [(0, 0), (1, 100), (3, 100), (10, 3), (3, 0), (3, 2)] {
+        let mut sheets = sheets(alloc, count, room)?;
+        let mut out = MemorySink::new(alloc, 100, 4, Vec::new(alloc))?;
+        put_rows_by(&rt, &mut sheets, &mut out, &rows)?;
+        took(&rt, &out, ALPHABET);
+    }
+    Ok(())
+}
+
+#[test]
+fn a_source_with_no_rows_puts_none(rt: HostRuntime) -> Result<(), Fail> {
+    let alloc = rt.alloc();
+    let rows = Letters { text: b"" };
+    let mut sheets = sheets(alloc, 3, 100)?;
+    let mut out = MemorySink::new(alloc, 100, 4, Vec::new(alloc))?;
+    put_rows(&mut out, &rows)?;
+    put_rows_by(&rt, &mut sheets, &mut out, &rows)?;
+    took(&rt, &out, "");
+    Ok(())
+}
+
+// The put of number 4 fails; each takes at most two bytes.
+fn failing<R: Threads + Abort + Sync>(
+    rt: &R,
+    alloc: Global,
+    count: u32,
+    room: usize,
+    text: &str,
+) -> Result<(), Fail> {
+    let mut sheets = sheets(alloc, count, room)?;
+    let mut out = MemorySink::new(alloc, 100, 2, [4].to_vec(alloc)?)?;
+    assert_eq!(rt;
+        put_rows_by(rt, &mut sheets, &mut out, &alphabet()),
+        Err(Fault)
+    );
+    assert_eq!(rt; out.faults(), 1);
+    took(rt, &out, text);
+    Ok(())
+}
+
+#[test]
+fn an_output_that_fails_has_the_first_rows(rt: HostRuntime) -> Result<(), Fail> {
+    failing(&rt, rt.alloc(), 0, 0, "abcdefgh")?;
+    failing(&rt, rt.alloc(), 1, 100, "abcdef")?;
+    failing(&rt, rt.alloc(), 3, 100, "abcdef")?;
+    failing(&rt, rt.alloc(), 3, 2, "abcdef")
+}
