@@ -376,6 +376,8 @@ little_memory() {
     ends 0 '' run big.toml --until 0 --save big
     limited 512 run big.toml --until 1 --workers 2 --pieces 2 --save limited.c
     limited 512 run big.toml --until 1 --from big --save limited.c
+    # The caller's stack has a call for each worker.
+    limited 512 run big.toml --until 1 --workers 32
     rm big
 }
 

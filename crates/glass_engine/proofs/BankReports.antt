@@ -1,5 +1,5 @@
 -- The report of banks that were driven is that of their runs.
-use Rattle.std.proofs.Common.{arith, ◌≡◌, inl, inr, ℕ, ◌+◌, ◌-◌, ◌*◌, ◌/◌, ◌<◌, ◌≤◌, Bool, cond, List, [], ◌∷◌, ◌++◌, length, map, drop, get_or, refl, sym, ap, ap₂, ◌∙◌, subst}
+use Rattle.std.proofs.Common.{arith, ◌≡◌, inl, inr, ℕ, ◌+◌, ◌-◌, ◌*◌, ◌/◌, ◌<◌, ◌≤◌, Bool, cond, List, [], ◌∷◌, ◌++◌, length, map, drop, get_or, refl, sym, ap, ap₂, ◌∙◌, subst, append_assoc}
 use Rattle.std.specs.Prelude.{All}
 use Rattle.std.proofs.lemmas.Bool.{cases_lt}
 use Rattle.std.proofs.lemmas.List.{length-map}
@@ -14,7 +14,8 @@ use Rattle.scalar_rule.specs.declared.sample.PlainSlot.{PlainSlot}
 use Rattle.scalar_rule.specs.declared.sample.Sample.{Sample}
 use Rattle.plane_sweep.specs.Packed.{part, FitsDuo}
 use Rattle.plane_sweep.specs.Uneven.{uneven_part, level_stand}
-use Rattle.glass_engine.specs.BankPieces.{banks_in, own_measured, HasRowsFrom, AreRowsFrom, ended_slots, HasSpins, HaveSpins}
+use Rattle.glass_engine.specs.BankPieces.{banks_in, own_measured, HasRowsFrom, AreRowsFrom, ended_slots, HasSpins, HaveSpins, IsPlanOf, IsFinished, banks_tail}
+use Rattle.glass_engine.specs.declared.bank_report.Finished.{Finished}
 use Rattle.glass_engine.specs.BankRuns.{bank_of, for_samples, plans_of, runs_of, samples_in, runs_report}
 use Rattle.glass_engine.specs.Banks.{Bank, of_sample, banks_measured, banks_slots, banks_report}
 use Rattle.glass_engine.specs.KeptBanks.{saved_as, done_as, Shared, IsBankRun, HaveSamples, AreBankRuns}
@@ -156,13 +157,20 @@ pub spins-at : (ds : List DoneView) (plan : Plan) (n b : ℕ) (x : DoneView) →
 spins-at ds plan n b x have below is =
     subst (HasSpins plan) (sym is) (All-get_or (HasSpins plan) ds (b / 64) x (sample-within n ds b have.samples below) have.each)
 
-module _ {X : Type 0} (f : X → Plan) (plans : List X) (orders : Orders) (ds : List DoneView) (runs : AreBankRuns orders (runs_of ds)) (ended : All (λ (d : DoneView). IsEnd d.run d.ended) ds) (same : map f plans ≡ plans_of (runs_of ds))
-    (p : X) (p_is : p ≡ get_or plans 0 p) (d : DoneView) (d_is : d ≡ get_or ds 0 d) (plan : Plan) (plan_is : plan ≡ f p) where
+some-banks : (orders : Orders) (ds : List DoneView) → AreBankRuns orders (runs_of ds) → 0 < length ds
+some-banks orders ds runs = let z = runs.orders_are.some_banks in let y = length-map ds (λ (x : DoneView). x.run) in omega arith
+
+pub first-plan : {X : Type 0} (f : X → Plan) (plans : List X) (orders : Orders) (ds : List DoneView) → AreBankRuns orders (runs_of ds) → map f plans ≡ plans_of (runs_of ds)
+    → (p : X) → p ≡ get_or plans 0 p → (plan : Plan) → plan ≡ f p → IsPlanOf ds plan
+first-plan f plans orders ds runs same p p_is plan plan_is = λ d d_is. plan_is ∙ bank-plan f plans ds same 0 (some-banks orders ds runs) p p_is d d_is
+
+module _ (orders : Orders) (ds : List DoneView) (runs : AreBankRuns orders (runs_of ds)) (ended : All (λ (d : DoneView). IsEnd d.run d.ended) ds) (plan : Plan) (plan_is : IsPlanOf ds plan)
+    (d : DoneView) (d_is : d ≡ get_or ds 0 d) where
   some : 0 < length ds
-  some = let z = runs.orders_are.some_banks in let y = length-map ds (λ (x : DoneView). x.run) in omega arith
+  some = some-banks orders ds runs
 
   own : plan ≡ d.run.plan
-  own = plan_is ∙ bank-plan f plans ds same 0 some p p_is d d_is
+  own = plan_is d d_is
 
   known : IsBankEnd runs.shared orders d
   known =
@@ -191,9 +199,25 @@ module _ {X : Type 0} (f : X → Plan) (plans : List X) (orders : Orders) (ds : 
         subst (λ c. AreRowsFrom ds orders slots c to 0) (sym from-shared) (subst (λ e. AreRowsFrom ds orders slots runs.shared.from e 0) (sym to-shared) start)
 
     pub put-is : runs_report (runs_of ds)
-        ≡ header_line plan orders.samples from to ++ rows_in_order (banks_measured (banks_in ds)) orders.samples orders.every from to ++ end_line to
-        ++ cond orders.spins (all_spins plan orders.samples (ended_slots plan.size ds)) []
-    put-is = report-is orders ds runs ended d d_is plan own from to from-shared to-shared
+        ≡ header_line plan orders.samples from to ++ rows_in_order (banks_measured (banks_in ds)) orders.samples orders.every from to ++ banks_tail plan ds orders to
+    put-is =
+        report-is orders ds runs ended d d_is plan own from to from-shared to-shared
+        ∙ append_assoc (header_line plan orders.samples from to ++ rows_in_order (banks_measured (banks_in ds)) orders.samples orders.every from to) (end_line to)
+        (cond orders.spins (all_spins plan orders.samples (ended_slots plan.size ds)) [])
+
+pub finished-spins : (f : Finished) → IsFinished f → HaveSpins f.driven.now f.plan.now f.orders.now.samples
+finished-spins f finished = have f.driven.now refl
+  where
+    have : (ds : List DoneView) → ds ≡ f.driven.now → HaveSpins f.driven.now f.plan.now f.orders.now.samples
+    have [] is = absurd (let some = some-banks f.orders.now f.driven.now finished.runs in omega (arith, ap length is))
+    have (d ∷ ds) is = put-spins f.orders.now f.driven.now finished.runs finished.ended f.plan.now finished.plan d (ap (λ xs. get_or xs 0 d) is)
+
+pub some-plans : {X : Type 0} (f : X → Plan) (plans : List X) (orders : Orders) (ds : List DoneView) → AreBankRuns orders (runs_of ds) → map f plans ≡ plans_of (runs_of ds) → 0 < length plans
+some-plans f plans orders ds runs same =
+    let some = runs.orders_are.some_banks in
+    let own = length-map plans f in
+    let theirs = length-map (runs_of ds) (λ (run : RunView). run.plan) in
+    omega (arith, ap length same)
 
 -- ---- which checkpoint is to be saved is not told
 

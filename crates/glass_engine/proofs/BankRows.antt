@@ -1,11 +1,12 @@
 -- The rows of banks that were driven: the bank and the bit of a sample, and a bank's records one epoch after another.
-use Rattle.std.proofs.Common.{arith, ◌≡◌, inl, inr, ℕ, suc, ◌+◌, ◌-◌, ◌*◌, ◌/◌, ◌%◌, ◌<◌, ◌≤◌, Bool, true, false, cond, min, nat_lt, List, [], ◌∷◌, ◌++◌, length, take, drop, get_or, sym, ap, ap₂, ◌∙◌, subst, length-drop}
+use Rattle.std.proofs.Common.{arith, ◌≡◌, inl, inr, ℕ, zero, suc, ◌+◌, ◌-◌, ◌*◌, ◌/◌, ◌%◌, ◌<◌, ◌≤◌, Bool, true, false, cond, min, nat_lt, List, [], ◌∷◌, ◌++◌, length, take, drop, get_or, sym, ap, ap₂, ◌∙◌, subst, length-drop}
 use Rattle.std.proofs.Math.Nat.{mul-le-mul_right}
 use Rattle.std.proofs.lemmas.Bool.{cases_lt, lt-ltb}
 use Rattle.std.proofs.lemmas.Bool.Decides.{nat_tests}
 use Rattle.std.proofs.lemmas.List.{drop-drop}
 use Rattle.std.proofs.lemmas.List.Elements.{All-get_or}
 use Rattle.spin_model.proofs.Tables.{length-table}
+use Rattle.exchange_board.proofs.RowPlaces.{quotient-upto}
 use Rattle.run_plan.specs.declared.run_file.Orders.{Orders}
 use Rattle.scalar_rule.specs.Plan.{slots_of}
 use Rattle.scalar_rule.specs.Records.{is_recorded, records_at, in_order, measured_from}
@@ -18,7 +19,7 @@ use Rattle.glass_engine.specs.KeptBanks.{HaveSamples}
 use Rattle.glass_engine.specs.Runs.{DoneView}
 use Rattle.glass_engine.proofs.BankLaws.{of-first, of-next}
 use Rattle.spin_model.proofs.Joined.{window-first}
-use Rattle.glass_engine.proofs.Pieces.{records_if, count_if, count-front, drop-front, piece-records_at}
+use Rattle.glass_engine.proofs.Pieces.{records_if, count_if, count-front, drop-front, piece-records_at, recorded-more}
 
 -- ---- the bank of a sample, and its bit there
 
@@ -164,6 +165,28 @@ rows-next ds orders slots f to passed below rows =
     most : (b : Bool) → passed + cond b 1 0 ≤ f + 1
     most true = omega (arith, rows.counted)
     most false = omega (arith, rows.counted)
+
+-- and from a later epoch on
+ahead : (ds : List DoneView) (orders : Orders) (slots f to n : ℕ) → f + n ≤ to → AreRowsFrom ds orders slots f to 0 → AreRowsFrom ds orders slots (f + n) to ((f + n) / orders.every - f / orders.every)
+ahead ds orders slots f to zero within rows =
+    let here : f + 0 ≡ f = omega arith in
+    let none : (f + 0) / orders.every - f / orders.every ≡ 0 = ap (λ k. k / orders.every - f / orders.every) here ∙ (let z : f / orders.every - f / orders.every ≡ 0 = omega arith in z) in
+    subst (AreRowsFrom ds orders slots (f + 0) to) (sym none) (subst (λ k. AreRowsFrom ds orders slots k to 0) (sym here) rows)
+ahead ds orders slots f to (suc n) within rows =
+    let g : ℕ = f + n in
+    let there : f + suc n ≡ g + 1 = omega arith in
+    let before = ahead ds orders slots f to n (omega arith) rows in
+    let next = recorded-more orders.every g rows.some_every in
+    let first = quotient-upto orders.every f g rows.some_every (omega arith) in
+    let passed : g / orders.every - f / orders.every + cond (is_recorded orders.every g) 1 0 ≡ (g + 1) / orders.every - f / orders.every = omega arith in
+    let P : ℕ → Type 0 = λ k. AreRowsFrom ds orders slots k to (k / orders.every - f / orders.every) in
+    subst P (sym there) (subst (AreRowsFrom ds orders slots (g + 1) to) passed (rows-next ds orders slots g to (g / orders.every - f / orders.every) (omega arith) before))
+
+pub rows-ahead : (ds : List DoneView) (orders : Orders) (slots f g to : ℕ) → f ≤ g → g ≤ to → AreRowsFrom ds orders slots f to 0 → AreRowsFrom ds orders slots g to (g / orders.every - f / orders.every)
+rows-ahead ds orders slots f g to from within rows =
+    let there : f + (g - f) ≡ g = omega arith in
+    let P : ℕ → Type 0 = λ k. AreRowsFrom ds orders slots k to (k / orders.every - f / orders.every) in
+    subst P there (ahead ds orders slots f to (g - f) (omega arith) rows)
 
 -- ---- a sample's records in a recorded epoch
 

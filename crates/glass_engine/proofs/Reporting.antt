@@ -1,17 +1,18 @@
 -- The report by its four parts.
-use Rattle.std.proofs.Common.{arith, ◌≡◌, inl, inr, ℕ, suc, ◌+◌, ◌-◌, ◌*◌, ◌/◌, ◌<◌, ◌≤◌, Bool, true, false, cond, not, List, [], ◌∷◌, ◌++◌, length, Option, refl, sym, ap, ap₂, ◌∙◌, subst, append-nil}
+use Rattle.std.proofs.Common.{arith, ◌≡◌, inl, inr, ℕ, suc, ◌+◌, ◌-◌, ◌*◌, ◌/◌, ◌<◌, ◌≤◌, Bool, true, false, cond, not, List, [], ◌∷◌, ◌++◌, length, take, Option, refl, sym, ap, ap₂, ◌∙◌, subst, append-nil, append_assoc}
 use Rattle.std.specs.Prelude.{◌==◌, ◌&&◌}
 use Rattle.std.proofs.Math.Nat.{mul-le-mul_right}
 use Rattle.std.proofs.lemmas.Bool.{cases_Bool, and_parts, eqb-true, eq-eqb, true_from_ne_false, true≢false, false≢true}
 use Rattle.std.proofs.lemmas.List.{length-map}
 use Rattle.std.proofs.lemmas.List.Folds.{list_all_at}
 use Rattle.glass_edges.specs.Contents.{appended, AppendsPrefix}
-use Rattle.glass_edges.proofs.Puts.{prefix_front, prefix_past}
+use Rattle.glass_edges.proofs.Puts.{prefix_past}
 use Rattle.glass_edges.proofs.Putting.{put-two}
 use Rattle.report_text.specs.Lines.{header_line, end_line}
 use Rattle.scalar_rule.specs.Plan.{Plan}
 use Rattle.scalar_rule.specs.Positions.{position_in, done, floor_of}
 use Rattle.scalar_rule.specs.Ragged.{Position, all_ready}
+use Rattle.scalar_rule.specs.Records.{in_order}
 use Rattle.scalar_rule.specs.declared.sample.PlainSlot.{PlainSlot}
 use Rattle.scalar_rule.proofs.Extremes.{least-at, least-some}
 use Rattle.plane_sweep.specs.Uneven.{place_at, position_of, positions_of, uneven_part}
@@ -27,7 +28,7 @@ use Rattle.exchange_board.proofs.Origins.{place-short, done-reach}
 use Rattle.exchange_board.proofs.RowPlaces.{quotient-upto}
 use Rattle.exchange_board.proofs.Starting.{begun-at, begun-done}
 use Rattle.glass_engine.specs.Report.{uneven_report, rows_in_order, all_rest, all_spins, sample_spins}
-use Rattle.glass_engine.specs.RecordPieces.{measured, stopped_report}
+use Rattle.glass_engine.specs.RecordPieces.{measured, stopped_report, tail_of}
 use Rattle.exchange_board.specs.Answers.{stages_of}
 use Rattle.spin_model.proofs.Joined.{joined-same}
 use Rattle.glass_engine.proofs.WholeRuns.{later, later-lawful, full-ended, rest-at, whole-slots}
@@ -150,44 +151,38 @@ report-is o plan d spins printed from to plan_is l s from_is to_is printed_is =
     ap₂ (λ a b. parts p a b (cond (spins && all_rest until ps) ready [])) (sym from_is) (sym to_is) ∙ ap (parts p from to) same
     ∙ ap (λ (q : Plan). parts q from to (cond printed (here q) [])) (sym plan_is)
 
--- ---- four texts put one after another: where each fails, and the whole
+-- and so three, of which the last may have spins
+pub report-parts : (o : Origin) (plan : Plan) (d : RaggedEndedView) (spins : Bool) (from to : ℕ) → plan ≡ plan_of o → IsLawfulOrigin o → IsStop o d
+    → from ≡ floor_in o → to ≡ floor_of (positions_of d.stand)
+    → stopped_report o spins (positions_of d.stand)
+    ≡ header_line plan o.window.samples from to ++ rows_in_order (measured o) o.window.samples o.window.every from to
+    ++ tail_of plan o.window.samples d.stand (spins && (to == o.window.until)) to
+report-parts o plan d spins from to plan_is l s from_is to_is =
+    report-is o plan d spins (spins && (to == o.window.until)) from to plan_is l s from_is to_is refl
+    ∙ append_assoc (header_line plan o.window.samples from to ++ rows_in_order (measured o) o.window.samples o.window.every from to) (end_line to)
+    (cond (spins && (to == o.window.until)) (all_spins plan o.window.samples (λ b. (uneven_part plan.size b d.stand).slots)) [])
 
-pub failed-first : (before now : Option (List ℕ)) (a b c d whole : List ℕ) → whole ≡ a ++ b ++ c ++ d → AppendsPrefix before now a → AppendsPrefix before now whole
-failed-first before now a b c d whole is p =
-    subst (AppendsPrefix before now) (sym is) (prefix_front before now (a ++ b ++ c) d (prefix_front before now (a ++ b) c (prefix_front before now a b p)))
+-- the rows of a stopped run
+pub stop-rows : (o : Origin) (d : RaggedEndedView) (from to slots count : ℕ) → IsStop o d → from ≡ floor_in o → to ≡ floor_of (positions_of d.stand) → slots ≡ slots_in o
+    → count ≡ rows_before o to * o.window.samples * slots → take count d.records ≡ in_order (measured o) o.window.samples o.window.every from to
+stop-rows o d from to slots count s from_is to_is slots_is count_is =
+    ap (λ n. take n d.records) (count_is ∙ ap₂ (λ e n. rows_before o e * o.window.samples * n) to_is slots_is)
+    ∙ s.records ∙ ap₂ (in_order (measured o) o.window.samples o.window.every) (sym from_is) (sym to_is)
 
-pub failed-second : (before x now : Option (List ℕ)) (a b c d whole : List ℕ) → whole ≡ a ++ b ++ c ++ d → x ≡ appended before a → AppendsPrefix x now b → AppendsPrefix before now whole
-failed-second before x now a b c d whole is first p =
-    subst (AppendsPrefix before now) (sym is) (prefix_front before now (a ++ b ++ c) d (prefix_front before now (a ++ b) c (prefix_past before x now a b first p)))
+-- ---- the end, and behind it the spins where they are printed
 
-pub failed-third : (before x y now : Option (List ℕ)) (a b c d whole : List ℕ) → whole ≡ a ++ b ++ c ++ d → x ≡ appended before a → y ≡ appended x b → AppendsPrefix y now c
-    → AppendsPrefix before now whole
-failed-third before x y now a b c d whole is first second p =
-    subst (AppendsPrefix before now) (sym is) (prefix_front before now (a ++ b ++ c) d (prefix_past before y now (a ++ b) c (put-two before x y a b first second) p))
+-- where they are, they are all of it
+spins-printed : (printed : Bool) (xs : List ℕ) → printed ≡ true → cond printed xs [] ≡ xs
+spins-printed printed xs on = ap (λ b. cond b xs []) on
 
-put-three : (before x y z : Option (List ℕ)) (a b c : List ℕ) → x ≡ appended before a → y ≡ appended x b → z ≡ appended y c → z ≡ appended before (a ++ b ++ c)
-put-three before x y z a b c first second third = put-two before y z (a ++ b) c (put-two before x y a b first second) third
+pub put-end : (before now : Option (List ℕ)) (end spins : List ℕ) (printed : Bool) → printed ≡ false → now ≡ appended before end → now ≡ appended before (end ++ cond printed spins [])
+put-end before now end spins printed off whole = whole ∙ ap (appended before) (sym (ap (λ b. end ++ cond b spins []) off ∙ append-nil end))
 
-pub failed-fourth : (before x y z now : Option (List ℕ)) (a b c d whole : List ℕ) → whole ≡ a ++ b ++ c ++ d → x ≡ appended before a → y ≡ appended x b → z ≡ appended y c
-    → AppendsPrefix z now d → AppendsPrefix before now whole
-failed-fourth before x y z now a b c d whole is first second third p =
-    subst (AppendsPrefix before now) (sym is) (prefix_past before z now (a ++ b ++ c) d (put-three before x y z a b c first second third) p)
+pub put-spins : (before x now : Option (List ℕ)) (end spins : List ℕ) (printed : Bool) → printed ≡ true → x ≡ appended before end → now ≡ appended x spins
+    → now ≡ appended before (end ++ cond printed spins [])
+put-spins before x now end spins printed on first second = put-two before x now end spins first second ∙ ap (λ xs. appended before (end ++ xs)) (sym (spins-printed printed spins on))
 
-pub put-four : (before x y z now : Option (List ℕ)) (a b c d whole : List ℕ) → whole ≡ a ++ b ++ c ++ d → x ≡ appended before a → y ≡ appended x b → z ≡ appended y c → now ≡ appended z d
-    → now ≡ appended before whole
-put-four before x y z now a b c d whole is first second third fourth =
-    put-two before z now (a ++ b ++ c) d (put-three before x y z a b c first second third) fourth ∙ ap (appended before) (sym is)
-
--- where no spins are printed the third text is the last
-report-without : (spins : Bool) (a b c xs : List ℕ) → spins ≡ false → a ++ b ++ c ++ cond spins xs [] ≡ a ++ b ++ c
-report-without true a b c xs off = cc
-report-without false a b c xs off = append-nil (a ++ b ++ c)
-
-pub put-without : (spins : Bool) (before x y z : Option (List ℕ)) (a b c xs whole : List ℕ) → whole ≡ a ++ b ++ c ++ cond spins xs [] → spins ≡ false
-    → x ≡ appended before a → y ≡ appended x b → z ≡ appended y c → z ≡ appended before whole
-put-without spins before x y z a b c xs whole is off first second third =
-    put-three before x y z a b c first second third ∙ ap (appended before) (sym (is ∙ report-without spins a b c xs off))
-
--- where they are, they are all of the fourth
-pub spins-printed : (spins : Bool) (xs : List ℕ) → spins ≡ true → cond spins xs [] ≡ xs
-spins-printed spins xs on = ap (λ b. cond b xs []) on
+pub failed-spins : (before x now : Option (List ℕ)) (end spins : List ℕ) (printed : Bool) → printed ≡ true → x ≡ appended before end → AppendsPrefix x now spins
+    → AppendsPrefix before now (end ++ cond printed spins [])
+failed-spins before x now end spins printed on first p =
+    subst (λ xs. AppendsPrefix before now (end ++ xs)) (sym (spins-printed printed spins on)) (prefix_past before x now end spins first p)

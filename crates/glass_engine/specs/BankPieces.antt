@@ -1,5 +1,5 @@
 -- What banks that were driven hold: their records, epoch by epoch and sample by sample, and the states that they ended with.
-use Rattle.std.specs.Prelude.{◌≡◌, ℕ, ◌-◌, ◌*◌, ◌<◌, ◌≤◌, nat_lt, if◌then◌else◌, List, [], ◌∷◌, length, map, drop, All}
+use Rattle.std.specs.Prelude.{◌≡◌, ℕ, ◌-◌, ◌*◌, ◌<◌, ◌≤◌, nat_lt, if◌then◌else◌, List, [], ◌∷◌, ◌++◌, length, map, drop, slice_index_or, All}
 use Rattle.spin_model.specs.Limits.{last_epoch, most_slots}
 use Rattle.run_checkpoint.specs.Encoding.{flattened}
 use Rattle.run_plan.specs.declared.run_file.Orders.{Orders}
@@ -10,10 +10,14 @@ use Rattle.scalar_rule.specs.declared.sample.Record.{Record}
 use Rattle.scalar_rule.specs.declared.sample.Sample.{Sample}
 use Rattle.plane_sweep.specs.Packed.{part, FitsDuo, StandFits}
 use Rattle.plane_sweep.specs.Uneven.{uneven_part, level_stand}
-use Rattle.glass_engine.specs.Banks.{Bank}
+use Rattle.report_text.specs.Lines.{header_line, end_line}
+use Rattle.glass_engine.specs.Banks.{Bank, banks_measured}
 use Rattle.glass_engine.specs.BankRuns.{bank_of, runs_of}
-use Rattle.glass_engine.specs.KeptBanks.{HaveSamples}
-use Rattle.glass_engine.specs.Runs.{RunView, DoneView}
+use Rattle.glass_engine.specs.KeptBanks.{AreBankRuns, HaveSamples}
+use Rattle.glass_engine.specs.Report.{rows_in_order, all_spins}
+use Rattle.glass_engine.specs.Runs.{RunView, DoneView, IsEnd}
+use Rattle.glass_engine.specs.declared.bank_report.Finished.{Finished}
+use Rattle.glass_engine.specs.declared.bank_rows.BankRows.{BankRows}
 
 abbrev pub banks_in : List DoneView → List Bank
 banks_in ds = map bank_of (runs_of ds)
@@ -60,6 +64,34 @@ pub record HasSpins (plan : Plan) (d : DoneView) : Type 0 where
 pub record HaveSpins (ds : List DoneView) (plan : Plan) (n : ℕ) : Type 0 where
   pub each : All (HasSpins plan) ds
   pub samples : HaveSamples n (runs_of ds)
+
+-- ---- the parts of the report
+
+-- a plan is that of the first bank
+abbrev pub IsPlanOf : List DoneView → Plan → Type 0
+IsPlanOf ds plan = (d : DoneView) → d ≡ slice_index_or ds 0 d → plan ≡ d.run.plan
+
+-- the rows of all banks between two epochs
+abbrev pub AreBankRows : BankRows → Type 0
+AreBankRows rows = AreRowsFrom rows.driven.now rows.orders.now rows.slots rows.from rows.to 0
+
+-- banks at their end, with the plan of the first
+pub record IsFinished (f : Finished) : Type 0 where
+  pub plan : IsPlanOf f.driven.now f.plan.now
+  pub runs : AreBankRuns f.orders.now (runs_of f.driven.now)
+  pub ended : All (λ (d : DoneView). IsEnd d.run d.ended) f.driven.now
+
+-- what stands behind the rows: the end, and where the orders ask for them the spins
+abbrev pub banks_tail : Plan → List DoneView → Orders → ℕ → List ℕ
+banks_tail plan ds orders to =
+    end_line to ++ (if orders.spins then all_spins plan orders.samples (ended_slots plan.size ds) else [])
+
+-- the three parts of the report with these rows
+abbrev pub banks_parts : Finished → BankRows → List ℕ
+banks_parts f rows =
+    header_line f.plan.now f.orders.now.samples rows.from rows.to
+    ++ rows_in_order (banks_measured (banks_in rows.driven.now)) rows.orders.now.samples rows.orders.now.every rows.from rows.to
+    ++ banks_tail f.plan.now f.driven.now f.orders.now rows.to
 
 -- ---- the states that banks ended with
 

@@ -2,52 +2,71 @@
 
 ghost use Rattle.std.specs.Prelude.{◌≡◌, ◌+◌, ◌*◌, ◌/◌, ◌<◌, ◌≤◌, ◌++◌, [], if◌then◌else◌, length, take, drop, slice_index_or, true, IfOk, OnOk, OnErr};
 ghost use Rattle.glass_edges.specs.Causes.{HasCause};
-ghost use Rattle.glass_edges.specs.Contents.{appended, AppendsPrefix, PutsFront};
+ghost use Rattle.glass_edges.specs.Contents.{AppendsPrefix, PutsFront};
 ghost use Rattle.spin_model.specs.Limits.{last_epoch, most_slots};
 ghost use Rattle.scalar_rule.specs.Records.{is_recorded};
-ghost use Rattle.glass_engine.specs.BankPieces.{banks_in, AreRowsFrom, HaveNext};
+ghost use Rattle.glass_engine.specs.BankPieces.{banks_in, AreBankRows, AreRowsFrom, HaveNext};
 ghost use Rattle.glass_engine.specs.Banks.{banks_measured};
 ghost use Rattle.glass_engine.specs.Report as text;
+ghost use Rattle.glass_engine.specs.RowLaws.{rows-empty, rows-joined};
 
 use crate::done::Done;
-use crate::rows::add_sample;
+use crate::rows::{add_sample, epochs_of};
 use glass_edges::{Fault, Line, Sink};
+use report_sheets::RowSource;
 use run_plan::Orders;
 use scalar_rule::{Record, is_recorded};
 
-/// What the rows of all banks are read from: the banks that were driven, the orders of the whole, and
-/// the number of slots.
+/// The rows of all banks between two epochs: the banks that were driven, the orders of the whole, and the
+/// number of slots.
 #[derive(Clone, Copy)]
-struct BankRows<'a> {
-    driven: &'a [Done],
-    orders: &'a Orders,
-    slots: usize,
+pub(crate) struct BankRows<'a> {
+    pub(crate) driven: &'a [Done],
+    pub(crate) orders: &'a Orders,
+    pub(crate) slots: usize,
+    pub(crate) from: u64,
+    pub(crate) to: u64,
 }
 
-/// Puts the rows of all banks between two epochs.
-pub(crate) fn write_bank_rows<O: Sink>(
-    out: &mut O,
-    driven: &[Done],
-    orders: &Orders,
-    slots: usize,
-    from: u64,
-    to: u64,
-) -> Result<(), Fault>
-    requires { AreRowsFrom driven.now orders.now slots from to 0 }
-    ensures whole { OnOk result (O.taken out.new ≡ appended (O.taken out.old)
-        (text.rows_in_order (banks_measured (banks_in driven.now)) orders.now.samples orders.now.every from to)) }
-    ensures prefix { OnErr result (AppendsPrefix (O.taken out.old) (O.taken out.new)
-        (text.rows_in_order (banks_measured (banks_in driven.now)) orders.now.samples orders.now.every from to)) }
-    ensures cause { HasCause (O.faults out.old) (O.faults out.new) result }
+impl RowSource for BankRows<'_> {
+    ghost ready = { AreBankRows };
+
+    ghost text = { λ r. text.rows_in_order (banks_measured (banks_in r.driven.now)) r.orders.now.samples r.orders.now.every };
+
+    ghost begin = { λ r. r.from };
+
+    ghost end = { λ r. r.to };
+
+    fn first(&self) -> u64 {
+        self.from
+    }
+
+    fn last(&self) -> u64 {
+        self.to
+    }
+
+    fn epochs_of(&self, rows: u64) -> u64 {
+        epochs_of(rows, self.orders.every, self.orders.samples, self.slots)
+    }
+
+    fn add<O: Sink>(&self, out: &mut O, line: &mut Line, from: u64, to: u64) -> Result<(), Fault> {
+        add_bank_rows(out, line, self, from, to)
+    }
+
+    ghost empty = { λ r e. rows-empty (banks_measured (banks_in r.driven.now)) r.orders.now.samples r.orders.now.every e };
+
+    ghost joined = { λ r a b c from to. rows-joined (banks_measured (banks_in r.driven.now)) r.orders.now.samples r.orders.now.every a b c from to };
+}
+
+// How many epochs before an epoch were recorded.
+fn recorded_before(rows: &BankRows, epoch: u64) -> usize
+    requires ready { AreBankRows rows.now }
+    requires from { rows.now.from ≤ epoch }
+    requires to { epoch ≤ rows.now.to }
+    ensures { AreRowsFrom rows.now.driven.now rows.now.orders.now rows.now.slots epoch rows.now.to result }
 {
-    let mut line = Line::new();
-    let rows = BankRows {
-        driven,
-        orders,
-        slots,
-    };
-    add_bank_rows(out, &mut line, &rows, from, to)?;
-    line.put(out)
+    let every = rows.orders.every;
+    (epoch / every - rows.from / every) as usize
 }
 
 // Adds the rows between two epochs behind a text that is still to be put.
@@ -58,18 +77,21 @@ fn add_bank_rows<O: Sink>(
     from: u64,
     to: u64,
 ) -> Result<(), Fault>
-    requires { AreRowsFrom rows.now.driven.now rows.now.orders.now rows.now.slots from to 0 }
+    requires ready { AreBankRows rows.now }
+    requires begin { rows.now.from ≤ from }
+    requires window { from ≤ to }
+    requires end { to ≤ rows.now.to }
     ensures front { OnOk result (PutsFront (O.taken out.old) (O.taken out.new) (line.old
         ++ text.rows_in_order (banks_measured (banks_in rows.now.driven.now))
         rows.now.orders.now.samples rows.now.orders.now.every from to)
         line.new) }
-    ensures prefix { OnErr result (AppendsPrefix (O.taken out.old) (O.taken out.new) (line.old
+    ensures prefix { OnErr result (AppendsPrefix (O.taken out.old) (O.taken out.new)
+        (line.old
         ++ text.rows_in_order (banks_measured (banks_in rows.now.driven.now))
         rows.now.orders.now.samples rows.now.orders.now.every from to)) }
     ensures cause { HasCause (O.faults out.old) (O.faults out.new) result }
 {
-    // How many of the epochs so far were recorded.
-    let mut passed = 0usize;
+    let mut passed = recorded_before(rows, from);
     'epochs: for epoch in from..to {
         let count = add_bank_recorded(out, line, rows, epoch, passed)?;
         passed += count;

@@ -21,7 +21,7 @@ mod workers;
 
 pub use bank_driving::drive_banks;
 pub use bank_opening::open_banks;
-pub use bank_report::write_banks;
+pub use bank_report::{print_banks, write_banks};
 pub use bank_saving::save_banks;
 pub use banks::{Banks, BanksDone};
 pub use done::Done;
@@ -33,6 +33,6 @@ pub use laws::{
 };
 pub use opening::open;
 pub use placing::save;
-pub use report::write_report;
+pub use report::{print_report, write_report};
 pub use run::{Run, SaveKind};
 pub use summary::write_summary;

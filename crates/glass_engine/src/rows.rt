@@ -1,18 +1,74 @@
-//! The rows of a report, which go to the output many at a time.
+//! The rows of a run, as its report has them.
 
-ghost use Rattle.std.specs.Prelude.{◌≡◌, ◌+◌, ◌-◌, ◌*◌, ◌^◌, ◌<◌, ◌≤◌, ◌++◌, [], if◌then◌else◌, length, IfOk, OnOk, OnErr};
+ghost use Rattle.std.specs.Prelude.{◌≡◌, ◌+◌, ◌-◌, ◌*◌, ◌/◌, ◌^◌, ◌<◌, ◌≤◌, ◌++◌, [], if◌then◌else◌, length, IfOk, OnOk, OnErr};
 ghost use Rattle.glass_edges.specs.Causes.{HasCause};
-ghost use Rattle.glass_edges.specs.Contents.{appended, AppendsPrefix, PutsFront};
-ghost use Rattle.spin_model.specs.Limits.{last_epoch, most_slots};
-ghost use Rattle.exchange_board.specs.Content as board;
-ghost use Rattle.scalar_rule.specs.Records.{in_order, is_recorded};
-ghost use Rattle.glass_engine.specs.RecordPieces.{piece_rows, measured};
+ghost use Rattle.glass_edges.specs.Contents.{AppendsPrefix, PutsFront};
+ghost use Rattle.spin_model.specs.Limits.{most_slots};
+ghost use Rattle.scalar_rule.specs.Records.{is_recorded};
+ghost use Rattle.glass_engine.specs.RecordPieces.{piece_rows, measured, IsRunRows};
 ghost use Rattle.glass_engine.specs.Report as text;
+ghost use Rattle.glass_engine.specs.RowLaws.{rows-empty, rows-joined};
 
 use exchange_board::Origin;
 use glass_edges::{Fault, Line, Sink};
+use report_sheets::RowSource;
 use report_text::add_row;
 use scalar_rule::{Record, is_recorded};
+
+/// The rows of a run between two epochs, whose records are these.
+#[derive(Clone, Copy)]
+pub(crate) struct RunRows<'a> {
+    pub(crate) origin: &'a Origin,
+    pub(crate) slots: usize,
+    pub(crate) from: u64,
+    pub(crate) to: u64,
+    pub(crate) records: &'a [Record],
+}
+
+impl RowSource for RunRows<'_> {
+    ghost ready = { IsRunRows };
+
+    ghost text = { λ r. text.rows_in_order (measured r.origin.now) r.origin.now.window.samples r.origin.now.window.every };
+
+    ghost begin = { λ r. r.from };
+
+    ghost end = { λ r. r.to };
+
+    fn first(&self) -> u64 {
+        self.from
+    }
+
+    fn last(&self) -> u64 {
+        self.to
+    }
+
+    fn epochs_of(&self, rows: u64) -> u64 {
+        epochs_of(
+            rows,
+            self.origin.window.every,
+            self.origin.window.samples,
+            self.slots,
+        )
+    }
+
+    fn add<O: Sink>(&self, out: &mut O, line: &mut Line, from: u64, to: u64) -> Result<(), Fault> {
+        add_rows(out, line, self, from, to)
+    }
+
+    ghost empty = { λ r e. rows-empty (measured r.origin.now) r.origin.now.window.samples r.origin.now.window.every e };
+
+    ghost joined = { λ r a b c from to. rows-joined (measured r.origin.now) r.origin.now.window.samples r.origin.now.window.every a b c from to };
+}
+
+/// For how many epochs, at least one, room for so many rows is mostly enough. Speed alone depends on it.
+pub(crate) fn epochs_of(rows: u64, every: u64, samples: u32, slots: usize) -> u64
+    requires every { 1 ≤ every }
+    requires slots { slots ≤ most_slots }
+    ensures { 1 ≤ result }
+{
+    let each = (samples as u64 * slots as u64).max(1);
+    every.saturating_mul((rows / each).max(1))
+}
 
 /// Which rows a run has: those of the first samples in every slot, of each so many epochs in the last.
 #[derive(Clone, Copy)]
@@ -22,57 +78,46 @@ struct Shape {
     slots: usize,
 }
 
-/// Puts the rows of a run between two epochs, whose records are these.
-pub(crate) fn write_rows<O: Sink>(
-    out: &mut O,
-    origin: &Origin,
-    from: u64,
-    to: u64,
-    records: &[Record],
-) -> Result<(), Fault>
-    requires lawful { board.IsLawfulOrigin origin.now }
-    requires window { from ≤ to }
-    requires to { to ≤ last_epoch }
-    requires records { records.now ≡ in_order (measured origin.now)
-        origin.now.window.samples origin.now.window.every from to }
-    ensures whole { OnOk result (O.taken out.new ≡ appended (O.taken out.old)
-        (text.rows_in_order (measured origin.now) origin.now.window.samples origin.now.window.every from to)) }
-    ensures prefix { OnErr result (AppendsPrefix (O.taken out.old) (O.taken out.new)
-        (text.rows_in_order (measured origin.now) origin.now.window.samples origin.now.window.every from to)) }
-    ensures cause { HasCause (O.faults out.old) (O.faults out.new) result }
+// How many rows there are before an epoch.
+fn rows_before(rows: &RunRows, epoch: u64) -> usize
+    requires ready { IsRunRows rows.now }
+    requires from { rows.now.from ≤ epoch }
+    requires to { epoch ≤ rows.now.to }
+    ensures value { result ≡ (epoch / rows.now.origin.now.window.every - rows.now.from / rows.now.origin.now.window.every)
+        * (rows.now.origin.now.window.samples * rows.now.slots) }
+    ensures within { result ≤ length rows.now.records.now }
 {
-    let mut line = Line::new();
-    add_rows(out, &mut line, origin, from, to, records)?;
-    line.put(out)
+    let window = rows.origin.window;
+    let epochs = epoch / window.every - rows.from / window.every;
+    epochs as usize * (window.samples as usize * rows.slots)
 }
 
 // Adds the rows between two epochs behind a text that is still to be put.
 fn add_rows<O: Sink>(
     out: &mut O,
     line: &mut Line,
-    origin: &Origin,
+    rows: &RunRows,
     from: u64,
     to: u64,
-    records: &[Record],
 ) -> Result<(), Fault>
-    requires lawful { board.IsLawfulOrigin origin.now }
+    requires ready { IsRunRows rows.now }
+    requires begin { rows.now.from ≤ from }
     requires window { from ≤ to }
-    requires to { to ≤ last_epoch }
-    requires records { records.now ≡ in_order (measured origin.now)
-        origin.now.window.samples origin.now.window.every from to }
+    requires end { to ≤ rows.now.to }
     ensures front { OnOk result (PutsFront (O.taken out.old) (O.taken out.new) (line.old
-        ++ text.rows_in_order (measured origin.now) origin.now.window.samples origin.now.window.every from to)
-        line.new) }
+        ++ text.rows_in_order (measured rows.now.origin.now) rows.now.origin.now.window.samples
+        rows.now.origin.now.window.every from to) line.new) }
     ensures prefix { OnErr result (AppendsPrefix (O.taken out.old) (O.taken out.new) (line.old
-        ++ text.rows_in_order (measured origin.now) origin.now.window.samples origin.now.window.every from to)) }
+        ++ text.rows_in_order (measured rows.now.origin.now) rows.now.origin.now.window.samples
+        rows.now.origin.now.window.every from to)) }
     ensures cause { HasCause (O.faults out.old) (O.faults out.new) result }
 {
     let shape = Shape {
-        samples: origin.window.samples,
-        every: origin.window.every,
-        slots: origin.plan.slots() as usize,
+        samples: rows.origin.window.samples,
+        every: rows.origin.window.every,
+        slots: rows.slots,
     };
-    let mut rest = records;
+    let mut rest = &rows.records[rows_before(rows, from)..];
     'epochs: for epoch in from..to {
         let count = add_recorded(out, line, &shape, epoch, rest)?;
         rest = &rest[count..];

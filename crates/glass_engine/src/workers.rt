@@ -155,10 +155,11 @@ fn work<R: Threads + Wait + Sync, G: Gate + Sync>(
     unreachable!()
 }
 
-/// Works at a board with one worker a seat, by fork and join over halves of the list of seats, until
-/// each found that there is no more to do; `first` is the number of the first. Where a thread can't be
-/// started, its half is worked by the caller. Takes no memory.
-#[cycle(halves)]
+/// Works at a board with one worker a seat until each found that there is no more to do; `first` is the
+/// number of the first. Each seat but the last has a thread that is started here, since a system may
+/// start a thread's own threads late; where one can't be started, the caller works at its seat. Takes no
+/// memory.
+#[cycle(seats)]
 pub(crate) fn work_all<R: Threads + Wait + Sync, G: Gate + Sync>(
     rt: &R,
     gate: &G,
@@ -175,12 +176,12 @@ pub(crate) fn work_all<R: Threads + Wait + Sync, G: Gate + Sync>(
         }
         return;
     }
-    let (front, back) = seats.split_at_mut(seats.len() / 2);
+    let (front, back) = seats.split_at_mut(1);
     both(rt, gate, shared, first, front, back);
 }
 
 // Apart from `work_all`, so that what the closures require is what this function is given.
-#[cycle(halves)]
+#[cycle(seats)]
 fn both<R: Threads + Wait + Sync, G: Gate + Sync>(
     rt: &R,
     gate: &G,

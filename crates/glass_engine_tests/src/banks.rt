@@ -10,8 +10,9 @@ ghost use Rattle.glass_engine.specs.declared.run.SaveKind.TheVariants as saves;
 use crate::runs::{UP, holds, plan_of};
 use crate::saving::{bytes_of, two_rooms};
 use glass_edges::{MemoryShelf, MemorySink, NoMemory, OpenGate};
-use glass_engine::{Banks, drive_banks, open_banks, save_banks, write_banks};
+use glass_engine::{Banks, drive_banks, open_banks, print_banks, save_banks, write_banks};
 use plane_sweep::Stand;
+use report_sheets::{Sheet, sheets_for};
 use run_plan::Orders;
 use scalar_rule::{Plan, Start};
 use std::alloc::Global;
@@ -76,11 +77,12 @@ fn opened(
     Ok(banks)
 }
 
-/// Drives it, and puts its report and, twice, its checkpoint.
+/// Drives it, and puts its report, straight where there is no sheet, and, twice, its checkpoint.
 fn written<R: Threads + Wait + Sync>(
     rt: &R,
     banks: Banks,
     plans: &[Arc<Plan, Global>],
+    sheets: &mut [Sheet],
     out: &mut MemorySink,
     shelf: &mut MemoryShelf,
 )
@@ -88,7 +90,11 @@ fn written<R: Threads + Wait + Sync>(
     requires saves { All (λ (run : RunView). run.saves ≢ saves.Never) banks }
 {
     let mut done = drive_banks(rt, banks, plans, 3, &OpenGate);
-    let _ = write_banks(&done, plans, out);
+    let _ = if sheets.is_empty() {
+        write_banks(&done, plans, out)
+    } else {
+        print_banks(rt, sheets, &done, plans, out)
+    };
     let _ = save_banks(&mut done, plans, shelf, "first");
     let _ = save_banks(&mut done, plans, shelf, "second");
 }
@@ -106,7 +112,9 @@ fn run_of_two<R: Threads + Wait + Sync>(
     let plan = plan_of(alloc, UP, "")?;
     let plans = twice(&plan)?;
     let banks = opened(alloc, &plan, plans.as_slice(), workers)?;
-    written(rt, banks, plans.as_slice(), &mut out, &mut shelf);
+    let mut sheets = sheets_for(alloc, workers as usize - 1, 65)?;
+    let sheets = sheets.as_mut_slice();
+    written(rt, banks, plans.as_slice(), sheets, &mut out, &mut shelf);
     Ok((out, shelf))
 }
 

@@ -4,7 +4,8 @@ ghost use Rattle.glass_engine.specs.Runs.{AreRunOrders};
 
 use crate::runs::{ORDERS, Reach, THREE_UP, holds, opened, plan_of, two_slots, whole};
 use glass_edges::{Gate, MemorySink, OpenGate};
-use glass_engine::{SaveKind, drive, write_report};
+use glass_engine::{SaveKind, drive, print_report, write_report};
+use report_sheets::sheets_for;
 use run_plan::Orders;
 use scalar_rule::Plan;
 use std::alloc::Global;
@@ -23,10 +24,16 @@ pub(super) fn reported<R: Threads + Wait + Sync, G: Gate + Sync>(
 ) -> Result<MemorySink, Fail>
     requires { AreRunOrders orders.now }
 {
+    let mut straight = MemorySink::new(alloc, 5000, 300, Vec::new(alloc))?;
     let mut out = MemorySink::new(alloc, 5000, 300, Vec::new(alloc))?;
+    let mut sheets = sheets_for(alloc, 3, 8)?;
     let run = opened(alloc, plan, orders, reach, SaveKind::Never)?;
     let done = drive(rt, run, plan, 3, gate);
-    let _ = write_report(&done, plan, &mut out);
+    let _ = write_report(&done, plan, &mut straight);
+    let _ = print_report(rt, sheets.as_mut_slice(), &done, plan, &mut out);
+    if out.taken() != straight.taken() {
+        return Err("by sheets the report is another one".into());
+    }
     Ok(out)
 }
 

@@ -12,14 +12,14 @@ use Rattle.glass_engine.proofs.bank_rows.add_bank_rows.Goals as goal
 pub epochs-init : goal.epochs-init
 epochs-init g c = record {
   text = add-none _ _ _ (window-none _ c.args.from);
-  rows = c.requires;
+  rows = c.recorded_before-passed.ensures;
   faultless = refl;
 }
 
 pub add_bank_recorded-requires : goal.add_bank_recorded-requires
 add_bank_recorded-requires g c = record {
-  to = c.args.to;
-  below = c.epochs-test.true;
+  to = c.args.rows.now.to;
+  below = omega (arith, c.epochs-test.true, c.requires.end);
   rows = c.epochs.invariant.rows;
 }
 
@@ -38,9 +38,9 @@ epochs-preserved g c =
     let s = c.args.rows.now.orders.now.samples in
     let n = c.args.rows.now.orders.now.every in
     let e = c.epochs.epoch in
-    let next = rows-next c.args.rows.now.driven.now c.args.rows.now.orders.now c.args.rows.now.slots c.epochs.epoch c.args.to c.epochs.passed c.epochs-test.true c.epochs.invariant.rows in
+    let next = rows-next c.args.rows.now.driven.now c.args.rows.now.orders.now c.args.rows.now.slots c.epochs.epoch c.args.rows.now.to c.epochs.passed (omega (arith, c.epochs-test.true, c.requires.end)) c.epochs.invariant.rows in
     record {
       text = add-more _ _ _ _ (rows_in_order m s n c.args.from e) (rows_if m s n e) (rows_in_order m s n c.args.from (e + 1)) _ _ c.epochs.invariant.text c.in_ok-count.ensures.front (rows-more m s n c.args.from e (search (rules, arith)));
-      rows = subst (AreRowsFrom c.args.rows.now.driven.now c.args.rows.now.orders.now c.args.rows.now.slots (c.epochs.epoch + 1) c.args.to) (ap (λ k. c.epochs.passed + k) (sym c.in_ok-count.ensures.count)) next;
+      rows = subst (AreRowsFrom c.args.rows.now.driven.now c.args.rows.now.orders.now c.args.rows.now.slots (c.epochs.epoch + 1) c.args.rows.now.to) (ap (λ k. c.epochs.passed + k) (sym c.in_ok-count.ensures.count)) next;
       faultless = c.in_ok-count.ensures.cause.passed ∙ c.epochs.invariant.faultless;
     }

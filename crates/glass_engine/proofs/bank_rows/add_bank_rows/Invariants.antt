@@ -8,6 +8,6 @@ use Rattle.glass_engine.proofs.bank_rows.add_bank_rows.Given as goal
 abbrev pub invariant-epochs : goal.invariant-epochs
 invariant-epochs g l = record {
   text : PutsFront (g.O.Sink.taken l.fn.out) (g.O.Sink.taken l.out) (l.fn.line ++ rows_in_order (banks_measured (banks_in l.rows.driven.now)) l.rows.orders.now.samples l.rows.orders.now.every l.from l.epoch) l.line;
-  rows : AreRowsFrom l.rows.driven.now l.rows.orders.now l.rows.slots l.epoch l.to l.passed;
+  rows : AreRowsFrom l.rows.driven.now l.rows.orders.now l.rows.slots l.epoch l.rows.to l.passed;
   faultless : g.O.Sink.faults l.out ≡ g.O.Sink.faults l.fn.out;
 }

@@ -1,16 +1,20 @@
-use Rattle.std.proofs.Common.{sym, subst, List}
-use Rattle.exchange_board.specs.declared.origin.Origin.{Origin}
-use Rattle.exchange_board.specs.Stops.{IsStop}
-use Rattle.exchange_board.specs.Views.{RaggedEndedView}
-use Rattle.plane_sweep.specs.declared.uneven.RaggedStand.{RaggedStand}
-use Rattle.scalar_rule.specs.declared.sample.Record.{Record}
+-- The three texts of the report, and where each fails.
+use Rattle.std.proofs.Common.{◌∙◌, sym}
+use Rattle.std.proofs.lemmas.Result.{on_err_weaker}
+use Rattle.glass_edges.proofs.Puts.{OnErr_of}
+use Rattle.glass_edges.proofs.Putting.{failed-first, failed-second, failed-third}
 use Rattle.glass_engine.proofs.report.write_report.Goals as goal
 
-pub put_report-requires-clause-stop : goal.put_report-requires-clause-stop
-put_report-requires-clause-stop g c =
-    let e : RaggedEndedView = c.done.inside.ended in
-    let view : Origin → RaggedStand → List Record → RaggedEndedView = λ o s r. record { origin = o; stand = s; records = r } in
-    let A : Origin → Type 0 = λ o. IsStop o (view o e.stand e.records) in
-    let B : RaggedStand → Type 0 = λ s. IsStop c.origin.result.now (view c.origin.result.now s e.records) in
-    let C : List Record → Type 0 = λ r. IsStop c.origin.result.now (view c.origin.result.now c.stand.result.now r) in
-    subst C (sym c.records.ensures) (subst B (sym c.stand.ensures) (subst A (sym c.origin.ensures) c.done.invariant.ended.stop))
+pub returns-in_err-put_head-clause-prefix : goal.returns-in_err-put_head-clause-prefix
+returns-in_err-put_head-clause-prefix g c =
+    OnErr_of _ (failed-first _ _ _ _ _ _ (sym c.of-report.ensures.text ∙ c.rows-rows.ensures.text) c.in_err-put_head.ensures.prefix)
+
+pub returns-in_err-put_rows-clause-prefix : goal.returns-in_err-put_rows-clause-prefix
+returns-in_err-put_rows-clause-prefix g c =
+    OnErr_of _ (failed-second _ _ _ _ _ _ _ (sym c.of-report.ensures.text ∙ c.rows-rows.ensures.text) c.in_ok-put_head.ensures.whole c.in_err-put_rows.ensures.prefix)
+
+pub returns-clause-prefix : goal.returns-clause-prefix
+returns-clause-prefix g c =
+    on_err_weaker c.put_tail.result
+    (failed-third _ _ _ _ _ _ _ _ (sym c.of-report.ensures.text ∙ c.rows-rows.ensures.text) c.in_ok-put_head.ensures.whole c.in_ok-put_rows.ensures.whole)
+    c.put_tail.ensures.prefix

@@ -1,5 +1,5 @@
 -- Whatever a hand-back comes to, the seat has its item no more.
-use Rattle.std.proofs.Common.{◌≡◌, ℕ, List, [], ◌∷◌, true, false, if◌then◌else◌, ◌==◌, refl, sym, ap, ◌∙◌, subst}
+use Rattle.std.proofs.Common.{◌≡◌, ℕ, List, [], ◌∷◌, true, false, ◌==◌, refl, sym, ap, ◌∙◌, subst}
 use Rattle.std.specs.Prelude.{Option, IsSomeAnd}
 use Rattle.std.proofs.lemmas.Bool.{eq-eqb}
 use Rattle.turn_cell.specs.Sums.{without}

@@ -1,6 +1,6 @@
--- Each half is shorter.
+-- Each part is shorter.
 use Rattle.std.proofs.Common.{length, ◌+◌, ◌*◌, ◌-◌}
-use Rattle.glass_engine.proofs.workers.+halves.Given as goal
+use Rattle.glass_engine.proofs.workers.+seats.Given as goal
 
 abbrev pub decreases-work_all : goal.decreases-work_all
 decreases-work_all g l = 4 * length l.seats.now

@@ -1,9 +1,9 @@
--- Two halves of the seats are the whole.
+-- A seat and the others are all of them.
 use Rattle.std.proofs.Common.{subst}
 use Rattle.shared_board.specs.Shared.{lock_id}
 use Rattle.glass_engine.specs.Working.{AreAtRest}
 use Rattle.glass_engine.proofs.Leaving.{rest-front, rest-back, left-append}
-use Rattle.glass_engine.proofs.workers.+halves.Goals as goal
+use Rattle.glass_engine.proofs.workers.+seats.Goals as goal
 
 pub work_all-both-requires-clause-front : goal.work_all-both-requires-clause-front
 work_all-both-requires-clause-front g t c κs within =

@@ -1,0 +1,15 @@
+-- The end, and the spins where they are printed.
+use Rattle.glass_edges.proofs.Puts.{OnErr_of, prefix_front}
+use Rattle.glass_engine.proofs.Reporting.{failed-spins}
+use Rattle.glass_engine.proofs.BankReports.{finished-spins}
+use Rattle.glass_engine.proofs.bank_report.Finished.put_tail.Goals as goal
+
+pub write_bank_spins-requires : goal.write_bank_spins-requires
+write_bank_spins-requires g c = finished-spins c.args.self.now c.requires
+
+pub returns-in_err-end-clause-prefix : goal.returns-in_err-end-clause-prefix
+returns-in_err-end-clause-prefix g c = OnErr_of _ (prefix_front _ _ _ _ c.in_err-end.ensures.prefix)
+
+pub returns-in_err-write_bank_spins-clause-prefix : goal.returns-in_err-write_bank_spins-clause-prefix
+returns-in_err-write_bank_spins-clause-prefix g c =
+    OnErr_of _ (failed-spins _ _ _ _ _ _ c.if-self.true c.in_ok-end.ensures.whole c.in_err-write_bank_spins.ensures.prefix)

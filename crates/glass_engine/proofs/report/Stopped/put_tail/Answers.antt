@@ -1,0 +1,12 @@
+-- The end, and the spins where they are printed.
+use Rattle.std.proofs.Common.{◌∙◌, sym}
+use Rattle.glass_edges.proofs.Puts.{OnErr_of, prefix_front}
+use Rattle.glass_engine.proofs.Reporting.{failed-spins}
+use Rattle.glass_engine.proofs.report.Stopped.put_tail.Goals as goal
+
+pub returns-in_err-end-clause-prefix : goal.returns-in_err-end-clause-prefix
+returns-in_err-end-clause-prefix g c = OnErr_of _ (prefix_front _ _ _ _ c.in_err-end.ensures.prefix)
+
+pub returns-in_err-write_spins-clause-prefix : goal.returns-in_err-write_spins-clause-prefix
+returns-in_err-write_spins-clause-prefix g c =
+    OnErr_of _ (failed-spins _ _ _ _ _ _ (sym c.prints.ensures ∙ c.if-prints.true) c.in_ok-end.ensures.whole c.in_err-write_spins.ensures.prefix)
