@@ -18,17 +18,19 @@ ghost use Rattle.glass_main.specs.Statuses.{Printed, Saved, Unsought, Unplaced, 
 use crate::ending::Ending;
 use crate::run_words::RunOrder;
 use glass_edges::{Fault, Gate, Shelf, Sink};
-use glass_engine::{Banks, BanksDone, drive_banks, save_banks, write_banks};
+use glass_engine::{Banks, BanksDone, drive_banks, print_banks, save_banks};
+use report_sheets::Sheet;
 use scalar_rule::Plan;
 use std::alloc::Global;
 use std::sync::{Arc, Wait};
 use std::thread::Threads;
 
-/// The banks of a run that was opened, and their plans.
+/// The banks of a run that was opened, their plans, and the sheets for the rows of their report.
 #[derive(Drop)]
 pub(crate) struct OpenedBanks {
     pub(crate) plans: Vec<Arc<Plan, Global>>,
     pub(crate) banks: Banks,
+    pub(crate) sheets: Vec<Sheet>,
 }
 
 /// Drives open banks to their end, prints their report, and places their checkpoint where one is asked
@@ -55,9 +57,13 @@ pub(crate) fn finish_banks<R: Threads + Wait + Sync, H: Shelf, O: Sink, G: Gate 
     ensures later { O.faults out.old ≤ O.faults out.new }
     ensures later_store { H.faults shelf.old ≤ H.faults shelf.new }
 {
-    let OpenedBanks { plans, banks } = opened;
+    let OpenedBanks {
+        plans,
+        banks,
+        mut sheets,
+    } = opened;
     let mut done = drive_banks(rt, banks, &plans, order.pieces, gate);
-    match write_banks(&done, &plans, out) {
+    match print_banks(rt, sheets.as_mut_slice(), &done, &plans, out) {
         Ok(()) => {}
         Err(_) => return Ending::Unwritten,
     }

@@ -26,6 +26,7 @@ use crate::plans::{PlannedBanks, Plans};
 use crate::refusal::Refusal;
 use crate::run::until_of;
 use crate::run_words::RunOrder;
+use crate::sheets::sheets_of;
 use glass_edges::{Gate, NoMemory, Shelf, Sink};
 use glass_engine::{banks_checkpoint_is_serial, banks_report_is_serial, open_banks};
 use plain_list::Items;
@@ -95,10 +96,17 @@ fn open_run(
     if let Err(refused) = check_banks_amount(&plans, &orders, from, until) {
         return Err(Ending::Refused(Refusal::Plan(refused)));
     }
+    let Ok(sheets) = sheets_of(alloc, order, &plans[0], &orders, from, until) else {
+        return Err(Ending::NoMemory);
+    };
     let save = is_saved(order);
     let stands = stands.into_vec();
     match open_banks(alloc, &plans, &orders, stands, until, order.workers, save) {
-        Ok(banks) => Ok(OpenedBanks { plans, banks }),
+        Ok(banks) => Ok(OpenedBanks {
+            plans,
+            banks,
+            sheets,
+        }),
         Err(NoMemory) => Err(Ending::NoMemory),
     }
 }

@@ -72,7 +72,9 @@ fn open_demo(alloc: Global, n: u64) -> Result<Opened, NoMemory>
         WORKERS,
         SaveKind::Never,
     )?;
-    Ok(Opened { plan, run })
+    // A summary has no rows.
+    let sheets = Vec::new(alloc);
+    Ok(Opened { plan, run, sheets })
 }
 
 // Drives the run of a number to its end, and prints its summary.
@@ -89,7 +91,7 @@ fn put_demo<R: Threads + Wait + Sync, O: Sink, G: Gate + Sync>(
     ensures prefix { OnErr result (AppendsPrefix (O.taken out.old) (O.taken out.new) (demo_text n)) }
     ensures cause { HasCause (O.faults out.old) (O.faults out.new) result }
 {
-    let Opened { plan, run } = opened;
+    let Opened { plan, run, .. } = opened;
     let done = drive(rt, run, &plan, PIECES, gate);
     write_summary(&done, &plan, n, out)
 }

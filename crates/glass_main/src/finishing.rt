@@ -17,19 +17,21 @@ use crate::ending::Ending;
 use crate::run_words::RunOrder;
 use glass_edges::{Fault, Gate, Shelf, Sink};
 use glass_engine::{
-    Done, Run, drive, level_checkpoint_is_serial, level_report_is_serial, save,
-    unstopped_run_is_whole, whole_checkpoint_is_the_rules, write_report,
+    Done, Run, drive, level_checkpoint_is_serial, level_report_is_serial, print_report, save,
+    unstopped_run_is_whole, whole_checkpoint_is_the_rules,
 };
+use report_sheets::Sheet;
 use scalar_rule::Plan;
 use std::alloc::Global;
 use std::sync::{Arc, Wait};
 use std::thread::Threads;
 
-/// A run that was opened, and its plan.
+/// A run that was opened, its plan, and the sheets for the rows of its report.
 #[derive(Drop)]
 pub(crate) struct Opened {
     pub(crate) plan: Arc<Plan, Global>,
     pub(crate) run: Run,
+    pub(crate) sheets: Vec<Sheet>,
 }
 
 /// Drives an open run to its end, prints its report, and places its checkpoint where one is asked for. It
@@ -57,9 +59,13 @@ pub(crate) fn finish_run<R: Threads + Wait + Sync, H: Shelf, O: Sink, G: Gate + 
     ensures later { O.faults out.old ≤ O.faults out.new }
     ensures later_store { H.faults shelf.old ≤ H.faults shelf.new }
 {
-    let Opened { plan, run } = opened;
+    let Opened {
+        plan,
+        run,
+        mut sheets,
+    } = opened;
     let mut done = drive(rt, run, &plan, order.pieces, gate);
-    match put_run(&done, &plan, out) {
+    match put_run(rt, sheets.as_mut_slice(), &done, &plan, out) {
         Ok(()) => {}
         Err(_) => return Ending::Unwritten,
     }
@@ -70,7 +76,13 @@ pub(crate) fn finish_run<R: Threads + Wait + Sync, H: Shelf, O: Sink, G: Gate + 
 }
 
 // Prints the report of a run at its end.
-fn put_run<O: Sink>(done: &Done, plan: &Plan, out: &mut O) -> Result<(), Fault>
+fn put_run<R: Threads + Sync, O: Sink>(
+    rt: &R,
+    sheets: &mut [Sheet],
+    done: &Done,
+    plan: &Plan,
+    out: &mut O,
+) -> Result<(), Fault>
     requires plan { plan.now ≡ done.now.run.plan }
     requires ended { IsEnd done.now.run done.now.ended }
     ensures whole { (stop_after : Option ℕ) (planned : model.Planned) (from : Beginning) (until : ℕ)
@@ -87,7 +99,7 @@ fn put_run<O: Sink>(done: &Done, plan: &Plan, out: &mut O) -> Result<(), Fault>
     // epoch that of the serial dynamics.
     unstopped_run_is_whole();
     level_report_is_serial();
-    write_report(done, plan, out)
+    print_report(rt, sheets, done, plan, out)
 }
 
 // Places the checkpoint of a run at its end, where a name is given.

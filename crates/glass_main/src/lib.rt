@@ -38,6 +38,7 @@ mod role;
 mod run;
 mod run_words;
 mod saved_state;
+mod sheets;
 mod spin_text;
 mod table_lines;
 mod top;

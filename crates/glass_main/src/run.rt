@@ -26,6 +26,7 @@ use crate::plans::Plans;
 use crate::refusal::Refusal;
 use crate::resuming::gather_base;
 use crate::run_words::RunOrder;
+use crate::sheets::sheets_of;
 use glass_edges::{Gate, NoMemory, Shelf, Sink};
 use glass_engine::{SaveKind, open};
 use plane_sweep::RaggedStand;
@@ -131,7 +132,7 @@ fn open_run(
     if let Err(refused) = check_amount(&planned.plan, &planned.orders, from, until) {
         return Err(Ending::Refused(Refusal::Plan(refused)));
     }
-    match open_planned(alloc, planned, base, until, order) {
+    match open_planned(alloc, planned, base, from, until, order) {
         Ok(opened) => Ok(opened),
         Err(_) => Err(Ending::NoMemory),
     }
@@ -149,21 +150,24 @@ fn floor_of(planned: &Planned, base: &RaggedStand, until: u64) -> u64
     base.floor()
 }
 
-// Opens a run from a state.
+// Opens a run from a state; the room of its sheets alone depends on the epoch from which it is said to print.
 fn open_planned(
     alloc: Global,
     planned: Planned,
     base: RaggedStand,
+    from: u64,
     until: u64,
     order: &RunOrder<'_>,
 ) -> Result<Opened, NoMemory>
     requires orders { AreLawfulOrders planned.orders }
     requires base { IsResumable planned until base }
+    requires window { from ≤ until }
     requires until { until ≤ last_epoch }
     requires rows { row_count planned.plan planned.orders (floor_of (positions_of base)) until ≤ most_rows }
     requires order { IsLawfulOrder order.now }
     ensures { IfOk result (IsOpened planned base until order.now.stop_after (name_bytes order.now.save)) }
 {
+    let sheets = sheets_of(alloc, order, &planned.plan, &planned.orders, from, until)?;
     let plan = Arc::new(alloc, planned.plan)?;
     let run = open(
         alloc,
@@ -175,7 +179,7 @@ fn open_planned(
         order.workers,
         kind_of(order),
     )?;
-    Ok(Opened { plan, run })
+    Ok(Opened { plan, run, sheets })
 }
 
 // How many hand-outs of a slot the run makes at most.

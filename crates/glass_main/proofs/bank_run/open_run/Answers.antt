@@ -37,6 +37,16 @@ check_banks_amount-requires-clause-window c =
     let time = c.requires.stands.in_time in
     omega arith
 
+pub sheets_of-requires-clause-window : goal.sheets_of-requires-clause-window
+sheets_of-requires-clause-window c =
+    let view = ap (λ (p : PlannedBanks). length p.plans) c.planned.view_is in
+    let own = length-map c.planned.inside.plans.items arc_value in
+    let count = c.planned.invariant.count in
+    let several = c.planned.invariant.several in
+    let at = (first-at c.args.planned.plans c.args.until c.args.stands c.at.result.now c.requires.stands (omega arith) c.at.ensures).1 in
+    let time = c.requires.stands.in_time in
+    omega arith
+
 pub returns-in-Err-clause-stopped : goal.returns-in-Err-clause-stopped
 unfolding banks_work
 returns-in-Err-clause-stopped c = λ starts begins.
@@ -68,12 +78,12 @@ open_banks-requires-clause-starts c =
     let shape = c.planned.invariant.shape in
     let at = (first-at c.args.planned.plans c.args.until c.args.stands c.at.result.now r (omega arith) c.at.ensures).1 in
     let items = ap (map arc_value) c.deref.ensures.value in
-    let again = ap (map arc_value) (sym c.deref-2.ensures.value) in
+    let again = ap (map arc_value) (sym c.deref-3.ensures.value) in
     let plans = ap (λ (p : PlannedBanks). p.plans) c.planned.view_is in
     let R : ℕ → Type 0 = λ n. orders.samples * shape.slots * recorded_epochs orders.every n c.args.until ≤ 4194304 in
     let S : List Plan → Type 0 = λ ps. HaveShape shape.size shape.slots ps in
     let F : List Plan → Type 0 = λ ps. BanksFit r.epoch ps c.args.stands in
-    let G : List Stand → Type 0 = λ xs. AreBankStarts (map arc_value c.deref-2.result.now) xs orders c.args.until in
+    let G : List Stand → Type 0 = λ xs. AreBankStarts (map arc_value c.deref-3.result.now) xs orders c.args.until in
     subst G (sym c.into_vec-stands.ensures) (record {
       size = shape.size;
       slots = shape.slots;
@@ -84,8 +94,8 @@ open_banks-requires-clause-starts c =
       rows = subst R at (c.in_default.ensures.rows shape.size shape.slots (subst S (sym items) shape.shape));
     })
 
-pub returns-in-Ok-clause-accepted : goal.returns-in-Ok-clause-accepted
-returns-in-Ok-clause-accepted c =
+pub returns-in-Ok-open_banks-clause-accepted : goal.returns-in-Ok-open_banks-clause-accepted
+returns-in-Ok-open_banks-clause-accepted c =
     let planned = c.args.planned in
     let e = c.args.until in
     let view = ap (λ (p : PlannedBanks). length p.plans) c.planned.view_is in
@@ -101,24 +111,24 @@ returns-in-Ok-clause-accepted c =
     let exact = subst (λ n. E planned.plans planned.orders n) at e2 in
     amount-none (banks_amount_refusal planned.plans planned.orders (stands_at c.args.stands) e) c.check_banks_amount.result c.in_default.is exact
 
-pub returns-in-Ok-clause-ready : goal.returns-in-Ok-clause-ready
-returns-in-Ok-clause-ready c =
+pub returns-in-Ok-open_banks-clause-ready : goal.returns-in-Ok-open_banks-clause-ready
+returns-in-Ok-open_banks-clause-ready c =
     let planned = c.args.planned in
     let name = name_bytes c.args.order.now.save in
-    let opened : OpenedBanks = record { plans = c.planned.inside.plans; banks = c.in-Ok.banks } in
+    let opened : OpenedBanks = record { plans = c.planned.inside.plans; banks = c.in-Ok-open_banks.banks; sheets = c.in-Ok.sheets } in
     let plans = ap (λ (p : PlannedBanks). p.plans) c.planned.view_is in
-    let B : List Plan → List Stand → Orders → Type 0 = λ ps xs o. c.in-Ok.banks ≡ bank_runs ps xs o c.args.until (bank_kind (is_named name)) in
-    let b0 = c.in-Ok.ensures ∙ ap (λ k. bank_runs (map arc_value c.deref-2.result.now) c.into_vec-stands.result.items c.planned.inside.orders c.args.until (bank_kind k)) c.is_saved-save.ensures in
-    let b1 = subst (λ ps. B ps c.into_vec-stands.result.items c.planned.inside.orders) (ap (map arc_value) c.deref-2.ensures.value ∙ plans) b0 in
+    let B : List Plan → List Stand → Orders → Type 0 = λ ps xs o. c.in-Ok-open_banks.banks ≡ bank_runs ps xs o c.args.until (bank_kind (is_named name)) in
+    let b0 = c.in-Ok-open_banks.ensures ∙ ap (λ k. bank_runs (map arc_value c.deref-3.result.now) c.into_vec-stands.result.items c.planned.inside.orders c.args.until (bank_kind k)) c.is_saved-save.ensures in
+    let b1 = subst (λ ps. B ps c.into_vec-stands.result.items c.planned.inside.orders) (ap (map arc_value) c.deref-3.ensures.value ∙ plans) b0 in
     let b2 = subst (λ xs. B planned.plans xs c.planned.inside.orders) c.into_vec-stands.ensures b1 in
     let b3 = subst (λ o. B planned.plans c.args.stands o) (ap (λ (p : PlannedBanks). p.orders) c.planned.view_is) b2 in
     opened-ready planned c.args.stands c.args.until name opened c.requires.stands (record { shares = plans; runs = b3 })
 
-pub returns-in-Ok-clause-runs : goal.returns-in-Ok-clause-runs
-returns-in-Ok-clause-runs c = λ report saving starts packed.
+pub returns-in-Ok-open_banks-clause-runs : goal.returns-in-Ok-open_banks-clause-runs
+returns-in-Ok-open_banks-clause-runs c = λ report saving starts packed.
     let planned = c.args.planned in
     let name = name_bytes c.args.order.now.save in
-    let opened : OpenedBanks = record { plans = c.planned.inside.plans; banks = c.in-Ok.banks } in
+    let opened : OpenedBanks = record { plans = c.planned.inside.plans; banks = c.in-Ok-open_banks.banks; sheets = c.in-Ok.sheets } in
     let view = ap (λ (p : PlannedBanks). length p.plans) c.planned.view_is in
     let own = length-map c.planned.inside.plans.items arc_value in
     let count = c.planned.invariant.count in
@@ -129,9 +139,9 @@ returns-in-Ok-clause-runs c = λ report saving starts packed.
     let S : List Plan → Type 0 = λ ps. HaveShape shape.size shape.slots ps in
     let some = c.in_default.ensures.slots shape.size shape.slots (subst S (sym items) shape.shape) in
     let few = ap (λ (p : PlannedBanks). p.orders.samples) c.planned.view_is in
-    let B : List Plan → List Stand → Orders → Type 0 = λ ps xs o. c.in-Ok.banks ≡ bank_runs ps xs o c.args.until (bank_kind (is_named name)) in
-    let b0 = c.in-Ok.ensures ∙ ap (λ k. bank_runs (map arc_value c.deref-2.result.now) c.into_vec-stands.result.items c.planned.inside.orders c.args.until (bank_kind k)) c.is_saved-save.ensures in
-    let b1 = subst (λ ps. B ps c.into_vec-stands.result.items c.planned.inside.orders) (ap (map arc_value) c.deref-2.ensures.value ∙ plans) b0 in
+    let B : List Plan → List Stand → Orders → Type 0 = λ ps xs o. c.in-Ok-open_banks.banks ≡ bank_runs ps xs o c.args.until (bank_kind (is_named name)) in
+    let b0 = c.in-Ok-open_banks.ensures ∙ ap (λ k. bank_runs (map arc_value c.deref-3.result.now) c.into_vec-stands.result.items c.planned.inside.orders c.args.until (bank_kind k)) c.is_saved-save.ensures in
+    let b1 = subst (λ ps. B ps c.into_vec-stands.result.items c.planned.inside.orders) (ap (map arc_value) c.deref-3.ensures.value ∙ plans) b0 in
     let b2 = subst (λ xs. B planned.plans xs c.planned.inside.orders) c.into_vec-stands.ensures b1 in
     let b3 = subst (λ o. B planned.plans c.args.stands o) (ap (λ (p : PlannedBanks). p.orders) c.planned.view_is) b2 in
     opened-runs report saving planned c.args.stands c.args.until name opened starts (omega arith) (omega arith) (have-slots shape.size shape.slots planned.plans some (subst S plans shape.shape))

@@ -7,9 +7,9 @@ use Rattle.glass_main.proofs.finishing.put_run.Goals as goal
 pub returns-clause-whole : goal.returns-clause-whole
 returns-clause-whole g c = λ stop_after planned from e is.
     let same = text-of c.unstopped_run_is_whole.ensures c.level_report_is_serial.ensures stop_after planned from e c.args.done.now.run c.args.done.now.ended is c.requires.ended in
-    on_ok_weaker c.write_report.result (λ whole. whole ∙ ap (appended (g.O.Sink.taken c.args.out.now)) same) c.write_report.ensures.whole
+    on_ok_weaker c.print_report.result (λ whole. whole ∙ ap (appended (g.O.Sink.taken c.args.out.now)) same) c.print_report.ensures.whole
 
 pub returns-clause-prefix : goal.returns-clause-prefix
 returns-clause-prefix g c = λ stop_after planned from e is.
     let same = text-of c.unstopped_run_is_whole.ensures c.level_report_is_serial.ensures stop_after planned from e c.args.done.now.run c.args.done.now.ended is c.requires.ended in
-    on_err_weaker c.write_report.result (λ prefix. subst (AppendsPrefix (g.O.Sink.taken c.args.out.now) (g.O.Sink.taken c.write_report.new.out)) same prefix) c.write_report.ensures.prefix
+    on_err_weaker c.print_report.result (λ prefix. subst (AppendsPrefix (g.O.Sink.taken c.args.out.now) (g.O.Sink.taken c.print_report.new.out)) same prefix) c.print_report.ensures.prefix
