@@ -10,8 +10,8 @@ use run_plan::{Orders, row_count};
 use scalar_rule::Plan;
 use std::alloc::Global;
 
-/// Sheets for the report of the rows from one epoch to another: one for each worker that can have a slot. Speed
-/// alone depends on how many there are, and on their room.
+/// Sheets for the report of the rows from one epoch to another: two for each worker that can have a slot, since
+/// half of them are filled while the others go out. Speed alone depends on how many there are, and on their room.
 pub(crate) fn sheets_of(
     alloc: Global,
     order: &RunOrder<'_>,
@@ -25,7 +25,7 @@ pub(crate) fn sheets_of(
     requires window { from ≤ until }
     requires until { until ≤ last_epoch }
 {
-    let count = order.workers.min(plan.slots());
+    let workers = order.workers.min(plan.slots());
     let rows = row_count(plan, orders, from, until);
-    sheets_for(alloc, count as usize, rows)
+    sheets_for(alloc, 2 * workers as usize, rows)
 }

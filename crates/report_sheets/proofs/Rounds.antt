@@ -1,11 +1,8 @@
--- The epochs of the sheets of a round.
-use Rattle.std.proofs.Common.{arith, ◌≡◌, ℕ, ◌+◌, ◌*◌, ◌<◌, ◌≤◌}
-use Rattle.std.proofs.Math.Nat.{mul-le-mul_left, mul-le-mul_right}
+-- The epochs of the sheets of a round, and the rows of three windows that follow each other.
+use Rattle.std.proofs.Common.{arith, ◌≡◌, ℕ, ◌+◌, ◌*◌, ◌≤◌, List, ◌++◌, ap, ◌∙◌}
+use Rattle.std.proofs.Math.Nat.{mul-le-mul_left}
 use Rattle.report_sheets.specs.Sheets.{start_of}
-use Rattle.report_sheets.specs.declared.writer.Round.{Round}
-
-pub start-first : (r : Round) → r.first ≤ r.last → start_of r 0 ≡ r.first
-start-first r window = omega arith
+use Rattle.report_sheets.specs.declared.round.Round.{Round}
 
 pub start-last : (r : Round) (k : ℕ) → start_of r k ≤ r.last
 start-last r k = omega arith
@@ -14,16 +11,12 @@ pub start-from : (r : Round) (k : ℕ) → r.first ≤ r.last → r.first ≤ st
 start-from r k window = omega arith
 
 -- a later sheet begins no earlier
-pub start-upto : (r : Round) (k n : ℕ) → k ≤ n → start_of r k ≤ start_of r n
-start-upto r k n before =
-    let less : r.step * k ≤ r.step * n = mul-le-mul_left r.step before in
-    omega arith
-
 pub start-up : (r : Round) (k : ℕ) → start_of r k ≤ start_of r (k + 1)
-start-up r k = start-upto r k (k + 1) (omega arith)
-
--- and a round goes on
-pub start-ahead : (r : Round) (k : ℕ) → 0 < k → 1 ≤ r.step → r.first < r.last → r.first < start_of r k
-start-ahead r k some step window =
-    let one : 1 * k ≤ r.step * k = mul-le-mul_right k step in
+start-up r k =
+    let less : r.step * k ≤ r.step * (k + 1) = mul-le-mul_left r.step (omega arith) in
     omega arith
+
+pub joined-three : (text : ℕ → ℕ → List ℕ) → ((a b c : ℕ) → a ≤ b → b ≤ c → text a c ≡ text a b ++ text b c)
+    → (a b c d : ℕ) → a ≤ b → b ≤ c → c ≤ d → text a d ≡ (text a b ++ text b c) ++ text c d
+joined-three text joined a b c d first second third =
+    joined a c d (omega (arith, first, second)) third ∙ ap (λ xs. xs ++ text c d) (joined a b c first second)

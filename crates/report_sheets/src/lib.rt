@@ -2,6 +2,7 @@
 //! threads make side by side.
 #![tactic(auto)]
 
+mod round;
 mod sheet;
 mod source;
 #[cfg(test)]

@@ -41,7 +41,7 @@ pub struct Sheet {
 
 impl Model for Sheet {
     ghost use Rattle.std.specs.Prelude.{◌≤◌, vec_len, vec_capacity};
-    ghost use Rattle.report_sheets.specs.Sheets.{SheetView};
+    ghost use Rattle.report_sheets.specs.Views.{SheetView};
 
     ghost Value = { SheetView };
 
@@ -81,6 +81,8 @@ impl Sheet {
 
     /// Fills the sheet with the rows from one epoch to another in the place of what it had, and keeps whether
     /// all of them fitted.
+    // Not part of the call that starts the threads, of which the stack of the first thread has one a sheet.
+    #[inline(never)]
     pub fn fill<S: RowSource>(&mut self, rows: &S, from: u64, to: u64)
         requires ready { S.ready rows.now }
         requires begin { S.begin rows.now ≤ from }

@@ -136,8 +136,8 @@ fn a_sheet_is_filled_anew(rt: HostRuntime) -> Result<(), Fail> {
     Ok(())
 }
 
-// By no sheet, by one, by three and by more than there are rows for; and by three in which no rows fit, or
-// those of the last epochs alone.
+// By no sheet, by one, by two, by seven, of which three are a round, and by more than there are rows for; and by
+// six in which no rows fit, or those of the last sheet of a round alone.
 #[test]
 fn the_text_is_the_same_by_any_sheets(rt: HostRuntime) -> Result<(), Fail> {
     let alloc = rt.alloc();
@@ -145,7 +145,15 @@ fn the_text_is_the_same_by_any_sheets(rt: HostRuntime) -> Result<(), Fail> {
     let mut straight = MemorySink::new(alloc, 100, 4, Vec::new(alloc))?;
     put_rows(&mut straight, &rows)?;
     took(&rt, &straight, ALPHABET);
-    for (count, room) in [(0, 0), (1, 100), (3, 100), (10, 3), (3, 0), (3, 2)] {
+    for (count, room) in [
+        (0, 0),
+        (1, 100),
+        (2, 100),
+        (7, 100),
+        (20, 3),
+        (6, 0),
+        (6, 2),
+    ] {
         let mut sheets = sheets(alloc, count, room)?;
         let mut out = MemorySink::new(alloc, 100, 4, Vec::new(alloc))?;
         put_rows_by(&rt, &mut sheets, &mut out, &rows)?;
@@ -158,7 +166,7 @@ fn the_text_is_the_same_by_any_sheets(rt: HostRuntime) -> Result<(), Fail> {
 fn a_source_with_no_rows_puts_none(rt: HostRuntime) -> Result<(), Fail> {
     let alloc = rt.alloc();
     let rows = Letters { text: b"" };
-    let mut sheets = sheets(alloc, 3, 100)?;
+    let mut sheets = sheets(alloc, 6, 100)?;
     let mut out = MemorySink::new(alloc, 100, 4, Vec::new(alloc))?;
     put_rows(&mut out, &rows)?;
     put_rows_by(&rt, &mut sheets, &mut out, &rows)?;
@@ -188,7 +196,7 @@ fn failing<R: Threads + Abort + Sync>(
 #[test]
 fn an_output_that_fails_has_the_first_rows(rt: HostRuntime) -> Result<(), Fail> {
     failing(&rt, rt.alloc(), 0, 0, "abcdefgh")?;
-    failing(&rt, rt.alloc(), 1, 100, "abcdef")?;
-    failing(&rt, rt.alloc(), 3, 100, "abcdef")?;
-    failing(&rt, rt.alloc(), 3, 2, "abcdef")
+    failing(&rt, rt.alloc(), 2, 100, "abcdef")?;
+    failing(&rt, rt.alloc(), 6, 100, "abcdef")?;
+    failing(&rt, rt.alloc(), 6, 2, "abcdef")
 }

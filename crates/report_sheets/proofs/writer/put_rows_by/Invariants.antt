@@ -1,16 +1,21 @@
--- The rows before the round's first epoch are put.
+-- The rows before the round that is filled are put, and its sheets are the back ones.
 use Rattle.std.proofs.Common.{◌≡◌, ◌≤◌, ◌-◌, length}
 use Rattle.glass_edges.specs.Contents.{appended}
+use Rattle.report_sheets.specs.Sheets.{start_of, AreFilled}
 use Rattle.report_sheets.proofs.writer.put_rows_by.Given as goal
 
 abbrev pub invariant-rounds : goal.invariant-rounds
 invariant-rounds g l = record {
-  text : g.O.Sink.taken l.out ≡ appended (g.O.Sink.taken l.fn.out) (g.S.RowSource.text l.rows (g.S.RowSource.begin l.rows) l.first);
-  begin : g.S.RowSource.begin l.rows ≤ l.first;
-  end : l.first ≤ l.last;
-  count : length l.sheets ≡ length l.fn.sheets;
+  text : g.O.Sink.taken l.out ≡ appended (g.O.Sink.taken l.fn.out) (g.S.RowSource.text l.rows (g.S.RowSource.begin l.rows) l.done.first);
+  filled : AreFilled (g.S.RowSource.text l.rows) l.done 0 l.back;
+  all : start_of l.done (length l.back) ≡ l.done.last;
+  begin : g.S.RowSource.begin l.rows ≤ l.done.first;
+  window : l.done.first ≤ l.done.last;
+  end : l.done.last ≤ l.pace.end;
+  front : length l.front ≡ l.half;
+  back : l.half ≤ length l.back;
   passed : g.O.Sink.faults l.out ≡ g.O.Sink.faults l.fn.out;
 }
 
 abbrev pub decreases-rounds : goal.decreases-rounds
-decreases-rounds g l = l.last - l.first
+decreases-rounds g l = l.pace.end - l.done.first

@@ -2,10 +2,10 @@
 use Rattle.std.proofs.Common.{◌≡◌}
 use Rattle.glass_edges.specs.Contents.{appended}
 use Rattle.report_sheets.specs.Sheets.{start_of}
-use Rattle.report_sheets.proofs.writer.put_sheets.Given as goal
+use Rattle.report_sheets.proofs.writer.Turn.put.Given as goal
 
 abbrev pub invariant-sheets : goal.invariant-sheets
 invariant-sheets g l = record {
-  text : g.O.Sink.taken l.out ≡ appended (g.O.Sink.taken l.fn.out) (g.S.RowSource.text l.rows l.round.first (start_of l.round l.k));
+  text : g.O.Sink.taken l.out ≡ appended (g.O.Sink.taken l.fn.out) (g.S.RowSource.text l.rows l.self.done.first (start_of l.self.done l.k));
   passed : g.O.Sink.faults l.out ≡ g.O.Sink.faults l.fn.out;
 }
