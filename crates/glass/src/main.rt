@@ -6,8 +6,8 @@ use glass_main::{glass, no_memory};
 use std::process::ExitCode;
 use std::{env, io};
 
-// More bytes of the stack than a command takes; a run of 32 workers takes 1.1 million.
-const STACK: usize = 1310720;
+// More bytes of the stack than a command takes; a run takes 0.6 million, by any number of workers.
+const STACK: usize = 786432;
 
 fn main(rt: HostRuntime) -> ExitCode {
     let mut out = StreamSink::of(rt.stdout());

@@ -1,7 +1,7 @@
 //! The workers of a run, one a seat. Each takes a slot, or two partners, sweeps and hands back, until
 //! there is no more to do.
 
-ghost use Rattle.std.specs.Prelude.{◌≡◌, ◌+◌, ◌<◌, ◌≤◌, true, false, Some, length};
+ghost use Rattle.std.specs.Prelude.{◌≡◌, ◌<◌, ◌≤◌, true, length};
 ghost use Rattle.std.specs.Thread.{IsSync};
 ghost use Rattle.shared_board.specs.Shared.{lock_id};
 ghost use Rattle.turn_cell.specs.Seats.{seat_view};
@@ -127,7 +127,9 @@ fn turn<R: Threads + Wait + Sync, G: Gate + Sync>(
     }
 }
 
-// A worker, from its first turn to its last.
+// A worker, from its first turn to its last. Apart from `work_all` in the program too, of which the first
+// thread has a call on its stack for each worker.
+#[inline(never)]
 fn work<R: Threads + Wait + Sync, G: Gate + Sync>(
     rt: &R,
     gate: &G,
