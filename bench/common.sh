@@ -1,5 +1,5 @@
-# What the benchmark scripts share. A script sources it after it has set passes and limit, sizes and replicas
-# too where it takes them, and a function usage.
+# What the benchmark scripts share. A script sources it after it has set passes and limit, sizes, replicas,
+# sweeps and steady too where it takes them, and a function usage.
 set -euo pipefail
 
 script=${0##*/}
@@ -20,6 +20,12 @@ number() {
     esac
 }
 
+ratio() {
+    case "$2" in
+        '' | . | *[!0-9.]* | *.*.*) fail "$1 takes a ratio such as 1.5, not '$2'" ;;
+    esac
+}
+
 check_words() {
     case "$cpu" in
         x86-64-v2 | x86-64-v3) ;;
@@ -29,8 +35,11 @@ check_words() {
         1 | 2) ;;
         *) fail "--replicas takes 1 or 2, not '$replicas'" ;;
     esac
-    case "$limit" in
-        '' | . | *[!0-9.]* | *.*.*) fail "--limit takes a ratio such as 1.5, not '$limit'" ;;
+    ratio --limit "$limit"
+    case "${steady-0}" in
+        0) ;;
+        0* | .*) fail "--steady takes a ratio above 1, not '$steady'" ;;
+        *) ratio --steady "$steady" ;;
     esac
 }
 
@@ -45,6 +54,8 @@ read_words() {
             --turns) turns=$(number --turns "${2-}") ;;
             --sweeps) [ -n "${sweeps-}" ] || fail "unknown word '$1' (see --help)"
                 sweeps=$(number --sweeps "${2-}") ;;
+            --steady) [ -n "${steady+set}" ] || fail "unknown word '$1' (see --help)"
+                steady=${2-} ;;
             --replicas) [ -n "${replicas-}" ] || fail "unknown word '$1' (see --help)"
                 replicas=${2-} ;;
             --sizes) [ -n "${sizes-}" ] || fail "unknown word '$1' (see --help)"; sizes=${2-} ;;
