@@ -1,16 +1,15 @@
 -- Two partners: their hand-out, and their exchange away from the board.
-use Rattle.std.proofs.Common.{arith, ◌≡◌, inl, inr, ℕ, ◌+◌, ◌-◌, ◌*◌, ◌<◌, ◌≤◌, ◌≢◌, true, false, List, [], length, get_or, set, All, Option, Some, None, refl, sym, ap, ap₂, ◌∙◌, subst}
+use Rattle.std.proofs.Common.{arith, ◌≡◌, inl, inr, ℕ, ◌+◌, ◌-◌, ◌*◌, ◌<◌, true, false, List, [], length, get_or, set, Option, Some, None, refl, sym, ap, ap₂, ◌∙◌, subst}
 use Rattle.std.specs.Prelude.{IfNone}
 use Rattle.std.specs.Arc.{arc_value}
 use Rattle.std.proofs.lemmas.Bool.{false≢true, not_from_false}
-use Rattle.std.proofs.lemmas.List.{length-map, length-set, get_or-set_other, get_or_default, set_comm}
-use Rattle.scalar_rule.specs.Epoch.{has_turn, has_partner, partner, pair_of}
-use Rattle.scalar_rule.specs.Plan.{Plan}
+use Rattle.std.proofs.lemmas.List.{length-set, get_or-set_other, get_or_default, set_comm}
+use Rattle.scalar_rule.specs.Epoch.{has_turn, has_partner, partner}
 use Rattle.scalar_rule.specs.Positions.{sum_below}
 use Rattle.scalar_rule.specs.Ragged.{generators}
 use Rattle.scalar_rule.specs.declared.sample.Record.{Record}
 use Rattle.scalar_rule.proofs.Extremes.{sum-one}
-use Rattle.scalar_rule.proofs.SlotPartners.{sides, low-partner, high-partner, Back, back}
+use Rattle.scalar_rule.proofs.SlotPartners.{sides, low-partner, high-partner, back}
 use Rattle.plane_sweep.specs.Packed.{part_pair, ArePairGenerators}
 use Rattle.plane_sweep.specs.declared.replica.Duo.{Duo}
 use Rattle.plane_sweep.specs.declared.stand.PairWheels.{PairWheels}

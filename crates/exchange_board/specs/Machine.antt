@@ -53,6 +53,10 @@ after ps t e =
 abbrev pub IsReady : ℕ → List Stage → ℕ → Type 0
 IsReady until ps t = (phases ps t ≡ 0) × (epochs ps t < until)
 
+-- none of the slots from one on to before another is
+abbrev pub NoneReadyBetween : ℕ → ℕ → ℕ → List Stage → Type 0
+NoneReadyBetween first end until ps = (t : ℕ) → first ≤ t → t < end → phases ps t ≡ 0 → until ≤ epochs ps t
+
 -- no slot is
 abbrev pub NoneReady : ℕ → List Stage → Type 0
 NoneReady until ps = (t : ℕ) → t < length ps → phases ps t ≡ 0 → until ≤ epochs ps t

@@ -1,12 +1,12 @@
 //! The board, and its hand-outs.
 
-ghost use Rattle.std.specs.Prelude.{◌≡◌, ◌↔◌, ◌+◌, ◌*◌, ◌<◌, ◌≤◌, ◌&&◌, nat_le, nat_lt, true, false, length, IfSome, IfNone, IfOk, IfErr, OnErr, slice_set};
+ghost use Rattle.std.specs.Prelude.{◌≡◌, ◌↔◌, ◌+◌, ◌*◌, ◌<◌, ◌≤◌, true, false, length, IfSome, IfNone, IfOk, IfErr, OnErr, slice_set};
 ghost use Rattle.spin_model.specs.Limits.{most_slots};
 ghost use Rattle.scalar_rule.specs.Epoch.{has_partner, partner, pair_of};
 ghost use Rattle.exchange_board.specs.Views.{place_at, out_at, placed, progress};
 ghost use Rattle.exchange_board.specs.BoardKeeps.{phase_of};
 ghost use Rattle.exchange_board.specs.Content.{slots_in, row_total, taken_before, KeepsRows};
-ghost use Rattle.exchange_board.specs.Machine.{taken, IsReady, NoneReady, NoneOut, AllEnded, IsPhased, numbers};
+ghost use Rattle.exchange_board.specs.Machine.{taken, IsReady, NoneReady, NoneReadyBetween, NoneOut, AllEnded, IsPhased, numbers};
 
 use crate::arrival::partner_among;
 use crate::job::Job;
@@ -107,20 +107,43 @@ impl Board {
         self.records.as_slice()
     }
 
-    // Of the slots that may be handed out one of least rank.
+    // Of the slots that may be handed out one of least rank. A worker who takes partners gets one of its share
+    // where it can, whose spins it had last; the others' slots, which other processors change, are then not
+    // even read.
     fn ready_slot(&self, share: Option<Share>) -> Option<u32>
         ensures some { IfSome result (λ t. (t < length self.now.places) × IsReady self.now.origin.window.until self.now.places t) }
         ensures none { IfNone result (NoneReady self.now.origin.window.until self.now.places) }
         ensures lively { IfNone result (NoneOut self.now.places → AllEnded self.now.origin.window.until self.now.places) }
         ensures phased { IsPhased self.now.places }
     {
-        let end = 4 * self.origin.window.until;
-        let mut least = 4 * end;
+        let slots = self.slots.len() as u32;
+        if let Some(own) = self.own_slot(share) {
+            return Some(own);
+        }
+        self.ready_between(0, slots, share.is_some())
+    }
+
+    // The same of the slots of a share.
+    fn own_slot(&self, share: Option<Share>) -> Option<u32>
+        ensures some { IfSome result (λ t. (t < length self.now.places) × IsReady self.now.origin.window.until self.now.places t) }
+    {
+        let (first, end) = share?.bounds(self.slots.len() as u32);
+        self.ready_between(first, end, true)
+    }
+
+    // The same of the slots from one on to before another.
+    fn ready_between(&self, first: u32, end: u32, takes_partners: bool) -> Option<u32>
+        requires { end ≤ length self.now.places }
+        ensures some { IfSome result (λ t. (t < length self.now.places) × IsReady self.now.origin.window.until self.now.places t) }
+        ensures none { IfNone result (NoneReadyBetween first end self.now.origin.window.until self.now.places) }
+    {
+        let until = 4 * self.origin.window.until;
+        let mut least = 2 * until;
         let mut found = None;
-        'slots: for t in 0..self.slots.len() as u32 {
+        'slots: for t in first..end {
             let number = self.progress(t);
-            if number % 4 == 0 && number < end {
-                let rank = self.rank(t, number, share);
+            if number % 4 == 0 && number < until {
+                let rank = self.rank(t, number, takes_partners);
                 if rank < least {
                     least = rank;
                     found = Some(t);
@@ -131,22 +154,19 @@ impl Board {
     }
 
     // How far behind others a slot at rest with this progress number stands. One of least epoch comes first, so
-    // that the others keep partners to meet. For a worker who takes partners and prefers a share, the share's
-    // come before, whose spins that worker had last; and in the share, as outside, those that go with their
-    // partner or have none, since a slot that goes before its partner is exchanged under the lock, while others
-    // wait.
-    fn rank(&self, slot: u32, number: u64, share: Option<Share>) -> u64
+    // that the others keep partners to meet. For a worker who takes partners those come before that go with
+    // their partner or have none, since a slot that goes before its partner is exchanged under the lock, while
+    // others wait.
+    fn rank(&self, slot: u32, number: u64, takes_partners: bool) -> u64
         requires known { slot < length self.now.places }
         requires few { number ≤ 4 * self.now.origin.window.until }
-        ensures { result ≤ number + 12 * self.now.origin.window.until }
+        ensures { result ≤ number + 4 * self.now.origin.window.until }
     {
-        let Some(share) = share else {
-            return number;
-        };
-        let end = 4 * self.origin.window.until;
-        let far = if share.has(slot) { 0 } else { 2 * end };
-        let alone = if self.has_mate(slot, number) { 0 } else { end };
-        number + far + alone
+        if takes_partners && !self.has_mate(slot, number) {
+            number + 4 * self.origin.window.until
+        } else {
+            number
+        }
     }
 
     // Whether the partner of a slot at rest with this progress number is at rest beside it, or there is none.
@@ -214,16 +234,22 @@ impl Board {
         ensures next { Nexts self.old self.new result }
         ensures phased { IsPhased self.old.places }
     {
-        let ready = self.ready_slot(share);
-        if self.is_ended() {
-            return Next::Finished;
-        }
-        if self.is_spent() {
-            return Next::Stopped;
-        }
-        match ready {
-            Some(slot) => Next::Job(self.take(slot)),
-            None => Next::Nothing,
+        match self.ready_slot(share) {
+            Some(slot) => {
+                if self.is_spent() {
+                    return Next::Stopped;
+                }
+                Next::Job(self.take(slot))
+            }
+            None => {
+                if self.is_ended() {
+                    return Next::Finished;
+                }
+                if self.is_spent() {
+                    return Next::Stopped;
+                }
+                Next::Nothing
+            }
         }
     }
 }
@@ -236,12 +262,13 @@ pub struct Share {
 }
 
 impl Share {
-    // Whether a slot is one of them.
-    pub(crate) fn has(self, slot: u32) -> bool
-        ensures { result ≡ (nat_le self.first slot && nat_lt slot (self.first + self.count)) }
+    // From which to before which of so many slots they are.
+    fn bounds(self, slots: u32) -> (u32, u32)
+        ensures { result.1 ≤ slots }
     {
-        let slot = slot as usize;
-        slot >= self.first && slot - self.first < self.count
+        let all = slots as usize;
+        let first = self.first.min(all);
+        (first as u32, (first + self.count.min(all - first)) as u32)
     }
 }
 

@@ -1,11 +1,8 @@
 -- What was swept, its records, and its exchange.
-use Rattle.std.proofs.Common.{◌≡◌, ℕ, true, List, ap, ◌∙◌, sym, subst}
-use Rattle.std.specs.Arc.{arc_value}
+use Rattle.std.proofs.Common.{◌≡◌, ap, ◌∙◌, sym, subst}
 use Rattle.scalar_rule.specs.Plan.{Plan}
 use Rattle.scalar_rule.specs.Records.{is_recorded}
-use Rattle.plane_sweep.specs.declared.replica.Duo.{Duo}
 use Rattle.exchange_board.specs.declared.origin.Origin.{Origin}
-use Rattle.exchange_board.specs.Content.{plan_of}
 use Rattle.exchange_board.specs.Totals.{AreTotals}
 use Rattle.exchange_board.specs.PairKeeps.{IsPairExchange, AreRecords}
 use Rattle.exchange_board.specs.Views.{JobView}

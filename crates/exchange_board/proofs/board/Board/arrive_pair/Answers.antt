@@ -1,5 +1,5 @@
 -- Two partners come back.
-use Rattle.std.proofs.Common.{arith, ◌≡◌, ◌∙◌, sym, ap, ap₂, subst}
+use Rattle.std.proofs.Common.{arith}
 use Rattle.std.proofs.lemmas.List.{map-set}
 use Rattle.exchange_board.proofs.BoardReads.{phased-of}
 use Rattle.exchange_board.proofs.PairArriving.{PairComing, pair-coming, from-pair, below-pair, epoch-short, pair-keeps}

@@ -1,5 +1,5 @@
 -- The colder slot is the low one, whichever of the two was handed out first.
-use Rattle.std.proofs.Common.{◌≡◌, ◌<◌, true, false, length, get_or, ◌∙◌, sym, ap₂, subst}
+use Rattle.std.proofs.Common.{◌≡◌, ◌<◌, length, get_or, ◌∙◌, sym, ap₂, subst}
 use Rattle.scalar_rule.specs.Epoch.{has_turn}
 use Rattle.exchange_board.specs.PairKeeps.{ArePartners}
 use Rattle.exchange_board.specs.Views.{JobView, BoardView, place_at, out_at}
