@@ -7,6 +7,7 @@ pub mod Pieces
 pub mod Reporting
 pub mod LevelReports
 pub mod Leaving
+pub mod Giving
 pub mod Summaries
 pub mod SummaryTexts
 pub mod BankStarts

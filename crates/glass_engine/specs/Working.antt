@@ -7,6 +7,8 @@ use Rattle.turn_cell.specs.declared.pass.Pass.{Pass}
 use Rattle.turn_cell.specs.declared.view.View.{View}
 use Rattle.exchange_board.specs.declared.board.Next.{Next}
 use Rattle.exchange_board.specs.declared.board.Next.TheVariants as nexts
+use Rattle.exchange_board.specs.declared.board.NextPair.{NextPair}
+use Rattle.exchange_board.specs.declared.board.NextPair.TheVariants as pairs
 use Rattle.exchange_board.specs.declared.origin.Origin.{Origin}
 use Rattle.exchange_board.specs.Content.{plan_of}
 use Rattle.exchange_board.specs.Views.{BoardView, JobView}
@@ -54,6 +56,11 @@ IsGiven id plan (nexts.Job j) p = IsTaker id plan j p
 IsGiven id plan nexts.Nothing p = IsAtRest id plan p
 IsGiven id plan nexts.Finished p = IsAtRest id plan p × HasLeft (seat_view p)
 IsGiven id plan nexts.Stopped p = IsAtRest id plan p × HasLeft (seat_view p)
+
+-- and a seat that may be given two partners
+abbrev pub IsPairGiven : TableId → Plan → NextPair → Seat → Type 0
+IsPairGiven id plan (pairs.Pair j) p = IsPairTaker id plan j p
+IsPairGiven id plan (pairs.Single next) p = IsGiven id plan next p
 
 abbrev pub AreAtRest : TableId → Plan → List Seat → Type 0
 AreAtRest id plan [] = Unit {0}

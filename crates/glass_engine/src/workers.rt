@@ -1,11 +1,11 @@
 //! The workers of a run, one a seat. Each takes a slot, or two partners, sweeps and hands back, until
 //! there is no more to do.
 
-ghost use Rattle.std.specs.Prelude.{◌≡◌, ◌<◌, ◌≤◌, true, length};
+ghost use Rattle.std.specs.Prelude.{◌≡◌, ◌<◌, ◌≤◌, length, IfSome, IfNone};
 ghost use Rattle.std.specs.Thread.{IsSync};
 ghost use Rattle.shared_board.specs.Shared.{lock_id};
 ghost use Rattle.turn_cell.specs.Seats.{seat_view};
-ghost use Rattle.glass_engine.specs.Working.{IsAtRest, IsTaker, IsPairTaker, IsGiven, IsSame, HasLeft, AreAtRest, HaveLeft};
+ghost use Rattle.glass_engine.specs.Working.{IsAtRest, IsTaker, IsPairTaker, IsPairGiven, IsSame, HasLeft, AreAtRest, HaveLeft};
 
 use crossbeam_utils::Backoff;
 use exchange_board::{Job, Next, NextPair, PairJob, Share};
@@ -53,78 +53,73 @@ fn bring<R: Threads + Wait + Sync, G: Gate + Sync>(
     let _ = shared.board.settle(rt, shared.plan, seat, swept);
 }
 
-// The sweeps of two partners that this seat took, their exchange, and their hand-back.
+// The sweeps of two partners that this seat took, their exchange, and their hand-back, with which it asks for
+// the next.
 fn bring_pair<R: Threads + Wait + Sync, G: Gate + Sync>(
     rt: &R,
     gate: &G,
     shared: &Shared,
+    share: Share,
     seat: &mut BoardPass,
     job: PairJob,
-)
+) -> NextPair
     requires own { IsPairTaker (lock_id shared.now.board.now) shared.now.plan.now job seat.old }
-    ensures rest { IsAtRest (lock_id shared.now.board.now) shared.now.plan.now seat.new }
+    ensures given { IsPairGiven (lock_id shared.now.board.now) shared.now.plan.now result seat.new }
     ensures same { IsSame (seat_view seat.old) (seat_view seat.new) }
 {
     gate.enter(job.slot(), job.epoch());
     gate.enter(job.mate(), job.epoch());
     let swept = job.sweep(rt, shared.plan, shared.pieces);
-    shared.board.settle_pair(rt, seat, swept);
+    shared.board.settle_pair(rt, seat, swept, share)
 }
 
-// What a worker does with an answer of the board: true once there is no more to do. One that is given
-// nothing pauses.
-fn go_on<R: Threads + Wait + Sync, G: Gate + Sync>(
+// What a worker with nothing in work asks the board for.
+fn ask<R: Threads + Wait + Sync>(
     rt: &R,
-    gate: &G,
     shared: &Shared,
-    pause: &Backoff,
+    share: Share,
     seat: &mut BoardPass,
-    next: Next,
-) -> bool
-    requires given { IsGiven (lock_id shared.now.board.now) shared.now.plan.now next seat.old }
-    ensures rest { IsAtRest (lock_id shared.now.board.now) shared.now.plan.now seat.new }
+) -> NextPair
+    requires rest { IsAtRest (lock_id shared.now.board.now) shared.now.plan.now seat.old }
+    ensures given { IsPairGiven (lock_id shared.now.board.now) shared.now.plan.now result seat.new }
     ensures same { IsSame (seat_view seat.old) (seat_view seat.new) }
-    ensures left { result ≡ true → HasLeft (seat_view seat.new) }
 {
-    match next {
-        Next::Job(job) => {
-            pause.reset();
-            bring(rt, gate, shared, seat, job);
-            false
-        }
-        Next::Nothing => {
-            pause.snooze();
-            false
-        }
-        Next::Finished | Next::Stopped => true,
+    if shared.slots_each < 2 {
+        NextPair::Single(shared.board.take(rt, seat))
+    } else {
+        shared.board.take_pair(rt, seat, share)
     }
 }
 
-// One turn of a worker: true once there is no more to do.
-fn turn<R: Threads + Wait + Sync, G: Gate + Sync>(
+// What a worker does with an answer of the board, and the next answer: none once there is no more to do. One
+// that is given nothing pauses.
+fn go_on<R: Threads + Wait + Sync, G: Gate + Sync>(
     rt: &R,
     gate: &G,
     shared: &Shared,
     habits: &Habits,
     seat: &mut BoardPass,
-) -> bool
-    requires rest { IsAtRest (lock_id shared.now.board.now) shared.now.plan.now seat.old }
-    ensures rest { IsAtRest (lock_id shared.now.board.now) shared.now.plan.now seat.new }
+    next: NextPair,
+) -> Option<NextPair>
+    requires given { IsPairGiven (lock_id shared.now.board.now) shared.now.plan.now next seat.old }
+    ensures given { IfSome result (λ more. IsPairGiven (lock_id shared.now.board.now) shared.now.plan.now more seat.new) }
+    ensures rest { IfNone result (IsAtRest (lock_id shared.now.board.now) shared.now.plan.now seat.new) }
+    ensures left { IfNone result (HasLeft (seat_view seat.new)) }
     ensures same { IsSame (seat_view seat.old) (seat_view seat.new) }
-    ensures left { result ≡ true → HasLeft (seat_view seat.new) }
 {
-    if shared.slots_each < 2 {
-        let next = shared.board.take(rt, seat);
-        return go_on(rt, gate, shared, &habits.pause, seat, next);
-    }
-    match shared.board.take_pair(rt, seat, habits.share) {
+    match next {
         NextPair::Pair(job) => {
             habits.pause.reset();
-            bring_pair(rt, gate, shared, seat, job);
-            false
+            return Some(bring_pair(rt, gate, shared, habits.share, seat, job));
         }
-        NextPair::Single(next) => go_on(rt, gate, shared, &habits.pause, seat, next),
+        NextPair::Single(Next::Job(job)) => {
+            habits.pause.reset();
+            bring(rt, gate, shared, seat, job);
+        }
+        NextPair::Single(Next::Nothing) => habits.pause.snooze(),
+        NextPair::Single(Next::Finished | Next::Stopped) => return None,
     }
+    Some(ask(rt, shared, habits.share, seat))
 }
 
 // A worker, from its first turn to its last. Apart from `work_all` in the program too, of which the first
@@ -149,9 +144,11 @@ fn work<R: Threads + Wait + Sync, G: Gate + Sync>(
         },
         pause: Backoff::new(),
     };
+    let mut next = ask(rt, shared, habits.share, seat);
     for _ in rt.forever() {
-        if turn(rt, gate, shared, &habits, seat) {
-            return;
+        match go_on(rt, gate, shared, &habits, seat, next) {
+            Some(more) => next = more,
+            None => return,
         }
     }
     unreachable!()

@@ -1,18 +1,18 @@
 -- Turns in which the words of two partners change: their hand-out, and their hand-back.
-use Rattle.std.proofs.Common.{◌≡◌, inl, inr, ℕ, ◌+◌, ◌*◌, ◌%◌, ◌<◌, ◌≤◌, List, ◌∷◌, length, map, get_or, set, sym, refl, ap, ap₂, ◌∙◌, subst, arith, Some, length-set, get_or-set_same, get_or-set_other}
+use Rattle.std.proofs.Common.{◌≡◌, true, inl, inr, ℕ, ◌+◌, ◌*◌, ◌%◌, ◌<◌, ◌≤◌, List, ◌∷◌, length, map, get_or, set, sym, refl, ap, ◌∙◌, subst, arith, Some, length-set, get_or-set_same, get_or-set_other}
 use Rattle.exchange_board.specs.declared.origin.Origin.{Origin}
 use Rattle.exchange_board.specs.Machine.{IsPhased}
 use Rattle.exchange_board.specs.Content.{taken_before}
 use Rattle.exchange_board.specs.Views.{Stage, BoardView, JobView, place_at, placed, ready_at, out_at, progress, words_of}
 use Rattle.exchange_board.specs.Answers.{TakesPair, with_pair_back}
-use Rattle.turn_cell.specs.Sums.{times, without}
+use Rattle.turn_cell.specs.Sums.{times, without, AreInWork}
 use Rattle.turn_cell.specs.Progress.{ArePhased, AtMost}
-use Rattle.turn_cell.specs.AtomicSteps.{after_return, IsLawfulStore, IsStored}
-use Rattle.turn_cell.proofs.Adding.{times-without_other}
+use Rattle.turn_cell.specs.AtomicSteps.{after_turn, after_return, IsLawfulStore, IsStored}
+use Rattle.turn_cell.proofs.Adding.{times-without, times-without_other, fit-without, fit-set}
 use Rattle.turn_cell.proofs.Views.{at_most_itself, at_most_set}
 use Rattle.shared_board.specs.Words.{taken_at}
 use Rattle.shared_board.specs.Turns.{IsTurn, IsPairOut, ReturnsPair}
-use Rattle.shared_board.specs.Shared.{knows, HasFound, IsHolderOf}
+use Rattle.shared_board.specs.Shared.{knows, as_returned, HasFound, HasInHand}
 use Rattle.shared_board.proofs.Words.{word-at, words-long, words-set, place-set, place-other, phased-words, phased-set, two-back, taken-words}
 use Rattle.shared_board.proofs.Stores.{SeatView, left, stored-out, stored-back, one-turn}
 
@@ -198,3 +198,36 @@ pair-hands-back v h m w b c t e has small two stored back =
     let r = two-turn v h w b c t (4 * e + 1) (4 * e + 4) (rest v.out) has small two (omega arith) (omega arith) is in
     let words = two-words w b c t (4 * e + 1) (4 * e + 4) two r.1 in
     record { low = words.0; high = words.1; turn = r.0 }
+
+-- the seat's other items have their words still
+pair-in-work : (ws : List ℕ) (out : List (ℕ × ℕ)) (t n : ℕ) → AreInWork ws out → times t out ≡ 1 → times (t + 1) out ≡ 1
+    → AreInWork (set (set ws t n) (t + 1) n) (without (t + 1) (without t out))
+pair-in-work ws out t n work one next =
+    let rest : List (ℕ × ℕ) = without t out in
+    let none : times t rest ≡ 0 = let z = times-without t out (omega arith) in omega arith in
+    let first = fit-set ws t n rest none (fit-without ws t out work) in
+    let still : times (t + 1) rest ≡ times (t + 1) out = times-without_other t (t + 1) out (λ z. omega arith) in
+    let no_more : times (t + 1) (without (t + 1) rest) ≡ 0 = let z = times-without (t + 1) rest (omega arith) in omega arith in
+    fit-set (set ws t n) (t + 1) n (without (t + 1) rest) no_more (fit-without (set ws t n) (t + 1) rest first)
+
+-- the seat that has stored both words holds a board as one does that has just taken the lock
+pub pair-in-hand : (v h m : SeatView) (b c : BoardView) (t e : ℕ) → HasFound v h b → TwoChanged b c t (4 * e + 1) (4 * e + 4)
+    → m ≡ knows h (words_of c) (without (t + 1) (without t h.out)) → times t h.out ≡ 1 → times (t + 1) h.out ≡ 1
+    → ReturnsPair v (after_return m) t e → HasInHand (as_returned v m) m c
+pair-in-hand v h m b c t e has two stored one next back =
+    let bs : List ℕ = words_of b in
+    let ws : List ℕ = words_of c in
+    let rest : List (ℕ × ℕ) → List (ℕ × ℕ) = λ l. without (t + 1) (without t l) in
+    let out : h.out ≡ v.out = ap (λ (x : SeatView). x.out) has.view in
+    let is : m ≡ knows (after_turn v bs) ws (rest v.out) = stored ∙ ap (λ (x : SeatView). knows x ws (rest x.out)) has.view in
+    let known : m.known ≡ ws = ap (λ (x : SeatView). x.known) is in
+    let work : AreInWork (set (set bs t (4 * e + 4)) (t + 1) (4 * e + 4)) (rest v.out) =
+    pair-in-work bs v.out t (4 * e + 4) has.work (ap (times t) (sym out) ∙ one) (ap (times (t + 1)) (sym out) ∙ next) in
+    record {
+      view = subst (λ (x : SeatView). record x { seen = x.known } ≡ record x { holding = true; known = ws; seen = x.known; turns = v.turns + 1 }) (sym is) refl;
+      base = ap (λ (x : SeatView). x.base) is ∙ (has.base ∙ ap Some (sym two.origin));
+      seen = subst (λ (l : List ℕ). AtMost l ws) (sym known) (at_most_itself ws);
+      work = subst (AreInWork ws) (sym (ap (λ (x : SeatView). x.out) is)) (subst (λ (l : List ℕ). AreInWork l (rest v.out)) (sym two.words) work);
+      phased = subst ArePhased known back.turn.left_phased;
+      sized = ap length (sym known) ∙ (back.turn.sized ∙ sym (ap (λ (x : SeatView). x.places) is));
+    }

@@ -8,7 +8,7 @@ use Rattle.turn_cell.specs.Progress.{ArePhased, AtMost}
 use Rattle.turn_cell.specs.AtomicSteps.{IsStored}
 use Rattle.turn_cell.proofs.Views.{at_most_trans}
 use Rattle.shared_board.specs.Turns.{IsTurn}
-use Rattle.shared_board.specs.Shared.{knows, HasFound, IsHolderOf}
+use Rattle.shared_board.specs.Shared.{knows, HasFound, HasInHand, IsHolderOf}
 
 abbrev pub SeatView : Type 0
 SeatView = View Origin
@@ -24,6 +24,10 @@ holder v h b found = record {
   words = ap (λ (x : SeatView). x.known) found.view;
   base = ap (λ (x : SeatView). x.base) found.view ∙ found.base;
 }
+
+-- it has it in hand, and may have changed it
+pub in-hand : (v h : SeatView) (b : BoardView) → HasFound v h b → HasInHand v h b
+in-hand v h b has = subst (λ (x : SeatView). HasFound v x b) (has.view ∙ sym (ap (λ (x : SeatView). record x { seen = v.seen }) has.view)) has
 
 -- a word at rest goes into work; a word in work comes back; a word that waits comes to rest
 pub stored-out : (h m : SeatView) (ws : List ℕ) (t e new : ℕ) → h.known ≡ ws → get_or ws t 0 ≡ 4 * e → IsStored h t new m

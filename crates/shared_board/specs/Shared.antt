@@ -7,7 +7,7 @@ use Rattle.exchange_board.specs.declared.board.Next.TheVariants as nexts
 use Rattle.exchange_board.specs.Answers.{Nexts}
 use Rattle.exchange_board.specs.Machine.{IsPhased}
 use Rattle.exchange_board.specs.Views.{BoardView, place_at, progress, words_of}
-use Rattle.turn_cell.specs.AtomicSteps.{IsTaken, IsLawfulStore, after_refusal}
+use Rattle.turn_cell.specs.AtomicSteps.{IsTaken, IsLawfulStore, after_refusal, after_return}
 use Rattle.turn_cell.specs.Seats.{cell_id}
 use Rattle.turn_cell.specs.declared.view.View.{View}
 use Rattle.shared_board.specs.declared.shared.SharedBoard.{SharedBoard}
@@ -22,6 +22,14 @@ lock_id b = cell_id b.cell
 -- the seat v took the lock, is then h, and found this board
 abbrev pub HasFound : View Origin → View Origin → BoardView → Type 0
 HasFound v h b = IsTaken (λ (c : BoardView). c.origin) words_of v h b
+
+-- the seat v took the lock, is now h, and has this board in hand, whose words h then knows, whatever it has changed since
+abbrev pub HasInHand : View Origin → View Origin → BoardView → Type 0
+HasInHand v h b = HasFound v (record h { seen = v.seen }) b
+
+-- the seat h, which holds the lock, had it given it back here, and taken it as often as v
+abbrev pub as_returned : View Origin → View Origin → View Origin
+as_returned v h = record (after_return h) { turns = v.turns }
 
 -- the seat holds the lock, and knows the words and the provenance of this board
 pub record IsHolderOf (h : View Origin) (b : BoardView) : Type 0 where

@@ -105,3 +105,10 @@ pub record ReturnsPair (v w : View Origin) (t e : ℕ) : Type 0 where
   pub low : slice_index w.seen t ≡ 4 * e + 4
   pub high : slice_index w.seen (t + 1) ≡ 4 * e + 4
   pub turn : IsTurn v w (slice_set (slice_set w.seen t (4 * e + 1)) (t + 1) (4 * e + 1)) (without (t + 1) (without t v.out))
+
+-- the seat v handed the slots t and t + 1 back at e and then asked for two partners, and is then w: as in two turns, which
+-- count as one
+pub record ReturnsPairAndTakes (v w : View Origin) (t e : ℕ) (next : NextPair) : Type 0 where
+  pub between : View Origin
+  pub returned : ReturnsPair v between t e
+  pub taken : TakesPairOrSlot (record between { turns = v.turns }) w next

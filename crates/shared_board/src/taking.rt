@@ -27,7 +27,7 @@ pub enum TryNext {
 }
 
 impl SharedBoard {
-    ghost use Rattle.shared_board.specs.Shared.{lock_id, HasFound, HasAsked, IsHolderOf, TriesSlot};
+    ghost use Rattle.shared_board.specs.Shared.{lock_id, HasFound, HasInHand, HasAsked, IsHolderOf, TriesSlot};
 
     /// Takes a slot in one turn of the lock, for which it waits: a slot at rest below until, which is
     /// then in this seat's work, where there is one and hand-outs are left.
@@ -83,7 +83,7 @@ impl SharedBoard {
         requires asked { HasAsked (seat_view pass.old) board next }
         ensures own { IsSeatOf (lock_id self.now) pass.new }
         ensures refused { (seat_view pass.new).refused ≡ (seat_view pass.old).refused }
-        ensures taken { (v : _) (b : _) → HasFound v (seat_view pass.old) b → IsPhased b.places → Nexts b board next → TakesSlot v (seat_view pass.new) result }
+        ensures taken { (v : _) (b : _) → HasInHand v (seat_view pass.old) b → IsPhased b.places → Nexts b board next → TakesSlot v (seat_view pass.new) result }
     {
         match next {
             Next::Job(job) => {

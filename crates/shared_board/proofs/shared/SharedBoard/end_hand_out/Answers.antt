@@ -34,13 +34,14 @@ returns-in-Job-clause-refused c =
 
 pub returns-in-Job-clause-taken : goal.returns-in-Job-clause-taken
 returns-in-Job-clause-taken c v b has small answer =
-    hands-out v (seat_view c.args.pass.now) (seat_view c.store.new.pass) (seat_view c.give_back.new.pass) b c.args.board c.in-Job.job
-    has small (subst (Nexts b c.args.board) c.in-Job.is answer) (stored (goal.at.returns-in-Job-clause-taken c).After-store) c.give_back.ensures.back
+    let seeing : SeatView → SeatView = λ x. record x { seen = v.seen } in
+    hands-out v (seeing (seat_view c.args.pass.now)) (seeing (seat_view c.store.new.pass)) (seat_view c.give_back.new.pass) b c.args.board c.in-Job.job
+    has small (subst (Nexts b c.args.board) c.in-Job.is answer) (ap seeing (stored (goal.at.returns-in-Job-clause-taken c).After-store)) c.give_back.ensures.back
 
 pub returns-in_default : goal.returns-in_default
 returns-in_default c = record {
   own = c.give_back-in_default.ensures.own;
   refused = ap (λ (x : SeatView). x.refused) c.give_back-in_default.ensures.back;
-  taken = λ v b has small answer. quiet-answers v (seat_view c.args.pass.now) (seat_view c.give_back-in_default.new.pass) b c.args.board c.args.next
+  taken = λ v b has small answer. quiet-answers v (record (seat_view c.args.pass.now) { seen = v.seen }) (seat_view c.give_back-in_default.new.pass) b c.args.board c.args.next
       c.in_default.not-Job has small c.give_back-in_default.ensures.back answer;
 }

@@ -51,8 +51,9 @@ returns-in-Pair-clause-refused c =
 
 pub returns-in-Pair-clause-taken : goal.returns-in-Pair-clause-taken
 returns-in-Pair-clause-taken c v has =
-    pair-hands-out v (seat_view c.args.pass.now) (seat_view c.store-in-Pair.new.pass) (seat_view c.give_back.new.pass) c.args.board c.next_pair.new.self c.in-Pair.pair
-    has c.next_pair.ensures.phased c.in-Pair.ensures.next (second (goal.at.returns-in-Pair-clause-taken c).After-store-in-Pair) c.give_back.ensures.back
+    let seeing : SeatView → SeatView = λ x. record x { seen = v.seen } in
+    pair-hands-out v (seeing (seat_view c.args.pass.now)) (seeing (seat_view c.store-in-Pair.new.pass)) (seat_view c.give_back.new.pass) c.args.board c.next_pair.new.self c.in-Pair.pair
+    has c.next_pair.ensures.phased c.in-Pair.ensures.next (ap seeing (second (goal.at.returns-in-Pair-clause-taken c).After-store-in-Pair)) c.give_back.ensures.back
 
 pub returns-in-Single-clause-taken : goal.returns-in-Single-clause-taken
 returns-in-Single-clause-taken c v has = c.end_hand_out.ensures.taken v c.args.board has c.next_pair.ensures.phased c.in-Single.ensures.next.0
