@@ -108,8 +108,8 @@ impl Board {
     }
 
     // Of the slots that may be handed out one of least rank. A worker who takes partners gets one of its share
-    // where it can, whose spins it had last; the others' slots, which other processors change, are then not
-    // even read.
+    // where one goes with its partner or has none, whose spins it had last; the others' slots, which other
+    // processors change, are then not even read.
     fn ready_slot(&self, share: Option<Share>) -> Option<u32>
         ensures some { IfSome result (λ t. (t < length self.now.places) × IsReady self.now.origin.window.until self.now.places t) }
         ensures none { IfNone result (NoneReady self.now.origin.window.until self.now.places) }
@@ -123,12 +123,17 @@ impl Board {
         self.ready_between(0, slots, share.is_some())
     }
 
-    // The same of the slots of a share.
+    // The same of the slots of a share that go with their partner or have none.
     fn own_slot(&self, share: Option<Share>) -> Option<u32>
         ensures some { IfSome result (λ t. (t < length self.now.places) × IsReady self.now.origin.window.until self.now.places t) }
     {
         let (first, end) = share?.bounds(self.slots.len() as u32);
-        self.ready_between(first, end, true)
+        let own = self.ready_between(first, end, true)?;
+        if self.has_mate(own, self.progress(own)) {
+            Some(own)
+        } else {
+            None
+        }
     }
 
     // The same of the slots from one on to before another.
