@@ -57,7 +57,7 @@ IsGiven id plan nexts.Nothing p = IsAtRest id plan p
 IsGiven id plan nexts.Finished p = IsAtRest id plan p × HasLeft (seat_view p)
 IsGiven id plan nexts.Stopped p = IsAtRest id plan p × HasLeft (seat_view p)
 
--- and a seat that may be given two partners
+-- the same where the answer may be two partners
 abbrev pub IsPairGiven : TableId → Plan → NextPair → Seat → Type 0
 IsPairGiven id plan (pairs.Pair j) p = IsPairTaker id plan j p
 IsPairGiven id plan (pairs.Single next) p = IsGiven id plan next p

@@ -47,8 +47,8 @@ impl SharedBoard {
         }
     }
 
-    /// Hands two partners back that were swept and exchanged, which this seat has in work, and then takes
-    /// what `take_pair` would, all in one turn of the lock, for which it waits.
+    /// Hands two partners back that were swept and exchanged, each of which this seat has in work once, and
+    /// then takes what `take_pair` would, all in one turn of the lock, for which it waits.
     pub fn settle_pair<R: Wait>(
         &self,
         rt: &R,
