@@ -133,7 +133,7 @@ taken-same ps qs long same =
     ap (sum_below (λ j. begun (numbers qs j))) long ∙ sum-same (λ j. begun (numbers qs j)) (λ j. begun (numbers ps j)) (length ps) (λ j h. same j)
 
 abbrev pub home_of : swept.Inside → ℕ → Option Totals → Slot
-home_of s e totals = record { epoch = e; home = Some (record { share = s.share; duo = s.duo; totals = totals }) }
+home_of s e totals = record { epoch = e; home = Some (record { share = s.share; duo = s.duo; totals = totals; page = s.page }) }
 
 -- the labels of a slot that was swept are those at rest
 pub came-labels : (b : board.Inside) (s : swept.Inside) (plan : Plan) → Known b s plan → (i : ℕ) → HaveSameLabels (arrived (plan_of (arc_value b.origin)) (starts (arc_value b.origin) i) s.epoch s.slot) (content_at (arc_value b.origin) (epochs (places_of b)) (phases (places_of b)) i s.slot)

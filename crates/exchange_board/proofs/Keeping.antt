@@ -216,7 +216,7 @@ rested b t s h keeps known read is_ready some =
 
 -- the job that a slot at rest becomes
 pub job-made : (b : board.Inside) (t : ℕ) (s : Slot) (h : Home) → KeepsBoard b → t < length b.slots → s ≡ get_or b.slots t s → phases (places_of b) t ≡ 0 → s.home ≡ Some h
-    → (let j : job.Inside = record { slot = t; epoch = s.epoch; share = h.share; duo = h.duo } in KeepsJob j)
+    → (let j : job.Inside = record { slot = t; epoch = s.epoch; share = h.share; duo = h.duo; page = h.page } in KeepsJob j)
 job-made b t s h keeps known read is_ready some =
     let o : Origin = arc_value b.origin in
     let r = rested b t s h keeps known read is_ready some in

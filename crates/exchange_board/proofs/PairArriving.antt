@@ -100,7 +100,7 @@ low-of t e turn = elim (sides t e) [ inl l ↦ l | inr l ↦ absurd (false≢tru
 
 -- a slot that was traded, at rest at the next epoch
 abbrev pub rested_at : Traded → ℕ → Slot
-rested_at side e = record { epoch = e; home = Some (record { share = side.share; duo = side.duo; totals = None }) }
+rested_at side e = record { epoch = e; home = Some (record { share = side.share; duo = side.duo; totals = None; page = side.page }) }
 
 -- the board once both are back
 abbrev pub with_pair : board.Inside → pair_swept.Inside → List Record → board.Inside
@@ -117,14 +117,14 @@ with_pair b j rs = record {
 
 -- the home of a slot that waits with these sums
 abbrev low_home : swept.Inside → Totals → Home
-low_home s totals = record { share = s.share; duo = s.duo; totals = Some totals }
+low_home s totals = record { share = s.share; duo = s.duo; totals = Some totals; page = s.page }
 
 -- the warmer slot after the exchange
 abbrev hot_half : Plan → ℕ → ℕ → PairWheels → Duo → Duo → PlainSlot
 hot_half plan i k was own other = half plan i k false (part_pair was) (part_slot plan.size i own) (part_slot plan.size i other)
 
 pub pair-keeps : (b : board.Inside) (j : pair_swept.Inside) (o p : Origin) (rs ss : List Record) → PairComing b j → o ≡ arc_value b.origin → p ≡ arc_value b.origin
-    → RecordsAfter o j.slot j.epoch (λ i. record_at j.low.records i) b.records rs → RecordsAfter p (j.slot + 1) j.epoch (λ i. record_at j.high.records i) rs ss
+    → RecordsAfter o j.slot j.epoch (λ i. record_at j.low.page.value i) b.records rs → RecordsAfter p (j.slot + 1) j.epoch (λ i. record_at j.high.page.value i) rs ss
     → KeepsBoard (with_pair b j ss)
 pair-keeps b j o' p' rs ss c o_is p_is low_written high_written =
     let o : Origin = arc_value b.origin in
@@ -136,10 +136,10 @@ pair-keeps b j o' p' rs ss c o_is p_is low_written high_written =
     let low : swept.Inside = before j t j.low k.cold k.cold_sums in
     let high : swept.Inside = before j (t + 1) j.high k.hot k.hot_sums in
     let few : o.window.samples ≤ 64 = c.keeps.lawful.base.few_samples in
-    let W : Origin → Type 0 = λ x. RecordsAfter x t e (λ i. record_at j.low.records i) b.records rs in
-    let V : Origin → Type 0 = λ x. RecordsAfter x (t + 1) e (λ i. record_at j.high.records i) rs ss in
-    let first : Written b low plan rs = records-made o (arc_value j.low.share) t e k.cold j.low.records b.records rs c.same few k.low_records (subst W o_is low_written) in
-    let second : RecordsAfter o (t + 1) e (λ i. record_of plan i (part_slot plan.size i k.hot)) rs ss = records-made o (arc_value j.low.share) (t + 1) e k.hot j.high.records rs ss c.same few k.high_records (subst V p_is high_written) in
+    let W : Origin → Type 0 = λ x. RecordsAfter x t e (λ i. record_at j.low.page.value i) b.records rs in
+    let V : Origin → Type 0 = λ x. RecordsAfter x (t + 1) e (λ i. record_at j.high.page.value i) rs ss in
+    let first : Written b low plan rs = records-made o (arc_value j.low.share) t e k.cold j.low.page.value b.records rs c.same few k.low_records (subst W o_is low_written) in
+    let second : RecordsAfter o (t + 1) e (λ i. record_of plan i (part_slot plan.size i k.hot)) rs ss = records-made o (arc_value j.low.share) (t + 1) e k.hot j.high.page.value rs ss c.same few k.high_records (subst V p_is high_written) in
     let T : Origin → Type 0 = λ x. AreTotals (plan_of x) k.cold k.cold_totals in
     let G : Origin → Type 0 = λ x. (i : ℕ) → part_pair k.was ≡ generators (plan_of x) (starts x i) t e in
     let X : Origin → Type 0 = λ x. IsPairExchange (plan_of x) t k.cold k.hot j.low.duo j.high.duo k.was j.wheels in

@@ -1,6 +1,6 @@
 -- Two partners: their hand-out, and their exchange away from the board.
-use Rattle.std.proofs.Common.{arith, ◌≡◌, inl, inr, ℕ, ◌+◌, ◌-◌, ◌*◌, ◌<◌, true, false, List, [], length, get_or, set, Option, Some, None, refl, sym, ap, ap₂, ◌∙◌, subst}
-use Rattle.std.specs.Prelude.{IfNone}
+use Rattle.std.proofs.Common.{arith, ◌≡◌, inl, inr, ℕ, ◌+◌, ◌-◌, ◌*◌, ◌<◌, true, false, List, [], length, get_or, set, Option, Some, None, Global, refl, sym, ap, ap₂, ◌∙◌, subst}
+use Rattle.std.specs.Prelude.{IfNone, Box}
 use Rattle.std.specs.Arc.{arc_value}
 use Rattle.std.proofs.lemmas.Bool.{false≢true, not_from_false}
 use Rattle.std.proofs.lemmas.List.{length-set, get_or-set_other, get_or_default, set_comm}
@@ -153,20 +153,24 @@ takes-pair b c d j p first then =
           subst (TakesPair b d) (sym (same u (then.slot ∙ (l.pair_is ∙ sym l.partner_is)))) here
     ]
 
+-- what a swept slot keeps is not about its page
+another-page : (s : swept.Inside) (page : Box (List Record) Global) → KeepsSwept s → KeepsSwept (record s { page = page })
+another-page s page k = record { known = k.known; every = k.every; later = k.later; fits = k.fits; right = k.right; sums = k.sums }
+
 -- two partners after their sweeps and their exchange
-pub swept-pair : (l h : swept.Inside) (v w : JobView) (was now : PairWheels) (totals : Totals) (cold hot : Duo) (cold_records hot_records : List Record)
+pub swept-pair : (l h : swept.Inside) (v w : JobView) (was now : PairWheels) (totals : Totals) (cold hot : Duo) (cold_page hot_page : Box (List Record) Global)
     → KeepsSwept l → KeepsSwept h → swept_view l ≡ v → swept_view h ≡ w → ArePartners v w
     → ((i : ℕ) → part_pair was ≡ generators (plan_of v.origin) (starts v.origin i) v.slot v.epoch)
     → AreTotals (plan_of v.origin) l.duo totals → IsPairExchange (plan_of v.origin) l.slot l.duo h.duo cold hot was now
-    → AreRecords v.origin l.epoch l.duo cold_records → AreRecords v.origin l.epoch h.duo hot_records
+    → AreRecords v.origin l.epoch l.duo cold_page.value → AreRecords v.origin l.epoch h.duo hot_page.value
     → (let j : pair_swept.Inside = record {
       slot = l.slot;
       epoch = l.epoch;
-      low = record { share = l.share; duo = cold; records = cold_records };
-      high = record { share = h.share; duo = hot; records = hot_records };
+      low = record { share = l.share; duo = cold; page = cold_page };
+      high = record { share = h.share; duo = hot; page = hot_page };
       wheels = now;
     } in KeepsSweptPair j)
-swept-pair l h v w was now totals cold hot cold_records hot_records keeps_l keeps_h l_is h_is partners right counted traded cold_right hot_right =
+swept-pair l h v w was now totals cold hot cold_page hot_page keeps_l keeps_h l_is h_is partners right counted traded cold_right hot_right =
     let o : Origin = arc_value l.share in
     let back_to : v.origin ≡ o = ap (λ (x : JobView). x.origin) (sym l_is) in
     let slot : v.slot ≡ l.slot = ap (λ (x : JobView). x.slot) (sym l_is) in
@@ -175,15 +179,15 @@ swept-pair l h v w was now totals cold hot cold_records hot_records keeps_l keep
     let high_epoch : h.epoch ≡ l.epoch = ap (λ (x : JobView). x.epoch) h_is ∙ (partners.epoch ∙ epoch) in
     let same : arc_value h.share ≡ o = ap (λ (x : JobView). x.origin) h_is ∙ (partners.same ∙ back_to) in
     let turned : has_turn l.slot l.epoch ≡ true = ap₂ has_turn (sym slot) (sym epoch) ∙ partners.turn in
-    let made : ℕ → ℕ → swept.Inside = λ s e. record { slot = s; epoch = e; share = h.share; duo = h.duo; sums = h.sums } in
+    let made : ℕ → ℕ → swept.Inside = λ s e. record { slot = s; epoch = e; share = h.share; duo = h.duo; sums = h.sums; page = h.page } in
     let high : KeepsSwept (made (l.slot + 1) l.epoch) = subst KeepsSwept (ap₂ made high_slot high_epoch) keeps_h in
     let G : Origin → ℕ → ℕ → Type 0 = λ x s e. (i : ℕ) → part_pair was ≡ generators (plan_of x) (starts x i) s e in
     let g1 : G o v.slot v.epoch = subst (λ (x : Origin). G x v.slot v.epoch) back_to right in
     let g2 : G o l.slot v.epoch = subst (λ s. G o s v.epoch) slot g1 in
     let T : Origin → Type 0 = λ x. AreTotals (plan_of x) l.duo totals in
     let X : Origin → Type 0 = λ x. IsPairExchange (plan_of x) l.slot l.duo h.duo cold hot was now in
-    let R : Origin → Type 0 = λ x. AreRecords x l.epoch l.duo cold_records in
-    let S : Origin → Type 0 = λ x. AreRecords x l.epoch h.duo hot_records in
+    let R : Origin → Type 0 = λ x. AreRecords x l.epoch l.duo cold_page.value in
+    let S : Origin → Type 0 = λ x. AreRecords x l.epoch h.duo hot_page.value in
     record {
       cold = l.duo;
       cold_sums = l.sums;
@@ -193,8 +197,8 @@ swept-pair l h v w was now totals cold hot cold_records hot_records keeps_l keep
       was = was;
       turn = turned;
       same = same;
-      low_swept = keeps_l;
-      high_swept = high;
+      low_swept = another-page l cold_page keeps_l;
+      high_swept = another-page (made (l.slot + 1) l.epoch) hot_page high;
       totals = subst T back_to counted;
       generators_are = subst (λ e. G o l.slot e) epoch g2;
       traded = subst X back_to traded;

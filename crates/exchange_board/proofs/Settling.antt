@@ -166,7 +166,7 @@ two b u y t x ws rs = record {
 }
 
 abbrev pub swapped : swept.Inside → Duo → Slot
-swapped s own = record { epoch = s.epoch + 1; home = Some (record { share = s.share; duo = own; totals = None }) }
+swapped s own = record { epoch = s.epoch + 1; home = Some (record { share = s.share; duo = own; totals = None; page = s.page }) }
 
 -- the partner's place afterwards
 met-place : (e : ℕ) (y : Slot) (z : Home) → y.home ≡ Some z → z.totals ≡ None → y.epoch ≡ e + 1 → place_of y ≡ ready_at (e + 1)

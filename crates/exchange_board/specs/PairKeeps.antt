@@ -55,7 +55,7 @@ swept_pair_view j = record { origin = arc_value j.low.share; slot = j.slot; epoc
 
 -- a slot of the pair as it was swept, before the exchange
 abbrev pub before : pair_swept.Inside → ℕ → Traded → Duo → Sums → swept.Inside
-before j slot side duo sums = record { slot = slot; epoch = j.epoch; share = side.share; duo = duo; sums = sums }
+before j slot side duo sums = record { slot = slot; epoch = j.epoch; share = side.share; duo = duo; sums = sums; page = side.page }
 
 -- the records of a slot with this content, where its epoch is recorded
 abbrev pub AreRecords : Origin → ℕ → Duo → List Record → Type 0
@@ -86,5 +86,5 @@ pub record KeepsSweptPair (j : pair_swept.Inside) : Type 0 where
   pub totals : AreTotals (plan_of (arc_value j.low.share)) cold cold_totals
   pub generators_are : (i : ℕ) → part_pair was ≡ generators (plan_of (arc_value j.low.share)) (starts (arc_value j.low.share) i) j.slot j.epoch
   pub traded : IsPairExchange (plan_of (arc_value j.low.share)) j.slot cold hot j.low.duo j.high.duo was j.wheels
-  pub low_records : AreRecords (arc_value j.low.share) j.epoch cold j.low.records
-  pub high_records : AreRecords (arc_value j.low.share) j.epoch hot j.high.records
+  pub low_records : AreRecords (arc_value j.low.share) j.epoch cold j.low.page.value
+  pub high_records : AreRecords (arc_value j.low.share) j.epoch hot j.high.page.value

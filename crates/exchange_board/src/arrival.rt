@@ -11,7 +11,7 @@ use crate::board::{Board, Home, Slot};
 use crate::job::Swept;
 use crate::origin::Origin;
 use crate::pair::{PairSwept, Traded};
-use crate::rows::{SlotEpoch, put_records, record_slot};
+use crate::rows::{Page, SlotEpoch, put_records, record_slot};
 use crate::totals::totals_of;
 use crate::trading::{PlanPair, Side, meet};
 use plane_sweep::Duo;
@@ -54,8 +54,8 @@ pub(crate) fn partner_among(slots: u32, slot: u32, epoch: u64) -> Option<u32>
 }
 
 // A slot at rest.
-fn at_rest(share: Arc<Origin, Global>, duo: Duo, epoch: u64) -> Slot
-    ensures { result ≡ record { epoch = epoch; home = Some (record { share = share; duo = duo; totals = None }) } }
+fn at_rest(share: Arc<Origin, Global>, duo: Duo, page: Page, epoch: u64) -> Slot
+    ensures { result ≡ record { epoch = epoch; home = Some (record { share = share; duo = duo; totals = None; page = page }) } }
 {
     Slot {
         epoch,
@@ -63,6 +63,7 @@ fn at_rest(share: Arc<Origin, Global>, duo: Duo, epoch: u64) -> Slot
             share,
             duo,
             totals: None,
+            page,
         }),
     }
 }
@@ -120,29 +121,21 @@ impl Board {
             high,
             wheels,
         } = swept;
-        let Traded {
-            share,
-            duo,
-            records: made,
-        } = low;
+        let Traded { share, duo, page } = low;
         put_records(
             &mut self.records,
-            &made,
+            &page,
             &self.origin,
             SlotEpoch { slot, epoch },
         );
-        *self.slots.at_mut(slot as usize) = at_rest(share, duo, epoch + 1);
-        let Traded {
-            share,
-            duo,
-            records: made,
-        } = high;
+        *self.slots.at_mut(slot as usize) = at_rest(share, duo, page, epoch + 1);
+        let Traded { share, duo, page } = high;
         let next = SlotEpoch {
             slot: slot + 1,
             epoch,
         };
-        put_records(&mut self.records, &made, &self.origin, next);
-        *self.slots.at_mut(slot as usize + 1) = at_rest(share, duo, epoch + 1);
+        put_records(&mut self.records, &page, &self.origin, next);
+        *self.slots.at_mut(slot as usize + 1) = at_rest(share, duo, page, epoch + 1);
         *self.pairs.at_mut(slot as usize) = wheels;
     }
 
@@ -184,10 +177,11 @@ impl Board {
             share,
             duo,
             sums,
+            page,
         } = swept;
         let at = SlotEpoch { slot, epoch };
         record_slot(&mut self.records, &duo, &sums, plan, &self.origin, at);
-        *self.slots.at_mut(slot as usize) = at_rest(share, duo, epoch + 1);
+        *self.slots.at_mut(slot as usize) = at_rest(share, duo, page, epoch + 1);
     }
 
     fn wait(&mut self, plan: &Plan, swept: Swept)
@@ -205,6 +199,7 @@ impl Board {
             share,
             duo,
             sums,
+            page,
         } = swept;
         let at = SlotEpoch { slot, epoch };
         record_slot(&mut self.records, &duo, &sums, plan, &self.origin, at);
@@ -215,6 +210,7 @@ impl Board {
                 share,
                 duo,
                 totals: Some(totals),
+                page,
             }),
         };
     }
@@ -235,6 +231,7 @@ impl Board {
             share,
             mut duo,
             sums,
+            page,
         } = swept;
         let at = SlotEpoch { slot, epoch };
         record_slot(&mut self.records, &duo, &sums, plan, &self.origin, at);
@@ -248,6 +245,6 @@ impl Board {
             is_low,
         };
         meet(mate, &mut duo, &totals, wheels, &side);
-        *self.slots.at_mut(slot as usize) = at_rest(share, duo, epoch + 1);
+        *self.slots.at_mut(slot as usize) = at_rest(share, duo, page, epoch + 1);
     }
 }

@@ -13,6 +13,7 @@ use crate::job::Job;
 use crate::origin::Origin;
 use crate::pair::PairJob;
 use crate::room::Room;
+use crate::rows::Page;
 use crate::totals::Totals;
 use plain_list::Items;
 use plane_sweep::{Duo, PairWheels, Place};
@@ -21,12 +22,13 @@ use std::alloc::Global;
 use std::marker::Model;
 use std::sync::Arc;
 
-/// A slot's content at home with a share of the origin, and its sums where it waits for its partner.
+/// A slot's content at home with a share of the origin, its sums where it waits for its partner, and its page.
 #[derive(Drop)]
 pub(crate) struct Home {
     pub(crate) share: Arc<Origin, Global>,
     pub(crate) duo: Duo,
     pub(crate) totals: Option<Totals>,
+    pub(crate) page: Page,
 }
 
 /// A slot's epoch, and its content unless it is in work.
@@ -220,6 +222,7 @@ impl Board {
                 epoch: place.epoch,
                 share: home.share,
                 duo: home.duo,
+                page: home.page,
             },
             None => unreachable!(),
         }

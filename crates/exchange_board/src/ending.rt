@@ -36,6 +36,7 @@ fn emptied(slots: Items<Slot>, duos: Items<Duo>) -> Items<Duo>
                     share: _,
                     duo,
                     totals: _,
+                    page: _,
                 },
             ) => *duos.at_mut(t) = duo,
             None => unreachable!(),

@@ -14,13 +14,13 @@ ghost use Rattle.exchange_board.specs.Opening.{Begins, AreFirst};
 use crate::board::{Board, Home, Slot};
 use crate::origin::{Origin, Window};
 use crate::room::Room;
-use crate::rows::{NO_RECORD, rows_of};
+use crate::rows::{NO_RECORD, Page, rows_of};
 use crate::totals::count_totals;
 use glass_edges::NoMemory;
 use plain_list::Items;
 use plane_sweep::{Duo, Place, RaggedStand, Replica, Stand, cell_at, deepest, has_record};
 use scalar_rule::{Plan, Record};
-use std::alloc::Global;
+use std::alloc::{AllocError, Global};
 use std::sync::Arc;
 
 // So many records of zeros.
@@ -95,7 +95,7 @@ fn opening_records(alloc: Global, origin: &Origin) -> Result<Items<Record>, NoMe
 }
 
 // A slot at the place where it begins.
-fn opened_slot(share: Arc<Origin, Global>, plan: &Plan, place: Place, duo: Duo) -> Slot
+fn opened_slot(share: Arc<Origin, Global>, plan: &Plan, place: Place, duo: Duo, page: Page) -> Slot
     requires plan { plan.now ≡ arc_value (arc_value share).plan }
     requires duo { FitsDuo plan.now.size duo }
     ensures epoch { result.epoch ≡ place.epoch }
@@ -108,7 +108,12 @@ fn opened_slot(share: Arc<Origin, Global>, plan: &Plan, place: Place, duo: Duo) 
     };
     Slot {
         epoch: place.epoch,
-        home: Some(Home { share, duo, totals }),
+        home: Some(Home {
+            share,
+            duo,
+            totals,
+            page,
+        }),
     }
 }
 
@@ -154,7 +159,8 @@ fn opening_slots(
         let share = Arc::try_clone(origin)?;
         let duo = std::mem::replace(contents.at_mut(t), no_duo(alloc));
         let place = *origin.base.places.at(t);
-        slots.push(opened_slot(share, &origin.plan, place, duo))?;
+        let page = Box::new(alloc, [NO_RECORD; 64]).map_err(AllocError::from)?;
+        slots.push(opened_slot(share, &origin.plan, place, duo, page))?;
     }
     Ok(Items::of(slots))
 }

@@ -9,11 +9,11 @@ ghost use Rattle.exchange_board.specs.PairKeeps.{ArePartners};
 
 use crate::job::{Job, Swept};
 use crate::origin::Origin;
-use crate::rows::slot_records;
+use crate::rows::{Page, fill_page};
 use crate::totals::totals_of;
 use crate::trading::{PlanPair, exchange_slots};
 use plane_sweep::{Duo, PairWheels};
-use scalar_rule::{Plan, Record, is_recorded};
+use scalar_rule::{Plan, is_recorded};
 use std::alloc::Global;
 use std::marker::Model;
 use std::sync::Arc;
@@ -36,22 +36,18 @@ pub struct PairSwept {
     pub(crate) wheels: PairWheels,
 }
 
-/// One slot of a pair: its content after the exchange, and its records from before it.
+/// One slot of a pair: its content after the exchange, and on its page its records from before it.
 pub(crate) struct Traded {
     pub(crate) share: Arc<Origin, Global>,
     pub(crate) duo: Duo,
-    pub(crate) records: [Record; 64],
+    pub(crate) page: Page,
 }
 
 impl Traded {
-    fn new(share: Arc<Origin, Global>, duo: Duo, records: [Record; 64]) -> Traded
-        ensures { result ≡ record { share = share; duo = duo; records = records } }
+    fn new(share: Arc<Origin, Global>, duo: Duo, page: Page) -> Traded
+        ensures { result ≡ record { share = share; duo = duo; page = page } }
     {
-        Traded {
-            share,
-            duo,
-            records,
-        }
+        Traded { share, duo, page }
     }
 }
 
@@ -140,6 +136,7 @@ fn exchange_pair(low: Swept, high: Swept, mut wheels: PairWheels, plan: &Plan) -
         share: low_share,
         duo: mut cold,
         sums: cold_sums,
+        page: mut cold_page,
     } = low;
     let Swept {
         slot: _,
@@ -147,10 +144,11 @@ fn exchange_pair(low: Swept, high: Swept, mut wheels: PairWheels, plan: &Plan) -
         share: high_share,
         duo: mut hot,
         sums: hot_sums,
+        page: mut hot_page,
     } = high;
     let is_recorded = is_recorded(low_share.window.every, epoch);
-    let cold_records = slot_records(&cold, &cold_sums, plan, is_recorded);
-    let hot_records = slot_records(&hot, &hot_sums, plan, is_recorded);
+    fill_page(&mut cold_page, &cold, &cold_sums, plan, is_recorded);
+    fill_page(&mut hot_page, &hot, &hot_sums, plan, is_recorded);
     let cold_totals = totals_of(&cold, &cold_sums, plan);
     let hot_totals = totals_of(&hot, &hot_sums, plan);
     let pair = PlanPair { plan, number: slot };
@@ -165,8 +163,8 @@ fn exchange_pair(low: Swept, high: Swept, mut wheels: PairWheels, plan: &Plan) -
     PairSwept {
         slot,
         epoch,
-        low: Traded::new(low_share, cold, cold_records),
-        high: Traded::new(high_share, hot, hot_records),
+        low: Traded::new(low_share, cold, cold_page),
+        high: Traded::new(high_share, hot, hot_page),
         wheels,
     }
 }

@@ -13,6 +13,7 @@ use crate::totals::{Sums, measure, record_of};
 use plain_list::Items;
 use plane_sweep::Duo;
 use scalar_rule::{Plan, Record, is_recorded};
+use std::alloc::Global;
 
 /// A record of zeros.
 pub(crate) const NO_RECORD: Record = Record {
@@ -22,6 +23,10 @@ pub(crate) const NO_RECORD: Record = Record {
     first_replica: 0,
     second_replica: 0,
 };
+
+/// Room for the records of a slot at one epoch. It goes where the slot goes, so that nothing is copied but what
+/// goes to its row.
+pub(crate) type Page = Box<[Record; 64], Global>;
 
 /// Where the records of a slot at an epoch go, where the epoch is recorded: `at` is the number of
 /// recorded epochs before it, times the samples.
@@ -91,25 +96,31 @@ pub(crate) fn record_slot(
     requires sized { length records.old ≡ row_total origin.now }
     ensures { RecordsAfter origin.now at.slot at.epoch (λ i. model.record_of plan.now i (part_slot plan.now.size i duo.now)) records.old records.new }
 {
-    let rows = rows_of(origin, at.slot, at.epoch);
-    let made = slot_records(duo, sums, plan, rows.is_recorded);
-    put_rows(records, &made, &rows);
+    if is_recorded(origin.window.every, at.epoch) {
+        let mut made = [NO_RECORD; 64];
+        fill_page(&mut made, duo, sums, plan, true);
+        put_records(records, &made, origin, at);
+    }
 }
 
-/// The records of a slot in all samples, where they are wanted.
-pub(crate) fn slot_records(duo: &Duo, sums: &Sums, plan: &Plan, is_wanted: bool) -> [Record; 64]
+/// Writes the records of a slot in all samples, where they are wanted.
+pub(crate) fn fill_page(
+    page: &mut [Record; 64],
+    duo: &Duo,
+    sums: &Sums,
+    plan: &Plan,
+    is_wanted: bool,
+)
     requires duo { FitsDuo plan.now.size duo.now }
     requires sums { AreSums plan.now duo.now sums.now }
-    ensures { is_wanted ≡ true → (b : ℕ) → b < 64 → record_at result b ≡ model.record_of plan.now b (part_slot plan.now.size b duo.now) }
+    ensures { is_wanted ≡ true → (b : ℕ) → b < 64 → record_at page.new b ≡ model.record_of plan.now b (part_slot plan.now.size b duo.now) }
 {
-    let mut records = [NO_RECORD; 64];
     if is_wanted {
         let measured = measure(duo, sums, plan);
         'samples: for b in 0..64u32 {
-            records[b as usize] = record_of(duo, &measured, plan, b);
+            page[b as usize] = record_of(duo, &measured, plan, b);
         }
     }
-    records
 }
 
 // The record of a sample.
@@ -150,6 +161,9 @@ pub(crate) fn put_records(
     requires sized { length records.old ≡ row_total origin.now }
     ensures { RecordsAfter origin.now at.slot at.epoch (λ i. record_at made.now i) records.old records.new }
 {
-    let rows = rows_of(origin, at.slot, at.epoch);
-    put_rows(records, made, &rows);
+    // Workers wait for this, and where the rows are takes two divisions and a look at all places to say.
+    if is_recorded(origin.window.every, at.epoch) {
+        let rows = rows_of(origin, at.slot, at.epoch);
+        put_rows(records, made, &rows);
+    }
 }

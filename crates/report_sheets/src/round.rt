@@ -31,7 +31,8 @@ pub(crate) struct Pace {
 
 impl Pace {
     /// The pace of rounds of so many sheets. The last sheet of a round is filled by the thread that puts the
-    /// sheets of the round before, so of n sheets it has the nth part of the epochs of another, and at least one.
+    /// sheets of the round before, each of which takes an eighth of the time of its filling: so the last of n has
+    /// 9 - n eighths of the epochs of another, and at least one.
     pub(crate) fn of(step: u64, sheets: usize, end: u64) -> Pace
         requires step { 1 ≤ step }
         requires sheets { 0 < sheets }
@@ -42,9 +43,11 @@ impl Pace {
     {
         let sheets = sheets as u64;
         let others = step.saturating_mul(sheets - 1);
+        let eighths = 9 - sheets.min(9);
+        let last = (step.saturating_mul(eighths) / 8).min(step).max(1);
         Pace {
             step,
-            span: others.saturating_add((step / sheets).max(1)),
+            span: others.saturating_add(last),
             end,
         }
     }

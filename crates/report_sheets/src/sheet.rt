@@ -8,19 +8,33 @@ use glass_edges::{Fault, NoMemory, Sink};
 use std::alloc::Global;
 use std::marker::Model;
 
-/// The rows that a sheet of a run is filled with at most.
-pub(crate) const SHEET_ROWS: u64 = 16384;
+/// The rows for which a sheet of a run has room at least, where there are as many.
+const SHEET_ROWS: u64 = 16384;
+
+/// The rows for which all sheets of a round have room at least, where threads fill them: a round starts its threads
+/// anew.
+const ROUND_ROWS: u64 = 131072;
 
 /// The bytes of room that a sheet has for a row; those of a run have fewer. Speed alone depends on it.
 const ROW_ROOM: usize = 64;
 
-/// So many sheets for a report of so many rows. All their memory is taken here.
+/// The rows with which a sheet is filled, of so many sheets a round. Speed alone depends on it.
+pub(crate) fn rows_a_sheet(sheets: usize) -> u64
+    ensures { result ≤ ROUND_ROWS }
+{
+    if sheets < 2 {
+        return SHEET_ROWS;
+    }
+    (ROUND_ROWS / sheets as u64).max(SHEET_ROWS)
+}
+
+/// So many sheets for a report of so many rows, half of which are a round. All their memory is taken here.
 ///
 /// # Errors
 ///
 /// Refuses only for want of memory.
 pub fn sheets_for(alloc: Global, count: usize, rows: u64) -> Result<Vec<Sheet>, NoMemory> {
-    let room = rows.min(SHEET_ROWS) as usize * ROW_ROOM;
+    let room = rows.min(rows_a_sheet(count / 2)) as usize * ROW_ROOM;
     let mut sheets = Vec::with_capacity(alloc, count)?;
     for _ in 0..count {
         sheets.push(Sheet::new(alloc, room)?)?;

@@ -7,7 +7,7 @@ ghost use Rattle.std.specs.Thread.{IsSync};
 ghost use Rattle.report_sheets.specs.Sheets.{AreFilled, CanTurn, IsAlone, IsFilledWith};
 
 use crate::round::{Pace, Round};
-use crate::sheet::{SHEET_ROWS, Sheet};
+use crate::sheet::{Sheet, rows_a_sheet};
 use crate::source::RowSource;
 use glass_edges::{Fault, Line, Sink, put_all};
 use std::thread::{self, Threads};
@@ -53,7 +53,7 @@ pub fn put_rows_by<R: Threads + Sync, O: Sink, S: RowSource + Sync>(
         return put_rows(out, rows);
     }
     let (front, back) = sheets.split_at_mut(half);
-    let pace = Pace::of(rows.epochs_of(SHEET_ROWS), half, rows.last());
+    let pace = Pace::of(rows.epochs_of(rows_a_sheet(half)), half, rows.last());
     let mut done = pace.empty(rows.first());
     'rounds: while done.first < pace.end {
         let next = pace.round(done.last);

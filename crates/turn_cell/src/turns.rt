@@ -8,7 +8,11 @@ use crate::kept::Kept;
 use crate::pass::{Pass, Tried};
 use crate::steps::{Give, Try};
 use crossbeam_utils::Backoff;
+use std::hint;
 use std::sync::Wait;
+
+// How often a worker that waits looks at a word before it gives its processor away: some 5 microseconds.
+const LOOKS: u32 = 100;
 
 impl<V: Kept> TurnCell<V> {
     /// Takes the lock, waiting until it is free, and answers its value.
@@ -28,10 +32,22 @@ impl<V: Kept> TurnCell<V> {
         for _ in rt.forever() {
             match self.try_turn(pass) {
                 Tried::Turn(value) => return value,
-                Tried::Busy => backoff.snooze(),
+                Tried::Busy => self.await_turn(&backoff),
             }
         }
         unreachable!()
+    }
+
+    // Waits a little while the lock is held. It looks and doesn't try, since a try takes the word's line of
+    // memory from the holder's processor, which stores the words beside it.
+    fn await_turn(&self, backoff: &Backoff) {
+        for _ in 0..LOOKS {
+            if self.table.shared.peek(0) == 0 {
+                return;
+            }
+            hint::spin_loop();
+        }
+        backoff.snooze();
     }
 
     /// Tries once to take the lock, by one atomic step, and waits for nobody.

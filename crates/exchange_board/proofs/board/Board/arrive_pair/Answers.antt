@@ -12,16 +12,16 @@ coming c =
     c.requires.same c.requires.known c.requires.low c.requires.high
 
 pub put_records-requires-clause-from : goal.put_records-requires-clause-from
-put_records-requires-clause-from c = from-pair _ _ _ (coming (goal.at.put_records-requires-clause-from c).After-deref) c.deref.ensures
+put_records-requires-clause-from c = from-pair _ _ _ (coming (goal.at.put_records-requires-clause-from c).After-deref) c.deref-2.ensures
 
 pub put_records-requires-clause-below : goal.put_records-requires-clause-below
-put_records-requires-clause-below c = below-pair _ _ _ (coming (goal.at.put_records-requires-clause-below c).After-deref) c.deref.ensures
+put_records-requires-clause-below c = below-pair _ _ _ (coming (goal.at.put_records-requires-clause-below c).After-deref) c.deref-2.ensures
 
 pub put_records-requires-2-clause-from : goal.put_records-requires-2-clause-from
-put_records-requires-2-clause-from c = from-pair _ _ _ (coming (goal.at.put_records-requires-2-clause-from c).After-deref) c.deref-2.ensures
+put_records-requires-2-clause-from c = from-pair _ _ _ (coming (goal.at.put_records-requires-2-clause-from c).After-deref) c.deref-4.ensures
 
 pub put_records-requires-2-clause-below : goal.put_records-requires-2-clause-below
-put_records-requires-2-clause-below c = below-pair _ _ _ (coming (goal.at.put_records-requires-2-clause-below c).After-deref) c.deref-2.ensures
+put_records-requires-2-clause-below c = below-pair _ _ _ (coming (goal.at.put_records-requires-2-clause-below c).After-deref) c.deref-4.ensures
 
 pub overflow_add-epoch : goal.overflow_add-epoch
 overflow_add-epoch c = omega (arith, epoch-short _ _ (coming (goal.at.overflow_add-epoch c).After-deref))
@@ -29,8 +29,8 @@ overflow_add-epoch c = omega (arith, epoch-short _ _ (coming (goal.at.overflow_a
 pub invariant_of-self : goal.invariant_of-self
 invariant_of-self c =
     rw (c.at_rest.ensures, c.at_rest-2.ensures)
-    (pair-keeps c.self.inside c.swept.inside c.deref.result.now c.deref-2.result.now c.put_records.new.records c.put_records-2.new.records
-    (coming (goal.at.invariant_of-self c).After-deref) c.deref.ensures c.deref-2.ensures c.put_records.ensures c.put_records-2.ensures)
+    (pair-keeps c.self.inside c.swept.inside c.deref-2.result.now c.deref-4.result.now c.put_records.new.records c.put_records-2.new.records
+    (coming (goal.at.invariant_of-self c).After-deref) c.deref-2.ensures c.deref-4.ensures (rw c.deref.ensures at c.put_records.ensures) (rw c.deref-3.ensures at c.put_records-2.ensures))
 
 pub returns-clause-moved : goal.returns-clause-moved
 returns-clause-moved c = rw (← c.self.view_is, ← c.swept.view_is) (simp (map-set, c.at_rest.ensures, c.at_rest-2.ensures))

@@ -3,10 +3,10 @@ use Rattle.std.proofs.Common.{◌≡◌, ℕ, ◌<◌, length}
 use Rattle.scalar_rule.specs.Epoch.{record_of}
 use Rattle.plane_sweep.specs.Packed.{part_slot}
 use Rattle.exchange_board.specs.Content.{record_at}
-use Rattle.exchange_board.proofs.rows.slot_records.Given as goal
+use Rattle.exchange_board.proofs.rows.fill_page.Given as goal
 
 abbrev pub invariant-samples : goal.invariant-samples
 invariant-samples l = record {
-  sized : length l.records ≡ 64;
-  made : (k : ℕ) → k < l.b → record_at l.records k ≡ record_of l.plan k (part_slot l.plan.size k l.duo);
+  sized : length l.page ≡ 64;
+  made : (k : ℕ) → k < l.b → record_at l.page k ≡ record_of l.plan k (part_slot l.plan.size k l.duo);
 }
