@@ -11,7 +11,7 @@ use crossbeam_utils::Backoff;
 use std::hint;
 use std::sync::Wait;
 
-// How often a worker that waits looks at a word before it gives its processor away: some 5 microseconds.
+// How often a worker that waits looks at the lock's word before it gives its processor away: for some microseconds.
 const LOOKS: u32 = 100;
 
 impl<V: Kept> TurnCell<V> {
