@@ -161,7 +161,7 @@ pub(crate) fn put_records(
     requires sized { length records.old ≡ row_total origin.now }
     ensures { RecordsAfter origin.now at.slot at.epoch (λ i. record_at made.now i) records.old records.new }
 {
-    // Workers wait for this, and where the rows are takes two divisions and a look at all places to say.
+    // Where the rows are is found by divisions and a look at all places, and other workers wait meanwhile.
     if is_recorded(origin.window.every, at.epoch) {
         let rows = rows_of(origin, at.slot, at.epoch);
         put_rows(records, made, &rows);

@@ -31,8 +31,8 @@ pub(crate) struct Pace {
 
 impl Pace {
     /// The pace of rounds of so many sheets. The last sheet of a round is filled by the thread that puts the
-    /// sheets of the round before, each of which takes an eighth of the time of its filling: so the last of n has
-    /// 9 - n eighths of the epochs of another, and at least one.
+    /// sheets of the round before. To put a sheet takes some eighth of the time of filling it, so the last of n
+    /// has 9 - n eighths of the epochs of another, and at least one epoch.
     pub(crate) fn of(step: u64, sheets: usize, end: u64) -> Pace
         requires step { 1 ≤ step }
         requires sheets { 0 < sheets }
