@@ -4,6 +4,7 @@ ghost use Rattle.std.specs.Prelude.{◌≡◌, ℕ, ◌+◌, ◌*◌, ◌<◌, �
 ghost use Rattle.spin_model.specs.Limits.{most_rows};
 ghost use Rattle.plane_sweep.specs.Packed.{part_slot, FitsDuo};
 ghost use Rattle.scalar_rule.specs.Epoch as model;
+ghost use Rattle.scalar_rule.specs.Records as records_model;
 ghost use Rattle.exchange_board.specs.Content.{slots_in, floor_in, record_at, row_total, IsLawfulOrigin};
 ghost use Rattle.exchange_board.specs.Meeting.{AreRowsOf, RowsAfter, RecordsAfter};
 ghost use Rattle.exchange_board.specs.Totals.{AreSums};
@@ -28,11 +29,10 @@ pub(crate) const NO_RECORD: Record = Record {
 /// goes to its row.
 pub(crate) type Page = Box<[Record; 64], Global>;
 
-/// Where the records of a slot at an epoch go, where the epoch is recorded: `at` is the number of
-/// recorded epochs before it, times the samples.
+/// Where the records of a slot at a recorded epoch go: `at` is the number of recorded epochs before it, times
+/// the samples.
 #[derive(Clone, Copy)]
 pub(crate) struct Rows {
-    pub(crate) is_recorded: bool,
     pub(crate) at: usize,
     pub(crate) samples: u32,
     pub(crate) slots: usize,
@@ -51,19 +51,19 @@ impl Rows {
     }
 }
 
-/// The places of the records of a slot at an epoch.
+/// The places of the records of a slot at a recorded epoch.
 pub(crate) fn rows_of(origin: &Origin, slot: u32, epoch: u64) -> Rows
     requires lawful { IsLawfulOrigin origin.now }
     requires slot { slot < slots_in origin.now }
     requires from { floor_in origin.now ≤ epoch }
     requires below { epoch < origin.now.window.until }
+    requires recorded { records_model.is_recorded origin.now.window.every epoch ≡ true }
     ensures rows { AreRowsOf origin.now slot epoch result }
-    ensures room { result.is_recorded ≡ true → (result.at + result.samples) * result.slots ≤ row_total origin.now }
+    ensures room { (result.at + result.samples) * result.slots ≤ row_total origin.now }
 {
     let every = origin.window.every;
     let before = epoch / every - origin.base.floor() / every;
     Rows {
-        is_recorded: is_recorded(every, epoch),
         at: before as usize * origin.window.samples as usize,
         samples: origin.window.samples,
         slots: origin.base.slots.len(),
@@ -132,18 +132,16 @@ fn record_in(made: &[Record; 64], sample: u32) -> Record
     made[sample as usize]
 }
 
-// The records of a slot that are made go to their places, where its epoch is recorded.
+// The records of a slot that are made go to their places.
 fn put_rows(records: &mut Items<Record>, made: &[Record; 64], rows: &Rows)
     requires samples { rows.now.samples ≤ 64 }
     requires slot { rows.now.slot < rows.now.slots }
     requires few { length records.old ≤ most_rows }
-    requires room { rows.now.is_recorded ≡ true → (rows.now.at + rows.now.samples) * rows.now.slots ≤ length records.old }
+    requires room { (rows.now.at + rows.now.samples) * rows.now.slots ≤ length records.old }
     ensures { RowsAfter rows.now (λ i. record_at made.now i) records.old records.new }
 {
-    if rows.is_recorded {
-        'samples: for i in 0..rows.samples {
-            *records.at_mut(rows.place(i)) = record_in(made, i);
-        }
+    'samples: for i in 0..rows.samples {
+        *records.at_mut(rows.place(i)) = record_in(made, i);
     }
 }
 
@@ -162,7 +160,8 @@ pub(crate) fn put_records(
     ensures { RecordsAfter origin.now at.slot at.epoch (λ i. record_at made.now i) records.old records.new }
 {
     // Where the rows are is found by divisions and a look at all places, and other workers wait meanwhile.
-    if is_recorded(origin.window.every, at.epoch) {
+    let every = origin.window.every;
+    if is_recorded(every, at.epoch) {
         let rows = rows_of(origin, at.slot, at.epoch);
         put_rows(records, made, &rows);
     }

@@ -37,6 +37,9 @@ has_record-requires-clause-short c = λ t h. ahead-short c.args.origin.now c.arg
 pub rows_of-rows-requires-clause-below : goal.rows_of-rows-requires-clause-below
 rows_of-rows-requires-clause-below c = (ahead (goal.at.rows_of-rows-requires-clause-below c).Then-has_record).cell_is.below
 
+pub rows_of-rows-requires-clause-recorded : goal.rows_of-rows-requires-clause-recorded
+rows_of-rows-requires-clause-recorded c = (ahead (goal.at.rows_of-rows-requires-clause-recorded c).Then-has_record).cell_is.printed
+
 pub place-requires-clause-sample : goal.place-requires-clause-sample
 place-requires-clause-sample c =
     let cell = (ahead (goal.at.place-requires-clause-sample c).Then-has_record).cell_is in
@@ -50,8 +53,7 @@ place-requires-clause-slot c =
 
 pub place-requires-clause-few : goal.place-requires-clause-few
 place-requires-clause-few c =
-    let cell = (ahead (goal.at.place-requires-clause-few c).Then-has_record).cell_is in
-    let room = c.rows_of-rows.ensures.room (c.rows_of-rows.ensures.rows.recorded ∙ cell.printed) in
+    let room = c.rows_of-rows.ensures.room in
     omega (arith, room, c.requires.lawful.rows)
 
 pub at-row-requires : goal.at-row-requires

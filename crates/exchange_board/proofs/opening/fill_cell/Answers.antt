@@ -40,6 +40,9 @@ has_record-requires-clause-short c = λ t h. place-short c.args.origin.now t c.r
 pub rows_of-rows-requires-clause-below : goal.rows_of-rows-requires-clause-below
 rows_of-rows-requires-clause-below c = (kept (goal.at.rows_of-rows-requires-clause-below c).Then-has_record).below
 
+pub rows_of-rows-requires-clause-recorded : goal.rows_of-rows-requires-clause-recorded
+rows_of-rows-requires-clause-recorded c = (kept (goal.at.rows_of-rows-requires-clause-recorded c).Then-has_record).printed
+
 pub place-requires-clause-sample : goal.place-requires-clause-sample
 place-requires-clause-sample c =
     let cell = kept (goal.at.place-requires-clause-sample c).Then-has_record in
@@ -53,8 +56,7 @@ place-requires-clause-slot c =
 
 pub place-requires-clause-few : goal.place-requires-clause-few
 place-requires-clause-few c =
-    let cell = kept (goal.at.place-requires-clause-few c).Then-has_record in
-    let room = c.rows_of-rows.ensures.room (c.rows_of-rows.ensures.rows.recorded ∙ cell.printed) in
+    let room = c.rows_of-rows.ensures.room in
     omega (arith, room, c.requires.lawful.rows)
 
 pub at-requires : goal.at-requires
