@@ -16,7 +16,7 @@ use crate::banks::BanksDone;
 use crate::done::Done;
 use crate::report::write_sample_spins;
 use glass_edges::{Fault, Sink};
-use report_sheets::{Sheet, put_rows, put_rows_by};
+use report_sheets::{Sheets, put_rows, put_rows_by};
 use report_text::{end, header};
 use run_plan::Orders;
 use scalar_rule::Plan;
@@ -66,7 +66,7 @@ pub fn write_banks<O: Sink>(
 /// Where the output failed; it has then taken a prefix of the report.
 pub fn print_banks<R: Threads + Sync, O: Sink>(
     rt: &R,
-    sheets: &mut [Sheet],
+    sheets: &mut Sheets,
     done: &BanksDone,
     plans: &[Arc<Plan, Global>],
     out: &mut O,

@@ -17,7 +17,7 @@ use exchange_board::Origin;
 use glass_edges::{Fault, Sink};
 use lattice_geometry::Lattice;
 use plane_sweep::{Duo, RaggedStand};
-use report_sheets::{Sheet, put_rows, put_rows_by};
+use report_sheets::{Sheets, put_rows, put_rows_by};
 use report_text::{end, header, spins};
 use scalar_rule::{Plan, Record};
 use std::thread::Threads;
@@ -63,7 +63,7 @@ pub fn write_report<O: Sink>(done: &Done, plan: &Plan, out: &mut O) -> Result<()
 /// Where the output failed; it has then taken a prefix of the report.
 pub fn print_report<R: Threads + Sync, O: Sink>(
     rt: &R,
-    sheets: &mut [Sheet],
+    sheets: &mut Sheets,
     done: &Done,
     plan: &Plan,
     out: &mut O,

@@ -12,7 +12,7 @@ use crate::saving::{bytes_of, two_rooms};
 use glass_edges::{MemoryShelf, MemorySink, NoMemory, OpenGate};
 use glass_engine::{Banks, drive_banks, open_banks, print_banks, save_banks, write_banks};
 use plane_sweep::Stand;
-use report_sheets::{Sheet, sheets_for};
+use report_sheets::Sheets;
 use run_plan::Orders;
 use scalar_rule::{Plan, Start};
 use std::alloc::Global;
@@ -77,12 +77,13 @@ fn opened(
     Ok(banks)
 }
 
-/// Drives it, and puts its report, straight where there is no sheet, and, twice, its checkpoint.
+/// Drives it, and puts its report, straight or by sheets, and, twice, its checkpoint.
 fn written<R: Threads + Wait + Sync>(
     rt: &R,
     banks: Banks,
     plans: &[Arc<Plan, Global>],
-    sheets: &mut [Sheet],
+    straight: bool,
+    sheets: &mut Sheets,
     out: &mut MemorySink,
     shelf: &mut MemoryShelf,
 )
@@ -90,7 +91,7 @@ fn written<R: Threads + Wait + Sync>(
     requires saves { All (λ (run : RunView). run.saves ≢ saves.Never) banks }
 {
     let mut done = drive_banks(rt, banks, plans, 3, &OpenGate);
-    let _ = if sheets.is_empty() {
+    let _ = if straight {
         write_banks(&done, plans, out)
     } else {
         print_banks(rt, sheets, &done, plans, out)
@@ -112,9 +113,16 @@ fn run_of_two<R: Threads + Wait + Sync>(
     let plan = plan_of(alloc, UP, "")?;
     let plans = twice(&plan)?;
     let banks = opened(alloc, &plan, plans.as_slice(), workers)?;
-    let mut sheets = sheets_for(alloc, workers as usize - 1, 65)?;
-    let sheets = sheets.as_mut_slice();
-    written(rt, banks, plans.as_slice(), sheets, &mut out, &mut shelf);
+    let mut sheets = Sheets::new(alloc, workers, 65, 65)?;
+    written(
+        rt,
+        banks,
+        plans.as_slice(),
+        workers == 1,
+        &mut sheets,
+        &mut out,
+        &mut shelf,
+    );
     Ok((out, shelf))
 }
 

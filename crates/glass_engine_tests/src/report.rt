@@ -5,7 +5,7 @@ ghost use Rattle.glass_engine.specs.Runs.{AreRunOrders};
 use crate::runs::{ORDERS, Reach, THREE_UP, holds, opened, plan_of, two_slots, whole};
 use glass_edges::{Gate, MemorySink, OpenGate};
 use glass_engine::{SaveKind, drive, print_report, write_report};
-use report_sheets::sheets_for;
+use report_sheets::Sheets;
 use run_plan::Orders;
 use scalar_rule::Plan;
 use std::alloc::Global;
@@ -26,11 +26,11 @@ pub(super) fn reported<R: Threads + Wait + Sync, G: Gate + Sync>(
 {
     let mut straight = MemorySink::new(alloc, 5000, 300, Vec::new(alloc))?;
     let mut out = MemorySink::new(alloc, 5000, 300, Vec::new(alloc))?;
-    let mut sheets = sheets_for(alloc, 3, 8)?;
+    let mut sheets = Sheets::new(alloc, 3, 8, 2)?;
     let run = opened(alloc, plan, orders, reach, SaveKind::Never)?;
     let done = drive(rt, run, plan, 3, gate);
     let _ = write_report(&done, plan, &mut straight);
-    let _ = print_report(rt, sheets.as_mut_slice(), &done, plan, &mut out);
+    let _ = print_report(rt, &mut sheets, &done, plan, &mut out);
     if out.taken() != straight.taken() {
         return Err("by sheets the report is another one".into());
     }

@@ -19,7 +19,7 @@ use crate::ending::Ending;
 use crate::run_words::RunOrder;
 use glass_edges::{Fault, Gate, Shelf, Sink};
 use glass_engine::{Banks, BanksDone, drive_banks, print_banks, save_banks};
-use report_sheets::Sheet;
+use report_sheets::Sheets;
 use scalar_rule::Plan;
 use std::alloc::Global;
 use std::sync::{Arc, Wait};
@@ -30,7 +30,7 @@ use std::thread::Threads;
 pub(crate) struct OpenedBanks {
     pub(crate) plans: Vec<Arc<Plan, Global>>,
     pub(crate) banks: Banks,
-    pub(crate) sheets: Vec<Sheet>,
+    pub(crate) sheets: Sheets,
 }
 
 /// Drives open banks to their end, prints their report, and places their checkpoint where one is asked
@@ -63,7 +63,7 @@ pub(crate) fn finish_banks<R: Threads + Wait + Sync, H: Shelf, O: Sink, G: Gate 
         mut sheets,
     } = opened;
     let mut done = drive_banks(rt, banks, &plans, order.pieces, gate);
-    match print_banks(rt, sheets.as_mut_slice(), &done, &plans, out) {
+    match print_banks(rt, &mut sheets, &done, &plans, out) {
         Ok(()) => {}
         Err(_) => return Ending::Unwritten,
     }

@@ -16,6 +16,7 @@ use crate::finishing::Opened;
 use glass_edges::{Fault, Gate, NoMemory, Shelf, Sink};
 use glass_engine::{SaveKind, drive, open, write_summary};
 use plane_sweep::{RaggedStand, Stand};
+use report_sheets::Sheets;
 use run_plan::demo_plan;
 use spin_model::EVERY_TAKE;
 use std::alloc::Global;
@@ -73,7 +74,7 @@ fn open_demo(alloc: Global, n: u64) -> Result<Opened, NoMemory>
         SaveKind::Never,
     )?;
     // A summary has no rows.
-    let sheets = Vec::new(alloc);
+    let sheets = Sheets::none(alloc);
     Ok(Opened { plan, run, sheets })
 }
 

@@ -20,7 +20,7 @@ use glass_engine::{
     Done, Run, drive, level_checkpoint_is_serial, level_report_is_serial, print_report, save,
     unstopped_run_is_whole, whole_checkpoint_is_the_rules,
 };
-use report_sheets::Sheet;
+use report_sheets::Sheets;
 use scalar_rule::Plan;
 use std::alloc::Global;
 use std::sync::{Arc, Wait};
@@ -31,7 +31,7 @@ use std::thread::Threads;
 pub(crate) struct Opened {
     pub(crate) plan: Arc<Plan, Global>,
     pub(crate) run: Run,
-    pub(crate) sheets: Vec<Sheet>,
+    pub(crate) sheets: Sheets,
 }
 
 /// Drives an open run to its end, prints its report, and places its checkpoint where one is asked for. It
@@ -65,7 +65,7 @@ pub(crate) fn finish_run<R: Threads + Wait + Sync, H: Shelf, O: Sink, G: Gate + 
         mut sheets,
     } = opened;
     let mut done = drive(rt, run, &plan, order.pieces, gate);
-    match put_run(rt, sheets.as_mut_slice(), &done, &plan, out) {
+    match put_run(rt, &mut sheets, &done, &plan, out) {
         Ok(()) => {}
         Err(_) => return Ending::Unwritten,
     }
@@ -78,7 +78,7 @@ pub(crate) fn finish_run<R: Threads + Wait + Sync, H: Shelf, O: Sink, G: Gate + 
 // Prints the report of a run at its end.
 fn put_run<R: Threads + Sync, O: Sink>(
     rt: &R,
-    sheets: &mut [Sheet],
+    sheets: &mut Sheets,
     done: &Done,
     plan: &Plan,
     out: &mut O,

@@ -5,13 +5,13 @@ ghost use Rattle.spin_model.specs.Limits.{last_epoch};
 
 use crate::run_words::RunOrder;
 use glass_edges::NoMemory;
-use report_sheets::{Sheet, sheets_for};
+use report_sheets::Sheets;
 use run_plan::{Orders, row_count};
 use scalar_rule::Plan;
 use std::alloc::Global;
 
-/// Sheets for the report of the rows from one epoch to another: two for each worker that can have a slot, since
-/// half of them are filled while the others go out. Speed alone depends on how many there are, and on their room.
+/// Sheets for the report of the rows from one epoch to another, for as many threads as there are workers that can have
+/// a slot. Speed alone depends on how many there are, and on their room.
 pub(crate) fn sheets_of(
     alloc: Global,
     order: &RunOrder<'_>,
@@ -19,7 +19,7 @@ pub(crate) fn sheets_of(
     orders: &Orders,
     from: u64,
     until: u64,
-) -> Result<Vec<Sheet>, NoMemory>
+) -> Result<Sheets, NoMemory>
     requires few_samples { orders.now.samples ≤ 256 }
     requires some_every { 1 ≤ orders.now.every }
     requires window { from ≤ until }
@@ -27,5 +27,6 @@ pub(crate) fn sheets_of(
 {
     let workers = order.workers.min(plan.slots());
     let rows = row_count(plan, orders, from, until);
-    sheets_for(alloc, 2 * workers as usize, rows)
+    let an_epoch = orders.samples as u64 * plan.slots() as u64;
+    Sheets::new(alloc, workers, rows, an_epoch)
 }

@@ -4,11 +4,14 @@
 
 mod round;
 mod sheet;
+mod sheets;
 mod source;
 #[cfg(test)]
 mod tests;
+mod turn;
 mod writer;
 
-pub use sheet::{Sheet, sheets_for};
+pub use sheet::Sheet;
+pub use sheets::Sheets;
 pub use source::RowSource;
 pub use writer::{put_rows, put_rows_by};

@@ -69,22 +69,27 @@ fn alphabet() -> Letters<'static>
 }
 
 #[test]
-fn as_many_sheets_as_asked_for(rt: HostRuntime) -> Result<(), Fail> {
-    let mut sheets = sheets_for(rt.alloc(), 2, 1)?;
-    assert_eq!(rt; sheets.len(), 2);
-    // A row has room for 64 bytes.
-    for sheet in sheets.as_mut_slice() {
-        assert_eq!(rt; sheet.put(&[0; 64]), Ok(64));
-        assert_eq!(rt; sheet.put(&[0]), Err(Fault));
+fn each_thread_has_sheets_in_both_halves(rt: HostRuntime) -> Result<(), Fail> {
+    let alloc = rt.alloc();
+    assert_eq!(rt; Sheets::none(alloc).sheets.len(), 0);
+    for (threads, count) in [(1, 2), (2, 64), (4, 128), (64, 256)] {
+        let mut sheets = Sheets::new(alloc, threads, 1, 1)?;
+        assert_eq!(rt; sheets.sheets.len(), count);
+        // A row has room for 64 bytes.
+        for sheet in sheets.sheets.as_mut_slice() {
+            assert_eq!(rt; sheet.put(&[0; 64]), Ok(64));
+            assert_eq!(rt; sheet.put(&[0]), Err(Fault));
+        }
     }
     Ok(())
 }
 
-/// So many sheets, each with room for so many bytes.
-fn sheets(alloc: Global, count: u32, room: usize) -> Result<Vec<Sheet>, NoMemory> {
-    let mut sheets = Vec::new(alloc);
+/// So many sheets for so many threads, each with room for so many bytes.
+fn sheets(alloc: Global, threads: usize, count: u32, room: usize) -> Result<Sheets, NoMemory> {
+    let mut sheets = Sheets::none(alloc);
+    sheets.threads = threads;
     for _sheet in 0..count {
-        sheets.push(Sheet::new(alloc, room)?)?;
+        sheets.sheets.push(Sheet::new(alloc, room)?)?;
     }
     Ok(sheets)
 }
@@ -95,9 +100,9 @@ fn took<R: Abort>(rt: &R, out: &MemorySink, text: &str) {
     assert_eq!(rt; out.taken(), text.as_bytes());
 }
 
-// Ends the test where a sheet gives another text.
-fn gives<R: Abort>(rt: &R, sheet: &Sheet, text: Option<&str>) {
-    assert_eq!(rt; sheet.text(), text.map(|text| text.as_bytes()));
+// Ends the test where a sheet gives another text as the rows from one epoch to another.
+fn gives<R: Abort>(rt: &R, sheet: &Sheet, from: u64, to: u64, text: Option<&str>) {
+    assert_eq!(rt; sheet.text(from, to), text.map(|text| text.as_bytes()));
 }
 
 #[test]
@@ -113,7 +118,7 @@ fn a_sheet_takes_what_it_has_room_for(rt: HostRuntime) -> Result<(), Fail> {
     for (piece, answer) in puts {
         assert_eq!(rt; sheet.put(piece), answer);
     }
-    gives(&rt, &sheet, None);
+    gives(&rt, &sheet, 0, 0, None);
     Ok(())
 }
 
@@ -121,23 +126,26 @@ fn a_sheet_takes_what_it_has_room_for(rt: HostRuntime) -> Result<(), Fail> {
 fn a_sheet_is_filled_anew(rt: HostRuntime) -> Result<(), Fail> {
     let rows = alphabet();
     let mut sheet = Sheet::new(rt.alloc(), 100)?;
-    gives(&rt, &sheet, None);
+    gives(&rt, &sheet, 0, 0, None);
     sheet.fill(&rows, 0, 26);
-    gives(&rt, &sheet, Some(ALPHABET));
+    gives(&rt, &sheet, 0, 26, Some(ALPHABET));
+    gives(&rt, &sheet, 0, 25, None);
     sheet.fill(&rows, 5, 7);
-    gives(&rt, &sheet, Some("fg"));
-    sheet.fill(&rows, 9, 9);
-    gives(&rt, &sheet, Some(""));
+    gives(&rt, &sheet, 5, 7, Some("fg"));
+    gives(&rt, &sheet, 0, 7, None);
+    sheet.forget();
+    gives(&rt, &sheet, 5, 7, None);
     let mut small = Sheet::new(rt.alloc(), 2)?;
     small.fill(&rows, 23, 26);
-    gives(&rt, &small, None);
+    gives(&rt, &small, 23, 26, None);
     small.fill(&rows, 24, 26);
-    gives(&rt, &small, Some("yz"));
+    gives(&rt, &small, 24, 26, Some("yz"));
     Ok(())
 }
 
-// By no sheet, by one, by two, by seven, of which three are a round, and by more than there are rows for; and by
-// six in which no rows fit, or those of the last sheet of a round alone.
+// By no sheet, by one, by one thread, by several with one sheet each or more in a half, by an odd number of sheets, by
+// more sheets than there are rows for, by fewer than one a thread; and where no rows fit, or those of the last part
+// alone.
 #[test]
 fn the_text_is_the_same_by_any_sheets(rt: HostRuntime) -> Result<(), Fail> {
     let alloc = rt.alloc();
@@ -145,16 +153,18 @@ fn the_text_is_the_same_by_any_sheets(rt: HostRuntime) -> Result<(), Fail> {
     let mut straight = MemorySink::new(alloc, 100, 4, Vec::new(alloc))?;
     put_rows(&mut straight, &rows)?;
     took(&rt, &straight, ALPHABET);
-    for (count, room) in [
-        (0, 0),
-        (1, 100),
-        (2, 100),
-        (7, 100),
-        (20, 3),
-        (6, 0),
-        (6, 2),
+    for (threads, count, room) in [
+        (1, 0, 0),
+        (1, 1, 100),
+        (1, 2, 100),
+        (2, 4, 100),
+        (3, 13, 100),
+        (3, 40, 3),
+        (9, 6, 3),
+        (2, 8, 0),
+        (2, 8, 2),
     ] {
-        let mut sheets = sheets(alloc, count, room)?;
+        let mut sheets = sheets(alloc, threads, count, room)?;
         let mut out = MemorySink::new(alloc, 100, 4, Vec::new(alloc))?;
         put_rows_by(&rt, &mut sheets, &mut out, &rows)?;
         took(&rt, &out, ALPHABET);
@@ -166,7 +176,7 @@ fn the_text_is_the_same_by_any_sheets(rt: HostRuntime) -> Result<(), Fail> {
 fn a_source_with_no_rows_puts_none(rt: HostRuntime) -> Result<(), Fail> {
     let alloc = rt.alloc();
     let rows = Letters { text: b"" };
-    let mut sheets = sheets(alloc, 6, 100)?;
+    let mut sheets = sheets(alloc, 3, 12, 100)?;
     let mut out = MemorySink::new(alloc, 100, 4, Vec::new(alloc))?;
     put_rows(&mut out, &rows)?;
     put_rows_by(&rt, &mut sheets, &mut out, &rows)?;
@@ -182,7 +192,7 @@ fn failing<R: Threads + Abort + Sync>(
     room: usize,
     text: &str,
 ) -> Result<(), Fail> {
-    let mut sheets = sheets(alloc, count, room)?;
+    let mut sheets = sheets(alloc, 2, count, room)?;
     let mut out = MemorySink::new(alloc, 100, 2, [4].to_vec(alloc)?)?;
     assert_eq!(rt;
         put_rows_by(rt, &mut sheets, &mut out, &alphabet()),
@@ -196,7 +206,7 @@ fn failing<R: Threads + Abort + Sync>(
 #[test]
 fn an_output_that_fails_has_the_first_rows(rt: HostRuntime) -> Result<(), Fail> {
     failing(&rt, rt.alloc(), 0, 0, "abcdefgh")?;
-    failing(&rt, rt.alloc(), 2, 100, "abcdef")?;
-    failing(&rt, rt.alloc(), 6, 100, "abcdef")?;
-    failing(&rt, rt.alloc(), 6, 2, "abcdef")
+    failing(&rt, rt.alloc(), 4, 100, "abcdef")?;
+    failing(&rt, rt.alloc(), 8, 100, "abcdef")?;
+    failing(&rt, rt.alloc(), 8, 2, "abcdef")
 }

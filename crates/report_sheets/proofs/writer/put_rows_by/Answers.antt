@@ -1,10 +1,10 @@
 -- The rows of two rounds more.
-use Rattle.std.proofs.Common.{arith, ◌≡◌, ℕ, ◌+◌, ◌≤◌, Option, List, ap, sym, ◌∙◌}
+use Rattle.std.proofs.Common.{rules, arith, refl, ◌≡◌, ℕ, ◌+◌, ◌≤◌, Option, List, ap, sym, ◌∙◌}
 use Rattle.std.specs.Prelude.{min}
 use Rattle.glass_edges.specs.Contents.{appended}
 use Rattle.glass_edges.proofs.Puts.{OnErr_of}
-use Rattle.glass_edges.proofs.Putting.{put-more, put-failed}
-use Rattle.report_sheets.proofs.Rounds.{joined-three}
+use Rattle.glass_edges.proofs.Putting.{put-none, put-more, put-failed}
+use Rattle.report_sheets.proofs.Rounds.{joined-three, forgotten}
 use Rattle.report_sheets.proofs.writer.put_rows_by.Goals as goal
 
 -- the rows to the same epoch
@@ -44,3 +44,22 @@ returns-in_err-fill_and_put-2-clause-prefix g c =
     (laws.joined rows begin a b c.rounds.invariant.begin window) in
     OnErr_of _ (put-failed _ _ _ (text begin b) (text b d) (text d end) (text begin end) whole c.in_err-fill_and_put-2.ensures.prefix
     (joined-three text (laws.joined rows) begin b d end (omega (arith, c.rounds.invariant.begin)) onward within))
+
+pub rounds-init : goal.rounds-init
+rounds-init g c =
+    let laws = g.met.S.RowSource g.world.𝓛 g.world.𝓜 g.world.𝓡 ((λ s x. x), (λ x. x), (λ x. x), λ x. x) in
+    let rows = c.args.rows.now in
+    let text = g.S.RowSource.text rows in
+    let begin = g.S.RowSource.begin rows in
+    let here : c.empty-done.result.first ≡ begin = c.empty-done.ensures.first ∙ c.first.ensures.is in record {
+      text = put-none (g.O.Sink.taken c.args.out.now) (text begin c.empty-done.result.first) (ap (text begin) here ∙ laws.empty rows begin);
+      front_rows = forgotten text c.forget_rows.new.sheets c.forget_rows.ensures.none;
+      back_rows = forgotten text c.forget_rows-2.new.sheets c.forget_rows-2.ensures.none;
+      all = search (rules, arith);
+      begin = search (rules, arith);
+      window = search (rules, arith);
+      end = search (rules, arith);
+      front = search (rules, arith);
+      back = search (rules, arith);
+      passed = refl;
+    }

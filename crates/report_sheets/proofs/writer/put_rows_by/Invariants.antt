@@ -1,13 +1,15 @@
--- The rows before the round that is filled are put, and its sheets are the back ones.
+-- The rows before the round that is filled are put, and its parts are on the back sheets.
 use Rattle.std.proofs.Common.{◌≡◌, ◌≤◌, ◌-◌, length}
+use Rattle.std.specs.Prelude.{All}
 use Rattle.glass_edges.specs.Contents.{appended}
-use Rattle.report_sheets.specs.Sheets.{start_of, AreFilled}
+use Rattle.report_sheets.specs.Sheets.{start_of, HasItsRows}
 use Rattle.report_sheets.proofs.writer.put_rows_by.Given as goal
 
 abbrev pub invariant-rounds : goal.invariant-rounds
 invariant-rounds g l = record {
   text : g.O.Sink.taken l.out ≡ appended (g.O.Sink.taken l.fn.out) (g.S.RowSource.text l.rows (g.S.RowSource.begin l.rows) l.done.first);
-  filled : AreFilled (g.S.RowSource.text l.rows) l.done 0 l.back;
+  front_rows : All (HasItsRows (g.S.RowSource.text l.rows)) l.front;
+  back_rows : All (HasItsRows (g.S.RowSource.text l.rows)) l.back;
   all : start_of l.done (length l.back) ≡ l.done.last;
   begin : g.S.RowSource.begin l.rows ≤ l.done.first;
   window : l.done.first ≤ l.done.last;
