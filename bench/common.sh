@@ -143,10 +143,12 @@ END
 }
 
 # Does the words behind $2 in $build, with their output in the file $2 there, and prints the milliseconds by $1: '%U %S' of
-# the processor, '%R' by the clock. A caller goes on only where it succeeds.
+# the processor, '%R' by the clock. A caller goes on only where it succeeds. An older output is removed before, since to
+# empty a file of many megabytes takes up to 40 of them.
 timed() {
     local TIMEFORMAT=$1 out=$2 took
     shift 2
+    rm -f "$build/$out"
     took=$(cd "$build" && { time "$@" > "$out"; } 2>&1) || fail "a run failed: $*: $took"
     awk '{ print ($1 + $2) * 1000 }' <<< "$took"
 }

@@ -8,11 +8,12 @@ usage: bench/run.sh --workers [--cpu CPU] [--sizes "SIZE .."] [--passes N] [--tu
 Times whole runs of ./glass by Metropolis with 64 samples, by the clock and less the time of a run of no epoch, with
 10 sweeps an epoch and with 1:
 
-  16 temperatures  1, 2, 4 and 8 workers
+  16 temperatures  1, 2, 4 and 8 workers, and four runs of 1 worker at once
   2 temperatures   1, 2 and 4 workers, and 1 worker with 2 and 4 pieces
 
-For each it prints the least milliseconds with one worker, and how many times as fast the others are. All outputs
-of a run must be the same, byte for byte. The machine must be idle and have 4 processors, or the ratios say little.
+For each it prints the least milliseconds with one worker, and how many times as fast the others are. Of four runs
+at once it prints how many times the throughput of one they have, which is what the processors give. All outputs of a
+run must be the same, byte for byte. The machine must be idle and have 4 processors, or the ratios say little.
 On one that others use too --steady leaves out what they disturb: before and behind each run bench/steady.c (gcc -O3)
 does the same work on four processors at once, and the run counts only where both times the slowest of them took at
 most RATIO times the least of all such times; where it took longer before a run, that is left out of the turn. Short
@@ -54,18 +55,41 @@ is_steady() {
     awk -v gauge="$gauge" -v fastest="$fastest" -v steady="$steady" 'BEGIN { exit gauge > steady * fastest }'
 }
 
+# Does the words four times at once.
+at_once() {
+    local job jobs=() status=0
+    for job in 1 2 3; do
+        "$@" > "workers_$job.txt" &
+        jobs+=($!)
+    done
+    "$@" || status=1
+    for job in "${jobs[@]}"; do
+        wait "$job" || status=1
+    done
+    return "$status"
+}
+
 # One run: its name, what it is done with, the milliseconds by the clock, the digest of its output, and the gauge
 # before it and behind it. Where the machine is not steady, its name and what it would be done with alone.
 time_run() {
-    local name=$1 with=$2 before=$gauge took
+    local name=$1 with=$2 before=$gauge command=(./glass run "workers_$1.toml") took job
     shift 2
     if ! is_steady; then
         take_gauge
         echo "$name $with"
         return
     fi
-    took=$(timed '%R' workers.txt ./glass run "workers_$name.toml" "$@") || exit 2
+    if [ "$with" = at_once ]; then
+        command=(at_once "${command[@]}")
+        rm -f "$build"/workers_[123].txt
+    fi
+    took=$(timed '%R' workers.txt "${command[@]}" "$@") || exit 2
     take_gauge
+    if [ "$with" = at_once ]; then
+        for job in 1 2 3; do
+            cmp "$build/workers.txt" "$build/workers_$job.txt" || exit 2
+        done
+    fi
     echo "$name $with $took $(sha256sum < "$build/workers.txt" | cut -d' ' -f1) $before $gauge"
 }
 
@@ -89,6 +113,7 @@ for _ in $(seq "$turns"); do
             for workers in 1 2 4 8; do
                 time_run "${size}_16_$sweeps" "$workers" --workers "$workers"
             done
+            time_run "${size}_16_$sweeps" at_once
             for workers in 1 2 4; do
                 time_run "${size}_2_$sweeps" "$workers" --workers "$workers"
             done
@@ -127,9 +152,10 @@ awk -v cpu="$cpu" -v limit="$limit" -v most="$(awk "BEGIN { print $steady * $fas
             for (k = 2; k <= n; k++) {
                 at = name " " ways[k]
                 if (!counted[at]) continue
-                ratio = one / (least[at] - least[name " start"])
+                ratio = (ways[k] == "at_once" ? 4 : 1) * one / (least[at] - least[name " start"])
                 split(ways[k], way, "x")
-                printf ", %s %.2f", way[2] ? way[2] " pieces" : way[1] " workers", ratio
+                what = way[2] ? way[2] " pieces" : way[1] " workers"
+                printf ", %s %.2f", ways[k] == "at_once" ? "four runs at once" : what, ratio
                 if (ways[k] == "4" && part[2] == 16 && part[3] == 10 && ratio < limit) bad = 1
             }
             print ""
