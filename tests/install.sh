@@ -21,16 +21,19 @@ make -s install DESTDIR="$place/stage" PREFIX=/opt/glass PROGRAM="$program" || f
 at=$place/stage/opt/glass
 cmp "$program" "$at/bin/glass" || fail "the program is another"
 [ -f "$at/share/man/man1/glass.1" ] || fail "there is no manual page"
+# The variables of whoever tests are none of an installed tool's.
+unset GLASS PYTHONDONTWRITEBYTECODE
 for tool in "$at"/bin/glass-*; do
     "$tool" --help >/dev/null || fail "$tool --help"
 done
 # A run by the installed tools alone: they find the program beside them.
 mkdir "$place/template" || exit 1
 cp examples/glass_8/run.toml examples/glass_8/*.csv "$place/template"
-unset GLASS
 "$at/bin/glass-make-seeds" "$place/template/run.toml" --into "$place/study" >/dev/null || fail "glass-make-seeds"
 "$at/bin/glass-long-run" run "$place/study/seed-0001" >/dev/null || fail "glass-long-run"
 "$at/bin/glass-describe" "$place/study/seed-0001" | grep -q whole || fail "glass-describe"
+"$at/bin/glass-make-tables" heat --range 1 2 --slots 3 --rules "$place/rules.csv" --swaps "$place/swaps.csv" >/dev/null \
+    || fail "glass-make-tables"
 for python in python3 /usr/bin/python3; do
     "$python" -c 'import matplotlib, numpy, scipy' 2>/dev/null || continue
     "$python" "$at/bin/glass-estimate" means "$place/study/seed-0001/report" --plot "$place/means.png" >/dev/null \

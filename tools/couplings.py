@@ -30,7 +30,8 @@ import sys
 from fractions import Fraction
 from pathlib import Path
 
-from make_tables import OneLineParser, Refusal
+sys.dont_write_bytecode = True
+from make_tables import OneLineParser, Refusal  # noqa: E402
 
 try:
     import numpy

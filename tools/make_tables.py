@@ -31,6 +31,9 @@ from decimal import ROUND_HALF_EVEN, ROUND_HALF_UP, Context, Decimal, localconte
 from fractions import Fraction
 from pathlib import Path
 
+# A range imports a module, of which an installed tool leaves no bytecode.
+sys.dont_write_bytecode = True
+
 SCALE = 2 ** 32
 DIGITS = 50
 GREATEST_SLOTS = 32
