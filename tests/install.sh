@@ -34,6 +34,8 @@ cp examples/glass_8/run.toml examples/glass_8/*.csv "$place/template"
 "$at/bin/glass-describe" "$place/study/seed-0001" | grep -q whole || fail "glass-describe"
 "$at/bin/glass-make-tables" heat --range 1 2 --slots 3 --rules "$place/rules.csv" --swaps "$place/swaps.csv" >/dev/null \
     || fail "glass-make-tables"
+(cd "$place/template" && "$at/bin/glass" age run.toml 1 1 1) > "$place/aged.txt" || fail "glass age"
+"$at/bin/glass-correlations" "$place/aged.txt" >/dev/null || fail "glass-correlations"
 for python in python3 /usr/bin/python3; do
     "$python" -c 'import matplotlib, numpy, scipy' 2>/dev/null || continue
     "$python" "$at/bin/glass-estimate" means "$place/study/seed-0001/report" --plot "$place/means.png" >/dev/null \
