@@ -31,7 +31,8 @@ mkdir "$place/template" || exit 1
 cp examples/glass_8/run.toml examples/glass_8/*.csv "$place/template"
 "$at/bin/glass-make-seeds" "$place/template/run.toml" --into "$place/study" >/dev/null || fail "glass-make-seeds"
 "$at/bin/glass-long-run" run "$place/study/seed-0001" >/dev/null || fail "glass-long-run"
-"$at/bin/glass-describe" "$place/study/seed-0001" | grep -q whole || fail "glass-describe"
+described=$("$at/bin/glass-describe" "$place/study/seed-0001") || fail "glass-describe: $described"
+grep -qx '  whole' <<<"$described" || fail "glass-describe tells no whole folder: $described"
 "$at/bin/glass-make-tables" heat --range 1 2 --slots 3 --rules "$place/rules.csv" --swaps "$place/swaps.csv" >/dev/null \
     || fail "glass-make-tables"
 (cd "$place/template" && "$at/bin/glass" age run.toml 1 1 1) > "$place/aged.txt" || fail "glass age"

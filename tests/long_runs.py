@@ -68,6 +68,10 @@ def want_ended(child: int) -> None:
         raise Failed("the program works on")
 
 
+def want_none_in_work(folder: Path) -> None:
+    want(not list(folder.glob("parts/tmp-*")), "a part in work is left")
+
+
 def stop_half_way(run: OneRun, folder: Path) -> None:
     """Leaves a folder with some parts, of which the last is not the run's last."""
     with run.start(folder) as driver:
@@ -209,10 +213,14 @@ def full_disk(run: OneRun, folder: Path, chance: random.Random) -> str:
         found = (run.call(folder), len(parts_of(folder)))
         want(found[0] in (9, 10) and found[1] > 0, f"status {found[0]} with {found[1]} parts, not 9 or 10 with some")
         (folder / "filler").unlink()
-        while run.call(folder) in (9, 10):
+        status = run.call(folder)
+        if status in (9, 10):
             subprocess.run(["mount", "-o", f"remount,size={4 * SMALL_DISK}", str(folder)], check=True)
+            status = run.call(folder)
+        want(status == 0, f"status {status} where there is room")
         faults = run.faults(folder)
         want(not faults, "; ".join(faults))
+        want_none_in_work(folder)
     finally:
         subprocess.run(["umount", str(folder)], check=True)
     return "disk"
@@ -236,7 +244,7 @@ def try_case(run: OneRun, case: Case, chance: random.Random) -> Optional[str]:
         want(run.call(folder) == 0, "the run is not brought to its end")
         faults = run.faults(folder)
         want(not faults, "; ".join(faults))
-    want(not list(folder.glob("parts/tmp-*")), "a part in work is left")
+    want_none_in_work(folder)
     return said if said not in COMPARED else ""
 
 

@@ -111,11 +111,12 @@ def test_exchanges_are_those_counted_row_by_row(made_reports):
 
 
 def test_round_trips_by_hand():
-    # Label 0 goes 0, 1, 2, 1, 0, 0, 1, 2 and label 2 the other way: one round trip each; label 1 makes none.
+    # Label 0 goes 0, 1, 2, 1, 0, 0, 1, 2 and label 2 goes 2, 2, 1, 0, 1, 2, 0, 0: from end to end three times, which is one
+    # round trip. Label 1 goes 1, 0, 0, 2, 2, 1, 2, 1, once from end to end, which is none.
     walk = [[0, 1, 2], [1, 0, 2], [1, 2, 0], [2, 0, 1], [0, 2, 1], [0, 1, 2], [2, 0, 1], [2, 1, 0]]
     labels = np.repeat(np.array(walk).reshape(8, 1, 3, 1), 2, axis=3)
     trips = round_trips(records_with(labels=labels))
-    assert trips[0, 0].tolist() == [1, 1] and trips[0].sum(axis=1)[1] in (0, 2)
+    assert trips[0].tolist() == [[1, 1], [0, 0], [1, 1]]
 
 
 def test_what_samples_have_in_common_shows_over_seeds_alone():
