@@ -5,59 +5,92 @@
     python3 tools/correlations.py tw_10.txt tw_100.txt tw_1000.txt --plot aging.png
 
 C is the mean over samples and both replicas of A / V, A the sum over the V sites of the spin after the
-waiting time times the spin t sweeps later. Several texts must be of one size, rule and number of slots.
+waiting time times the spin t sweeps later. Several texts must be of one size, rule, and number of slots and
+samples.
 A text that `glass age` does not print is refused with the number of its first such line. The plot needs
 matplotlib, and is left out with a line where it is missing.
 """
 import argparse
-import contextlib
-import io
 import re
 import sys
 import tempfile
-from collections import namedtuple
+from collections import Counter
+from itertools import product
 from pathlib import Path
 
 sys.dont_write_bytecode = True
-from make_tables import OneLineParser, Refusal  # noqa: E402
+from make_tables import Checks, OneLineParser, Refusal, outcome  # noqa: E402
 
+MOST_SLOTS, MOST_SAMPLES, MOST_TIMES, MOST_SWEEPS = 32, 64, 32, 1000000
+LONGEST_LINE = 80
 COUNT = rb"(0|[1-9][0-9]{0,6})"
 FIRST = re.compile(rb"age 1 size=%b slots=%b samples=%b rule=(heat|metropolis) tw=%b\n" % ((COUNT,) * 4))
 LINE = re.compile(rb"age," + b",".join([COUNT] * 4) + rb",(0|-?[1-9][0-9]{0,5})\n")
 NOTE = "note: the samples of one run share each random number, so their spread gives no error of a mean."
 
-# correlations: by slot, the pairs of a time and its C
-Aged = namedtuple("Aged", "size slots samples rule wait correlations")
 
+class AgedText:
+    """One text. It is read once, line by line, and each line is tested."""
 
-def read_aged(name, stream):
-    """The means of one text, each line of which is tested."""
-    lines = stream.readlines()
-    first = FIRST.fullmatch(lines[0]) if lines else None
-    if not first:
-        raise Refusal(f"{name} is wrong at line 1")
-    size, slots, samples, wait = (int(first[k]) for k in (1, 2, 3, 5))
-    found, times = [], None
-    for number, line in enumerate(lines[1:-1], 2):
-        match = LINE.fullmatch(line)
-        if not match or abs(int(match[5])) > size ** 3:
-            raise Refusal(f"{name} is wrong at line {number}")
-        found.append(tuple(int(match[k]) for k in range(1, 6)))
-    if not found or lines[-1] != b"end\n":
-        raise Refusal(f"{name} is wrong at line {len(lines)}")
-    times = sorted({t for _, _, t, _, _ in found})
-    order = [(slot, copy, t, b) for slot in range(slots) for copy in range(2) for t in times for b in range(samples)]
-    for number, (wanted, got) in enumerate(zip(order, found), 2):
-        if wanted != got[:4]:
-            raise Refusal(f"{name} is wrong at line {number}")
-    if len(order) != len(found):
-        raise Refusal(f"{name} is wrong at line {min(len(order), len(found)) + 2}")
-    sums = {}
-    for slot, _, t, _, a in found:
-        sums[slot, t] = sums.get((slot, t), 0) + a
-    terms = 2 * samples * size ** 3
-    return Aged(size, slots, samples, first[4].decode(), wait,
-                [[(t, sums[slot, t] / terms) for t in times] for slot in range(slots)])
+    def __init__(self, name, stream):
+        self.name, self.stream, self.number = name, stream, 0
+        self.read_first()
+        self.next_line()
+        # by slot and time, the sum of A over replicas and samples
+        self.sums = Counter()
+        times = self.read_times()
+        for slot, copy in list(product(range(self.slots), range(2)))[1:]:
+            for t in times:
+                self.take_samples(slot, copy, t)
+        if not times or self.line != b"end\n":
+            raise self.wrong()
+        self.next_line()
+        if self.line:
+            raise self.wrong()
+        terms = 2 * self.samples * self.volume
+        self.correlations = [[(t, self.sums[slot, t] / terms) for t in times] for slot in range(self.slots)]
+
+    def wrong(self):
+        return Refusal(f"{self.name} is wrong at line {self.number}")
+
+    def next_line(self):
+        self.line = self.stream.readline(LONGEST_LINE)
+        self.number += 1
+
+    def read_first(self):
+        self.next_line()
+        found = FIRST.fullmatch(self.line)
+        if not found:
+            raise self.wrong()
+        self.size, self.slots, self.samples, self.wait = (int(found[k]) for k in (1, 2, 3, 5))
+        self.rule, self.volume = found[4].decode(), self.size ** 3
+        self.kind = self.size, self.slots, self.samples, self.rule
+        if not (4 <= self.size <= 64 and self.size % 2 == 0 and 1 <= self.slots <= MOST_SLOTS
+                and 1 <= self.samples <= MOST_SAMPLES and self.wait <= MOST_SWEEPS):
+            raise self.wrong()
+
+    def read_times(self):
+        """The times, which the lines of the first replica of slot 0 tell: they rise."""
+        times = []
+        while found := re.match(b"age,0,0,%b," % COUNT, self.line):
+            t = int(found[1])
+            if t > MOST_SWEEPS or times and t <= times[-1] or len(times) == MOST_TIMES:
+                raise self.wrong()
+            times.append(t)
+            self.take_samples(0, 0, t)
+        return times
+
+    def take_samples(self, slot, copy, t):
+        """The lines of all samples at a time. A has the parity of V, which is even; at time 0 it is V."""
+        for sample in range(self.samples):
+            found = LINE.fullmatch(self.line)
+            if not found or [int(found[k]) for k in range(1, 5)] != [slot, copy, t, sample]:
+                raise self.wrong()
+            a = int(found[5])
+            if abs(a) > self.volume or a % 2 == 1 or t == 0 and a != self.volume:
+                raise self.wrong()
+            self.sums[slot, t] += a
+            self.next_line()
 
 
 def table(texts):
@@ -89,7 +122,10 @@ def draw(texts, path):
     axes.set_ylabel("C(tw, tw + t)")
     axes.legend(frameon=False)
     figure.tight_layout()
-    figure.savefig(path, dpi=150)
+    try:
+        figure.savefig(path, dpi=150)
+    except (OSError, ValueError) as fault:
+        raise Refusal(f"{path} can't be written: {fault}") from None
     return f"wrote {path}"
 
 
@@ -97,11 +133,11 @@ def run(options):
     texts = []
     for name in options.files or ["-"]:
         if name == "-":
-            texts.append(read_aged("the standard input", sys.stdin.buffer))
+            texts.append(AgedText("the standard input", sys.stdin.buffer))
         else:
             with open(name, "rb") as stream:
-                texts.append(read_aged(name, stream))
-        if texts[-1][:4] != texts[0][:4]:
+                texts.append(AgedText(name, stream))
+        if texts[-1].kind != texts[0].kind:
             raise Refusal(f"{name} is of another size, rule, or number of slots or samples")
     print("\n".join(table(texts)))
     print(NOTE)
@@ -118,7 +154,7 @@ def parser():
     return made
 
 
-def main(words):
+def main(words=None):
     try:
         options = parser().parse_args(words)
         if options.self_test:
@@ -142,37 +178,62 @@ end
 """
 
 
-def outcome(words):
-    out, err = io.StringIO(), io.StringIO()
-    with contextlib.redirect_stdout(out), contextlib.redirect_stderr(err):
-        status = main(words)
-    return status, out.getvalue(), err.getvalue()
+def check_refusals(checks, path):
+    """Each damage is told with the first line that `glass age` does not print."""
+    first, *rest = BY_HAND.splitlines(keepends=True)
+    heads = [first.replace(old, new) for old, new in
+             (("size=4", "size=0"), ("size=4", "size=5"), ("size=4", "size=66"), ("slots=1", "slots=0"),
+              ("slots=1", "slots=33"), ("slots=1", "slots=99999"), ("samples=1", "samples=0"), ("samples=1", "samples=65"),
+              ("samples=1", "samples=9999"), ("heat", "glauber"), ("tw=0", "tw=x"), ("tw=0", "tw=1000001"), ("\n", ""),
+              ("\n", " " * 99 + "\n"))]
+    cases = [("".join([head, *rest]), 1) for head in heads]
+    cases += [(BY_HAND.replace(old, new, 1), line) for line, old, new in
+              ((2, ",64", ",65"), (2, ",64", ",66"), (2, ",64", ",62"), (3, "age,0,0,1,0,0", "age,0,0,1,1,0"),
+               (3, "age,0,0,1,0,0", "age,0,0,0,0,64"), (3, "age,0,0,1,", "age,0,0,1000001,"), (3, ",1,0,0", ",1,0,1"),
+               (3, ",1,0,0", ",1,0,-3"), (5, "age,0,1,1,", "age,0,1,2,"), (6, "end", "age,0,1,2,0,0"), (6, "end\n", ""),
+               (6, "end\n", "end"), (7, "end\n", "end\n\n"))]
+    cases += [(first + "end\n", 2), ("", 1), (first.replace("slots=1", "slots=2") + "".join(rest), 6)]
+    many = "".join(f"age,0,0,{t},0,{64 if t == 0 else 0}\n" for t in range(33))
+    cases += [(first + many, 34)]
+    for text, line in cases:
+        path.write_text(text)
+        wanted = f"correlations: {path} is wrong at line {line}\n"
+        checks.same(f"damage at line {line}", outcome([str(path)], main), (2, "", wanted))
+
+
+def check_words(checks, path):
+    path.write_text(BY_HAND)
+    other = path.with_name("other.txt")
+    other.write_text(BY_HAND.replace("heat", "metropolis"))
+    for words in ([str(path) + "x"], [str(path), str(other)], ["--what"]):
+        status, out, err = outcome(words, main)
+        checks.same(f"{words} is refused in a line", (status, out, err.count("\n")), (2, "", 1))
+    for picture in ("x.what", "none/x.png"):
+        status, out, err = outcome([str(path), "--plot", str(path.parent / picture)], main)
+        drawn = "matplotlib is missing" not in out
+        checks.same(f"a plot {picture}", (status, err.count("\n")), (2, 1) if drawn else (0, 0))
 
 
 def self_test():
-    faults = []
-
-    def same(name, got, wanted):
-        if got != wanted:
-            faults.append(name)
-            print(f"{name}: got {got!r}, wanted {wanted!r}", file=sys.stderr)
-
+    checks = Checks("correlations")
     with tempfile.TemporaryDirectory() as folder:
         path = Path(folder) / "aged.txt"
         path.write_text(BY_HAND)
-        status, out, _ = outcome([str(path)])
-        same("status", status, 0)
-        same("means", out.splitlines()[2:4], ["   0        0        0   1.000000", "   0        0        1   0.000000"])
-        for line, old, new in ((1, "tw=0", "tw=x"), (2, ",64", ",65"), (3, "age,0,0,1,0,0", "age,0,0,1,1,0"),
-                               (6, "end\n", "")):
-            path.write_text(BY_HAND.replace(old, new, 1))
-            status, out, err = outcome([str(path)])
-            at = 5 if new == "" else line
-            same(f"damage at line {line}", (status, out, err), (2, "", f"correlations: {path} is wrong at line {at}\n"))
-        same("a missing file", outcome([str(path) + "x"])[0], 2)
-    print("correlations: self-test", "failed" if faults else "passed")
-    return 1 if faults else 0
+        status, out, _ = outcome([str(path)], main)
+        checks.same("status", status, 0)
+        means = ["   0        0        0   1.000000", "   0        0        1   0.000000"]
+        checks.same("means", out.splitlines()[2:4], means)
+        # Two slots, two samples and two times, of which A is 2, 4, .. by its place.
+        rows = [f"age,{slot},{copy},{t},{b},{16 * slot + 8 * copy + 4 * (t == 9) + 2 * b + 2}\n"
+                for slot in range(2) for copy in range(2) for t in (5, 9) for b in range(2)]
+        path.write_text("age 1 size=4 slots=2 samples=2 rule=heat tw=3\n" + "".join(rows) + "end\n")
+        found = [line.split()[1:] for line in outcome([str(path)], main)[1].splitlines()[2:6]]
+        checks.same("two slots", found, [["3", "5", f"{7 / 64:.6f}"], ["3", "9", f"{11 / 64:.6f}"],
+                                         ["3", "5", f"{23 / 64:.6f}"], ["3", "9", f"{27 / 64:.6f}"]])
+        check_refusals(checks, path)
+        check_words(checks, path)
+    return checks.end()
 
 
 if __name__ == "__main__":
-    sys.exit(main(sys.argv[1:]))
+    sys.exit(main())
