@@ -135,6 +135,20 @@ def check_end(checks: Checks, case: Case) -> None:
     checks.same("a longer run", (case.call(), case.is_one_run()), ((0, ""), True))
 
 
+def check_output(checks: Checks, case: Case) -> None:
+    """An output that takes nothing is told in a line, and what the parts are stays."""
+    checks.same("a run", case.call(), (0, ""))
+    if not Path("/dev/full").exists():
+        return
+    for what, *words in (("report", "join"), ("states", "status"), ("last line", "run", "--program", str(STAND_IN))):
+        command = [sys.executable, str(TOOLS / "long_run.py"), *words, str(case.path)]
+        with open("/dev/full", "wb") as full:
+            ran = subprocess.run(command, stdout=full, stderr=subprocess.PIPE, universal_newlines=True, check=False)
+        wanted = (9, f"long_run: writing the {what} failed: No space left on device\n")
+        checks.same(f"{words[0]} into a full device", (ran.returncode, ran.stderr), wanted)
+    checks.same("as it was", case.is_one_run(), True)
+
+
 def check_other_run(checks: Checks, case: Case) -> None:
     case.trouble("status 11 12")
     checks.same("no memory", case.call(), (11, "glass: no memory\n"))
@@ -190,6 +204,6 @@ def self_test() -> int:
     with tempfile.TemporaryDirectory() as name:
         folder = Path(name)
         check_run_file(checks, folder)
-        for number, check in enumerate((check_end, check_other_run, check_troubles, check_damage)):
+        for number, check in enumerate((check_end, check_output, check_other_run, check_troubles, check_damage)):
             check(checks, Case(folder / f"case-{number}"))
     return checks.end()
