@@ -28,13 +28,14 @@ from collections import namedtuple
 from fractions import Fraction
 
 sys.dont_write_bytecode = True
-from analyse import LONGEST_LINE, Report, spelled  # noqa: E402
+from analyse import LONGEST_LINE, Report, read_each, spelled  # noqa: E402
 from make_tables import OneLineParser, Refusal, add_temperatures, inverse_temperatures  # noqa: E402
 
 # The number of rows, and the sums over them of both energies, of the squared overlap and of its square.
 Sums = namedtuple("Sums", "rows energy squares fourths")
-# Of each slot the sums over all rows, and for each block those over the rows outside it.
-Averages = namedtuple("Averages", "size slots samples blocks rows totals without")
+# Of each slot the sums over all rows, and for each block those over the rows outside it. `run` is what a report tells of
+# its run, the first line and the interval of its epochs; None of sums, which tell neither.
+Averages = namedtuple("Averages", "size slots samples blocks rows totals without run")
 
 COUNT = rb"(0|[1-9][0-9]{0,38})"
 SIGNED = rb"(0|-?[1-9][0-9]{0,38})"
@@ -96,7 +97,7 @@ class SumsFile:
             raise self.damaged("the end is due")
         if self.stream.readline(1):
             raise self.damaged("the sums have ended before this line")
-        return Averages(size, slots, samples, blocks, rows, totals, without)
+        return Averages(size, slots, samples, blocks, rows, totals, without, None)
 
 
 def sums_of_report(name, stream, blocks, skip):
@@ -115,7 +116,8 @@ def sums_of_report(name, stream, blocks, skip):
         blocked = [together(part) for part in parts]
         totals.append(together(blocked))
         without.append([outside(totals[slot], part) for part in blocked])
-    return Averages(h.size, h.slots, h.samples, blocks, report.counted * h.samples * h.slots, totals, without)
+    rows = report.counted * h.samples * h.slots
+    return Averages(h.size, h.slots, h.samples, blocks, rows, totals, without, (h, report.every))
 
 
 def read(name, stream, options):
@@ -129,29 +131,23 @@ def read(name, stream, options):
     return sums_of_report(name, stream, options.blocks or 1, options.skip)
 
 
-def read_named(name, options):
-    if name == "-":
-        return read("standard input", sys.stdin.buffer, options)
-    try:
-        with open(name, "rb") as stream:
-            return read(name, stream, options)
-    except OSError as fault:
-        raise Refusal(f"{name} can't be read: {fault.strerror}") from None
-
-
 def joined(names, parts):
     """The sums of several files, each of which is a block."""
-    first, seen = parts[0], {}
+    first, seen, reports = parts[0], {}, []
     for name, part in zip(names, parts):
         if (part.size, part.slots, part.samples, part.rows) != (first.size, first.slots, first.samples, first.rows):
             raise Refusal(f"{name} is of another run than {names[0]}: sizes, samples or rows differ")
+        if part.run:
+            reports.append((name, part.run))
+            if part.run != reports[0][1]:
+                raise Refusal(f"{name} is of another run than {reports[0][0]}: the first lines or epochs differ")
         other = seen.setdefault(tuple(part.totals), name)
         if other is not name:
             raise Refusal(f"{name} has the same sums as {other}: files must differ in their seeds")
     totals = [together(part.totals[slot] for part in parts) for slot in range(first.slots)]
     without = [[outside(totals[slot], part.totals[slot]) for part in parts] for slot in range(first.slots)]
     count = len(parts)
-    return Averages(first.size, first.slots, first.samples * count, count, first.rows * count, totals, without)
+    return Averages(first.size, first.slots, first.samples * count, count, first.rows * count, totals, without, first.run)
 
 
 # ---------------------------------------------------------------- values and errors
@@ -199,7 +195,7 @@ def jackknife(options):
     if options.blocks is not None and len(options.files) > 1:
         raise Refusal("of several files each is a block: --blocks is for one")
     options.files = options.files or ["-"]
-    parts = [read_named(name, options) for name in options.files]
+    parts = list(read_each(options.files, lambda name, stream: read(name, stream, options)))
     averages = joined(options.files, parts) if len(parts) > 1 else parts[0]
     if betas and len(betas) != averages.slots:
         raise Refusal(f"{len(betas)} temperatures, and there are {averages.slots} slots")

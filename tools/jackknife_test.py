@@ -1,6 +1,7 @@
 """The self-test of jackknife.py, over reports of the independent program in tools/reference."""
 import io
 import math
+import re
 import statistics
 import sys
 import tempfile
@@ -94,7 +95,12 @@ def check_several(checks, caller):
             checks.same(f"slot {t}, {got} of three", abs(value - got) < 0.6e-6, True)
     sums = [sums_text(rows, blocks) for (_, rows), blocks in zip(reports, (1, 2, 5))]
     checks.same("three sums", caller.call(sums), caller.call(texts))
-    for several, words in ((texts[:2] + texts[:1], []), (texts, ["--blocks", "3"]), ([texts[0], glass_report(7, 4)[0]], [])):
+    checks.same("sums and reports", caller.call(sums[:1] + texts[1:]), caller.call(texts))
+    # As many rows, but by the other rule, or of the same epoch where each second one is recorded.
+    heat = texts[1].replace("metropolis", "heat")
+    sparse = text_of_lines(line for line in texts[1].splitlines() if not re.match("row,[0246],", line))
+    for several, words in ((texts[:2] + texts[:1], []), (texts, ["--blocks", "3"]), ([texts[0], glass_report(7, 4)[0]], []),
+                           ([texts[0], heat], []), ([sums[0], heat, texts[2]], []), ([texts[0], sparse], ["--skip", "7"])):
         status, out, err = caller.call(several, *words)
         checks.same(f"{words} of several is refused", (status, out, err.count("\n"), err[:11]), (2, "", 1, "jackknife: "))
 
