@@ -31,7 +31,7 @@ from fractions import Fraction
 from pathlib import Path
 
 sys.dont_write_bytecode = True
-from make_tables import OneLineParser, Refusal  # noqa: E402
+from make_tables import NUMBER, OneLineParser, Refusal  # noqa: E402
 
 try:
     import numpy
@@ -42,6 +42,7 @@ MAGIC = b"GLASSCJ1"
 GREATEST_SAMPLES = 256
 GREATEST_SEED = 2 ** 63 - 1
 LAGS = (24, 55, 61)
+HALF = "1/2"
 
 
 # ---------------------------------------------------------------- files
@@ -239,11 +240,11 @@ def seed_of(options):
 
 
 def probability(text):
-    try:
-        value = Fraction(text)
-    except (ValueError, ZeroDivisionError):
-        raise Refusal(f"--negative is no number: {text}") from None
-    if not 0 <= value <= 1:
+    # A Fraction of a text with a great exponent has as many digits as that.
+    if text != HALF and not NUMBER.fullmatch(text):
+        raise Refusal(f"--negative is no plain decimal: {text!r}")
+    value = Fraction(text)
+    if value > 1:
         raise Refusal(f"--negative is not from 0 to 1: {text}")
     return value
 
@@ -305,7 +306,7 @@ def parser_of_words():
         if command != "plus":
             words.add_argument("--seed", type=int, metavar="S")
         if command == "random":
-            words.add_argument("--negative", default="1/2", metavar="P")
+            words.add_argument("--negative", default=HALF, metavar="P")
     for command in ("gauge", "to-text", "from-text"):
         words = commands.add_parser(command, allow_abbrev=False)
         words.add_argument("file", metavar="FILE")

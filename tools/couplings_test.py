@@ -114,9 +114,14 @@ def distributions(checks, folder):
         call("random", name, "--size", 6, "--samples", 1, "--seed", 3, "--negative", chance)
         _, samples = couplings.couplings_of("r", name.read_bytes())
         checks.same(f"negative bonds at {chance}", least <= sum(samples[0]) <= most, True)
+    made = ("random", name, "--size", 4, "--samples", 1, "--seed", 1)
+    halves = [(call(*made, *words)[0], name.read_bytes()) for words in ((), ("--negative", "1/2"), ("--negative", "5e-1"))]
+    checks.same("one half", halves, [(0, halves[0][1])] * 3)
     for words in [("random", name, "--size", 5, "--samples", 1, "--seed", 1), ("plus", name, "--size", 4, "--samples", 257),
-                  ("random", name, "--size", 4, "--samples", 1, "--seed", 1, "--negative", "2"), ()]:
-        checks.same(f"{words[2:]} is refused", call(*words)[0], 2)
+                  *((*made, f"--negative={text}") for text in
+                    ("2", "1.0001", "-0.1", "nan", "inf", "", "1/3", "1/0", "1_0", "1e-9999999", "1e9999999", "1\n")), ()]:
+        status, _, told = call(*words)
+        checks.same(f"{words[2:]} is refused in a line", (status, told.count("\n")), (2, 1))
 
 
 def without_numpy(checks):
