@@ -191,22 +191,28 @@ def check_size(options):
         raise Refusal(f"the size is no even number from 4 to 64: {options.size}")
 
 
+def place(options):
+    """Takes the temperatures of a range as those that were given. Returns the lines that tell them."""
+    if options.range is None:
+        if options.slots is not None or options.acceptance is not None:
+            raise Refusal("--slots and --acceptance are of a --range")
+        return []
+    from place_temperatures import Unlawful, placed
+    if options.betas or options.temperatures:
+        raise Refusal("temperatures are given, or a range of them")
+    try:
+        options.temperatures, told = placed(options)
+    except Unlawful as fault:
+        raise Refusal(str(fault)) from None
+    return told
+
+
 def make(options):
-    if options.range is not None:
-        from place_temperatures import Unlawful, placed
-        if options.betas or options.temperatures:
-            raise Refusal("temperatures are given, or a range of them")
-        check_size(options)
-        try:
-            options.temperatures = placed(options)
-        except Unlawful as fault:
-            raise Refusal(str(fault)) from None
-    elif options.slots is not None or options.acceptance is not None:
-        raise Refusal("--slots and --acceptance are of a --range")
+    check_size(options)
+    placing = place(options)
     betas = inverse_temperatures(options)
     if options.rule is None or betas is None:
         raise Refusal("a rule and --betas, --temperatures or --range are needed; --help says more")
-    check_size(options)
     rules = [rule_record(options.rule, beta) for beta in betas]
     swaps = [swap_record(betas[k] - betas[k + 1], options.size) for k in range(len(betas) - 1)]
     write_text(options.rules, text_of(rules))
@@ -217,6 +223,8 @@ def make(options):
             print(f"make_tables: warning: the record of pair {pair} is cut at {GREATEST_ENTRIES} entries: a swap at the "
                   f"gap {2 * GREATEST_ENTRIES + 2} would have the probability {chance:.2g} and will never be made",
                   file=sys.stderr)
+    for line in placing:
+        print(line)
     name = "heat bath" if options.rule == "heat" else "Metropolis"
     print(f"wrote {options.rules}: {name}, {len(rules)} {'slots' if len(rules) > 1 else 'slot'}")
     counts = ", ".join(str(len(entries)) for entries, _ in swaps)
@@ -344,7 +352,8 @@ def test_calls(checks, folder):
     refused += [["heat", "--range", *words.split()] for words in
                 ("1 2", "2 1 --slots 4", "0 1 --slots 4", "1 x --slots 4", "1 2 --slots 1", "1 2 --slots 33", "1 nan --slots 2",
                  "1 2 --slots 4 --acceptance", "0.1 2 --slots 4 --size 8 --acceptance", "1 2 --slots 3 --size 7 --acceptance",
-                 "1 2 --slots 4 --size 8 --acceptance none/such", "1 2 --slots 3 --betas 1")]
+                 "1 2 --slots 4 --size 8 --acceptance none/such", "1 2 --slots 3 --betas 1", "1 1.00001 --slots 9")]
+    refused += [["--range", "1", "2", "--slots", "3"], ["--range", "1", "2", "--slots", "3", "--size", "8", "--acceptance"]]
     refused += [["heat", "--betas", "1", "--slots", "1"], ["heat", "--betas", "1", "--acceptance"]]
     for words in refused:
         status, out, err = outcome(words + files)
@@ -362,8 +371,9 @@ def test_calls(checks, folder):
     status, out, err = outcome(["heat", "--betas", "0.101", "0.1", *files])
     checks.same("a warning", (status, err.count("\n"), "pair 0 is cut at 4096 entries" in err), (0, 1, True))
     checks.same("no warning at size 4", outcome(["heat", "--betas", "0.101", "0.1", "--size", "4", *files])[2], "")
-    status, out, err = outcome(["heat", "--betas", "1", "--rules", str(folder / "none" / "rules.csv")])
-    checks.same("a folder that isn't there", (status, out, err.count("\n")), (2, "", 1))
+    for words in (["--betas", "1"], ["--range", "1", "2", "--slots", "3"]):
+        status, out, err = outcome(["heat", *words, "--rules", str(folder / "none" / "rules.csv")])
+        checks.same("a folder that isn't there", (status, out, err.count("\n")), (2, "", 1))
 
 
 def test_ranges(checks, folder, files):

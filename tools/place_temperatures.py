@@ -81,8 +81,8 @@ def acceptances(table: Table, temperatures: Sequence[float], sites: int) -> List
             for a, b in zip(temperatures, temperatures[1:])]
 
 
-def placed(options: argparse.Namespace) -> List[str]:
-    """The texts of the temperatures that --range, --slots and --acceptance ask for."""
+def placed(options: argparse.Namespace) -> Tuple[List[str], List[str]]:
+    """The texts of the temperatures that --range, --slots and --acceptance ask for, and the lines that tell them."""
     try:
         low, high = map(float, options.range)
     except ValueError:
@@ -92,19 +92,18 @@ def placed(options: argparse.Namespace) -> List[str]:
     if options.slots is None or not 2 <= options.slots <= 32:
         raise Unlawful(f"a range wants --slots from 2 to 32: {options.slots}")
     if options.acceptance is None:
-        return texts_of(options, geometric(low, high, options.slots))
+        texts = texts_of(options, geometric(low, high, options.slots))
+        return texts, ["temperatures: " + " ".join(texts)]
     if options.size is None:
         raise Unlawful("--acceptance wants --size")
     table = GLASS if options.acceptance == "" else read_energies(options.acceptance)
     texts = texts_of(options, even(table, low, high, options.slots))
     rates = acceptances(table, [float(text) for text in texts], options.size ** 3)
-    print(f"acceptance of exchanges, estimated: {min(rates):.2f} to {max(rates):.2f}")
-    return texts
+    return texts, ["temperatures: " + " ".join(texts),
+                   f"acceptance of exchanges, estimated: {min(rates):.2f} to {max(rates):.2f}"]
 
 
 def texts_of(options: argparse.Namespace, temperatures: Sequence[float]) -> List[str]:
     """The ends as they were given, between them five decimals."""
     inner = [f"{value:.5f}".rstrip("0").rstrip(".") for value in temperatures[1:-1]]
-    texts = [options.range[0], *inner, options.range[1]]
-    print("temperatures: " + " ".join(texts))
-    return texts
+    return [options.range[0], *inner, options.range[1]]
