@@ -20,6 +20,7 @@ import struct
 import sys
 import tempfile
 from pathlib import Path
+from types import SimpleNamespace
 from typing import List, Optional, Sequence
 
 sys.dont_write_bytecode = True
@@ -59,6 +60,8 @@ def sealed(path: Path, length: int, facts: List[str]) -> List[str]:
     with open(path, "rb") as stream:
         while left:
             block = stream.read(min(left, 1 << 20))
+            if not block:
+                raise Damaged(f"it ended {left + DIGEST_BYTES} bytes early as it was read", facts)
             digest.update(block)
             left -= len(block)
         stored = stream.read()
@@ -142,13 +145,6 @@ def run_file(path: Path) -> List[str]:
     return ["run file (glass check judges it)", ", ".join(f"{key} {json.dumps(value)}" for key, value in keys.items())]
 
 
-class Digesting(io.RawIOBase):
-    """An output that keeps nothing."""
-
-    def write(self, data: bytes) -> int:  # type: ignore[override]
-        return len(data)
-
-
 def run_folder(path: Path) -> List[str]:
     folder = RunFolder(path)
     keys, chain = read_keys(folder.run_file), folder.chain()
@@ -165,7 +161,8 @@ def run_folder(path: Path) -> List[str]:
             raise Damaged(f"{folder.checkpoint(record)} is damaged", facts)
     if not folder.checkpoint(chain[-1]).exists():
         raise Damaged(f"{folder.checkpoint(chain[-1])} is missing", facts)
-    joined = write_joined(folder, chain, Digesting())  # type: ignore[arg-type]
+    with open(os.devnull, "wb") as nowhere:
+        joined = write_joined(folder, chain, nowhere)
     if folder.report.exists() and chain[-1].until == keys["epochs"] and digest_of(folder.report) != joined:
         raise Damaged(f"{folder.report} is not what the parts make: remove it, and run or join again", facts)
     return facts + [f"joined report: SHA-256 {joined}"]
@@ -210,6 +207,30 @@ def checkpoint_bytes(kind: bytes, head: bytes, body: int) -> bytes:
     return stored + hashlib.sha256(stored).digest()
 
 
+class Shrunk:
+    """A file that has lost its end since its length was looked at."""
+
+    def __init__(self, path: Path, length: int) -> None:
+        self.path, self.length = path, length
+
+    def __fspath__(self) -> str:
+        return str(self.path)
+
+    def stat(self) -> SimpleNamespace:
+        return SimpleNamespace(st_size=self.length)
+
+
+def check_shrunk(checks: Checks, path: Path, stored: bytes) -> None:
+    """A file that ends while it is read is told so: its reader doesn't wait for the rest."""
+    for length in (len(stored) - 40, 9, 0):
+        path.write_bytes(stored[:length])
+        try:
+            told = sealed(Shrunk(path, len(stored)), len(stored), [])  # type: ignore[arg-type]
+        except Damaged as damaged:
+            told = [str(damaged)]
+        checks.same(f"shrunk to {length}", told, [f"it ended {len(stored) - length} bytes early as it was read"])
+
+
 def self_test() -> int:
     """Lengths are the worked ones of docs/specification/checkpoint.md."""
     checks, plan = Checks("describe"), bytes(range(32))
@@ -234,6 +255,7 @@ def self_test() -> int:
                 path.write_bytes(damaged)
                 status, out, _ = outcome([str(path)], main)
                 checks.same(f"{first}, damaged", (status, "not whole" in out), (1, True))
+        check_shrunk(checks, path, level)
         path.write_bytes(b"something else")
         checks.same("another file", outcome([str(path)], main)[0], 1)
         checks.same("no file", outcome([name + "/none"], main)[0], 2)
