@@ -1,5 +1,5 @@
-# What the benchmark scripts share. A script sources it after it has set passes and limit, sizes, replicas,
-# sweeps and steady too where it takes them, and a function usage.
+# What the benchmark scripts share. A script sources it after it has set passes, limit, sizes, replicas, sweeps and
+# steady, each where it takes it, and a function usage. One that takes no --cpu unsets cpu then.
 set -euo pipefail
 
 script=${0##*/}
@@ -26,8 +26,13 @@ ratio() {
     esac
 }
 
+# Refuses the word --$1 where the script has no such variable: it would do nothing.
+takes() {
+    [ -n "${!1+set}" ] || fail "unknown word '--$1' (see --help)"
+}
+
 check_words() {
-    case "$cpu" in
+    case "${cpu-x86-64-v2}" in
         x86-64-v2 | x86-64-v3) ;;
         *) fail "--cpu takes x86-64-v2 or x86-64-v3, not '$cpu'" ;;
     esac
@@ -35,7 +40,7 @@ check_words() {
         1 | 2) ;;
         *) fail "--replicas takes 1 or 2, not '$replicas'" ;;
     esac
-    ratio --limit "$limit"
+    ratio --limit "${limit-1}"
     case "${steady-0}" in
         0) ;;
         0* | .*) fail "--steady takes a ratio above 1, not '$steady'" ;;
@@ -48,17 +53,14 @@ read_words() {
     while [ $# -gt 0 ]; do
         case "$1" in
             --help) usage; exit 0 ;;
-            --cpu) cpu=${2-} ;;
-            --limit) limit=${2-} ;;
-            --passes) passes=$(number --passes "${2-}") ;;
+            --cpu) takes cpu; cpu=${2-} ;;
+            --limit) takes limit; limit=${2-} ;;
+            --passes) takes passes; passes=$(number --passes "${2-}") ;;
             --turns) turns=$(number --turns "${2-}") ;;
-            --sweeps) [ -n "${sweeps-}" ] || fail "unknown word '$1' (see --help)"
-                sweeps=$(number --sweeps "${2-}") ;;
-            --steady) [ -n "${steady+set}" ] || fail "unknown word '$1' (see --help)"
-                steady=${2-} ;;
-            --replicas) [ -n "${replicas-}" ] || fail "unknown word '$1' (see --help)"
-                replicas=${2-} ;;
-            --sizes) [ -n "${sizes-}" ] || fail "unknown word '$1' (see --help)"; sizes=${2-} ;;
+            --sweeps) takes sweeps; sweeps=$(number --sweeps "${2-}") ;;
+            --steady) takes steady; steady=${2-} ;;
+            --replicas) takes replicas; replicas=${2-} ;;
+            --sizes) takes sizes; sizes=${2-} ;;
             *) fail "unknown word '$1' (see --help)" ;;
         esac
         shift 2 || fail "a value is missing (see --help)"

@@ -17,6 +17,7 @@ END
 
 limit=3
 . "$(dirname "$0")/common.sh"
+unset cpu
 read_words "$@"
 begin_with_glass
 exec python3 - "$turns" "$limit" <<'END'

@@ -25,7 +25,6 @@ END
 }
 
 passes=500
-limit=1
 sizes="8 16 32 64"
 . "$(dirname "$0")/common.sh"
 begin_runs "$@"

@@ -22,7 +22,6 @@ END
 }
 
 passes=500
-limit=1
 . "$(dirname "$0")/common.sh"
 begin_runs "$@"
 size=16

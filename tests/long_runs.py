@@ -6,7 +6,7 @@
 PROGRAM is the one that tests/program.sh finds or builds, where none is named. Kills come at moments
 by chance; --seed S makes them those of another test. A case that this machine can't make is told as not run.
 
-Status: 0 where all cases passed, 1 where one failed, 2 where there is no program."""
+Status: 0 where all cases passed, 1 where one failed, 2 for wrong words or where there is no program."""
 from __future__ import annotations
 
 import os
@@ -21,7 +21,7 @@ from typing import Callable, List, Optional, Tuple
 
 sys.dont_write_bytecode = True
 from one_run import (EPOCHS, OneRun, after, child_of, ended, is_at_work, kill_driver,  # noqa: E402
-                     kill_program, parts_of, program_of)
+                     kill_program, parts_of, program_of, seed_of)
 
 LONGER = 3 * EPOCHS // 2
 KILLS = 5
@@ -252,8 +252,7 @@ def main(words: List[str]) -> int:
     if words == ["--help"]:
         print(__doc__)
         return 0
-    seed = int(words.pop(words.index("--seed") + 1)) if "--seed" in words else 1
-    words = [word for word in words if word != "--seed"]
+    seed, words = seed_of(words)
     # A shell that starts this in the background has Ctrl-C ignored, and a driver that is begun so leaves it at that.
     signal.signal(signal.SIGINT, signal.default_int_handler)
     program, start, failed = program_of(words), time.monotonic(), 0

@@ -3,13 +3,14 @@ from __future__ import annotations
 
 import os
 import random
+import re
 import shutil
 import signal
 import subprocess
 import sys
 import time
 from pathlib import Path
-from typing import Dict, List, Optional, Tuple
+from typing import Dict, List, NoReturn, Optional, Tuple
 
 ROOT = Path(__file__).resolve().parent.parent
 DRIVER = ROOT / "tools" / "long_run.py"
@@ -34,11 +35,29 @@ RUN_SECONDS = 1.2
 MOST_SWEEPS = 1000000
 CHILD_SECONDS = 2.0
 LONGEST = 120
-NO_PROGRAM = 2
+WRONG_WORDS = NO_PROGRAM = 2
+
+
+def give_up(status: int, text: str) -> NoReturn:
+    print(f"{Path(sys.argv[0]).name}: {text}", file=sys.stderr)
+    sys.exit(status)
+
+
+def seed_of(words: List[str]) -> Tuple[int, List[str]]:
+    """The number behind --seed, 1 where it isn't there, and the other words."""
+    if "--seed" not in words:
+        return 1, words
+    at = words.index("--seed")
+    text = words[at + 1] if at + 1 < len(words) else ""
+    if not re.fullmatch("[0-9]{1,18}", text):
+        give_up(WRONG_WORDS, f"--seed takes a number, not '{text}'")
+    return int(text), words[:at] + words[at + 2:]
 
 
 def program_of(words: List[str]) -> str:
     """The program to be tested: that of the words, else the one that tests/program.sh finds or builds."""
+    if len(words) > 1:
+        give_up(WRONG_WORDS, f"what is {words[1]}? --help says more")
     if words:
         place = words[0]
     else:
@@ -46,8 +65,7 @@ def program_of(words: List[str]) -> str:
                                check=False).stdout.strip()
     if os.access(place, os.X_OK) and os.path.isfile(place):
         return os.path.abspath(place)
-    print(f"{Path(sys.argv[0]).name}: there is no program {place}: nothing was tested", file=sys.stderr)
-    sys.exit(NO_PROGRAM)
+    give_up(NO_PROGRAM, f"there is no program {place}: nothing was tested")
 
 
 class OneRun:

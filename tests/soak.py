@@ -8,7 +8,8 @@ The second has no driver: a checkpoint is saved under the name that it was read 
 After each kill the saved name must hold the checkpoint before or the one behind, whole: then nothing is lost but
 the part in work. Those that are written in part are counted. --seed S takes other moments.
 
-Status: 0 where all ends are right, and no checkpoint was written in part; 1 where not; 2 where there is no program."""
+Status: 0 where all ends are right, and no checkpoint was written in part; 1 where not; 2 for wrong words or where
+there is no program."""
 from __future__ import annotations
 
 import contextlib
@@ -26,7 +27,7 @@ from pathlib import Path
 from typing import List, Optional, Tuple
 
 sys.dont_write_bytecode = True
-from one_run import EXAMPLE, OneRun, after, kill_driver, kill_program, program_of  # noqa: E402
+from one_run import EXAMPLE, OneRun, after, kill_driver, kill_program, program_of, seed_of  # noqa: E402
 
 sys.path.insert(0, str(Path(__file__).resolve().parent.parent / "tools"))
 from describe import Damaged, level_checkpoint  # noqa: E402
@@ -209,8 +210,7 @@ def soak_program(program: str, kills: int, chance: random.Random) -> int:
 
 
 def main(words: List[str]) -> int:
-    seed = int(words.pop(words.index("--seed") + 1)) if "--seed" in words else 1
-    words = [word for word in words if word != "--seed"]
+    seed, words = seed_of(words)
     if len(words) < 2 or words[0] not in ("drivers", "program") or not words[1].isdigit():
         print(__doc__)
         return 0 if words == ["--help"] else 2

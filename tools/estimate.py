@@ -211,7 +211,9 @@ def parser_of_words() -> argparse.ArgumentParser:
                            help="files, or - for standard input (the default)")
         if command != "lengths":
             words.add_argument("--skip", type=int, default=0, metavar="EPOCH", help="leave out the epochs before this one")
-        words.add_argument("--blocks", type=int, metavar="K", help="of one file: the number of blocks of its samples")
+        words.set_defaults(blocks=None)
+        if command not in ("times", "export"):
+            words.add_argument("--blocks", type=int, metavar="K", help="of one file: the number of blocks of its samples")
         add_temperatures(words)
         if command == "export":
             words.add_argument("--npz", metavar="FILE", help="arrays for numpy.load")

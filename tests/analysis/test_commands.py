@@ -64,7 +64,8 @@ def test_the_two_kinds_of_files_are_not_taken_for_each_other(reports, tmp_path):
                                    ["overlaps", "1.txt", "--slot", "3"], ["overlaps", "1.txt", "--bins", "0"],
                                    ["export", "1.txt"], ["means", "1.txt", "--skip", "99"], ["means", "1.txt", "--blocks", "3"],
                                    ["means", "1.txt", "2.txt", "--blocks", "1"], ["means", "1.txt", "--plot", "x.what"],
-                                   ["means", "1.txt", "1.txt"]])
+                                   ["means", "1.txt", "1.txt"], ["times", "1.txt", "--blocks", "2"],
+                                   ["export", "1.txt", "--npz", "x.npz", "--blocks", "2"]])
 def test_a_refusal_is_a_line(reports, words, monkeypatch):
     monkeypatch.chdir(reports)
     status, _, err = call(*words)
