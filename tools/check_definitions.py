@@ -86,6 +86,10 @@ def sources(root: Path) -> List[Dict[str, str]]:
             {it: (root / "tools/reference" / f"{it}.py").read_text(encoding="utf-8") for it in set(PATHS.values())}]
 
 
+def count_in(root: Path) -> int:
+    return sum(len(defined_in(it)) for it in sources(root)[0].values())
+
+
 def self_test(root: Path) -> int:
     """Tests the tool on the repository's own files, changed."""
     specs, modules = sources(root)
@@ -103,10 +107,8 @@ def self_test(root: Path) -> int:
 
 def main(words: List[str]) -> int:
     root = Path(__file__).resolve().parent.parent
-    specs, modules = sources(root)
-    count = sum(len(defined_in(it)) for it in specs.values())
-    return source_check.run("check_definitions", words, lambda: self_test(root), lambda: missing(specs, modules),
-                            lambda: f"{count} definitions are written down in tools/reference or told there")
+    return source_check.run("check_definitions", __doc__, words, lambda: self_test(root), lambda: missing(*sources(root)),
+                            lambda: f"{count_in(root)} definitions are written down in tools/reference or told there")
 
 
 if __name__ == "__main__":

@@ -120,10 +120,15 @@ def differences(lines: str, statuses: str, pages: Dict[str, str]) -> List[str]:
     return found
 
 
+def sources(root: Path) -> Tuple[str, str, Dict[str, str]]:
+    """Both files of definitions, and the pages."""
+    lines, statuses = ((root / it).read_text(encoding="utf-8") for it in (LINES, STATUSES))
+    return lines, statuses, {it: (root / it).read_text(encoding="utf-8") for it in PAGES}
+
+
 def self_test(root: Path) -> int:
     """Tests the tool on the repository's own pages, changed."""
-    lines, statuses = ((root / it).read_text(encoding="utf-8") for it in (LINES, STATUSES))
-    pages = {it: (root / it).read_text(encoding="utf-8") for it in PAGES}
+    lines, statuses, pages = sources(root)
     manual = "docs/manual/when_a_run_ends_badly.md"
     row = next(it for it in pages[manual].split(PAGES[manual])[1].splitlines() if "is not TOML" in it)
     cases = [(pages[manual], 0), (pages[manual].replace(row + "\n", ""), 1),
@@ -141,10 +146,8 @@ def self_test(root: Path) -> int:
 
 def main(words: List[str]) -> int:
     root = Path(__file__).resolve().parent.parent
-    lines, statuses = ((root / it).read_text(encoding="utf-8") for it in (LINES, STATUSES))
-    pages = {it: (root / it).read_text(encoding="utf-8") for it in PAGES}
-    return source_check.run("check_messages", words, lambda: self_test(root), lambda: differences(lines, statuses, pages),
-                            lambda: f"{len(Definitions(lines, statuses).all())} lines have their rows")
+    return source_check.run("check_messages", __doc__, words, lambda: self_test(root), lambda: differences(*sources(root)),
+                            lambda: f"{len(Definitions(*sources(root)[:2]).all())} lines have their rows")
 
 
 if __name__ == "__main__":

@@ -159,7 +159,7 @@ def self_test() -> int:
 
 def main(words: List[str]) -> int:
     root = Path(__file__).resolve().parent.parent
-    return source_check.run("check_proofs_page", words, self_test, lambda: differences(root),
+    return source_check.run("check_proofs_page", __doc__, words, self_test, lambda: differences(root),
                             lambda: f"{PAGE} and the sources agree")
 
 

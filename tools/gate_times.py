@@ -94,10 +94,13 @@ def self_test() -> int:
 
 
 def main(words: List[str]) -> int:
+    if words == ["--help"]:
+        print(__doc__)
+        return 0
     if words == ["--self-test"]:
         return self_test()
     if words:
-        print(f"gate_times: what is {words[0]}? See the head of the file.", file=sys.stderr)
+        print(f"gate_times: what is {words[0]}? --help says more", file=sys.stderr)
         return 2
     libraries = libraries_of((Path(__file__).resolve().parent.parent / "crates.txt").read_text(encoding="utf-8"))
     print(table(read(stamped(sys.stdin), libraries), libraries), file=sys.stderr)

@@ -1,17 +1,21 @@
 """The command line that the checks of documents against the sources share."""
 import sys
-from typing import Callable, List
+from typing import Callable, List, Optional
 
 
-def run(name: str, words: List[str], self_test: Callable[[], int], find: Callable[[], List[str]],
+def run(name: str, about: Optional[str], words: List[str], self_test: Callable[[], int], find: Callable[[], List[str]],
         agreed: Callable[[], str]) -> int:
-    """Runs the check of this name with the words of its command line: its self-test where --self-test asks for it, else
-    a line on the error output for each difference that `find` gives, or what `agreed` says where there is none.
+    """Runs the check of this name with the words of its command line: what it is about where --help asks for it, its
+    self-test where --self-test does, else a line on the error output for each difference that `find` gives, or what
+    `agreed` says where there is none.
     Returns the exit status: 0 where nothing is found, 1 where something is, 2 for a wrong word."""
+    if words == ["--help"]:
+        print(about)
+        return 0
     if words == ["--self-test"]:
         return self_test()
     if words:
-        print(f"{name}: what is {words[0]}? See the head of the file.", file=sys.stderr)
+        print(f"{name}: what is {words[0]}? --help says more", file=sys.stderr)
         return 2
     found = find()
     for line in found:

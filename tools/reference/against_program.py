@@ -147,6 +147,9 @@ def plain(program, folder):
 
 
 def main(words):
+    if words == ["--help"]:
+        print(__doc__)
+        return
     if len(words) != 1:
         sys.exit("against_program: one word is wanted, the path of the program")
     program = str(Path(words[0]).resolve())

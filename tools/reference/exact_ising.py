@@ -101,6 +101,9 @@ def self_test():
 
 
 def main(words):
+    if words == ["--help"]:
+        print(__doc__)
+        return None
     if words == ["--self-test"]:
         return self_test()
     try:

@@ -101,6 +101,9 @@ def stands_in(value, text):
 
 
 def main(words):
+    if words == ["--help"]:
+        print(__doc__)
+        return 0
     known = {**SHORT, **LONG}
     if set(words) - set(known):
         sys.exit(f"published: the names are {', '.join(known)}")
