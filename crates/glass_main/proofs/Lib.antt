@@ -14,6 +14,7 @@ pub mod RunEndings
 pub mod OneBank
 pub mod AddingUp
 pub mod ReadStops
+pub mod ReadRuns
 pub mod SavedStates
 pub mod SaidWords
 pub mod SaidOnce

@@ -17,6 +17,7 @@ pub mod Lines
 pub mod Endings
 pub mod Statuses
 pub mod StopLaws
+pub mod ResumeLaws
 pub mod LawfulRuns
 pub mod SavedLaws
 pub mod SampleLaws

@@ -1,6 +1,7 @@
 //! What holds of the definitions: each law is the contract of a function with an empty body.
 
 ghost use Rattle.glass_main.specs.LawfulRuns.{EndedReportsAreLawful, RunReportsAreLawful};
+ghost use Rattle.glass_main.specs.ResumeLaws.{AcceptedBanksAreEncodings, SavedBanksAreRead, SavedRunsAreRead};
 ghost use Rattle.glass_main.specs.SampleLaws.{SamplesBelow64AreOfOneBank};
 ghost use Rattle.glass_main.specs.SavedLaws.{EncodedStatesAreRead, ReadStatesAreEncoded};
 ghost use Rattle.glass_main.specs.StopLaws.{AcceptedCheckpointsAreEncodings, SavedStopsAreRead, StoppedRunsAddUp};
@@ -24,6 +25,24 @@ pub fn accepted_checkpoints_are_encodings()
 /// What a run saved that stopped with its slots at different epochs is what the next one goes on from.
 pub fn saved_stops_are_read()
     ensures { SavedStopsAreRead }
+{}
+
+/// The checkpoint of states of 64 samples at one epoch, that fit and are in time, is what the next run
+/// goes on from as those states.
+pub fn saved_runs_are_read()
+    ensures { SavedRunsAreRead }
+{}
+
+/// The bytes of a checkpoint that a run of 2 to 4 banks goes on from are the encoding of what it goes on
+/// from: states of each bank at one epoch, which is in time.
+pub fn accepted_banks_are_encodings()
+    ensures { AcceptedBanksAreEncodings }
+{}
+
+/// The checkpoint of states of 2 to 4 banks at one epoch, that fit and are in time, is what the next run
+/// goes on from as those states.
+pub fn saved_banks_are_read()
+    ensures { SavedBanksAreRead }
 {}
 
 /// Runs that stop and are gone on with add up, however often and wherever they were stopped: the rows of

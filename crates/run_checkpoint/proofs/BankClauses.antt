@@ -156,7 +156,7 @@ banks-sealed-as : (plans : List Plan) (bytes : List ℕ) (states : List (ℕ →
 unfolding banks_encoding
 banks-sealed-as plans bytes states h long whole sized digest = banks-sealed (length plans) bytes (banks_bytes plans states) h long whole sized digest
 
-none-encoded : (plans : List Plan) (until : ℕ) (bytes : List ℕ) → 0 < length plans → All IsLawfulPlan plans → IsBytes bytes → None ≡ banks_refusal plans until bytes
+pub none-encoded : (plans : List Plan) (until : ℕ) (bytes : List ℕ) → 0 < length plans → All IsLawfulPlan plans → IsBytes bytes → None ≡ banks_refusal plans until bytes
     → AreEncoded plans until bytes (banks_in (bank_len plans) plans (drop 12 bytes))
 unfolding banks_refusal
 none-encoded plans until bytes some lawful are none =
@@ -203,12 +203,19 @@ given-only P stands (Err e) holds given = elim (memory-or e) [
   | inr not ↦ let clash = given.1 not in absurd cc
 ]
 
+-- states at one epoch in time are read, packed
+pub states-read : (plans : List Plan) (epoch until : ℕ) (states : List (ℕ → Sample)) → 0 < length plans → length plans ≤ 4 → All IsLawfulPlan plans → HaveOneShape plans
+    → AreBanks epoch plans states → epoch ≤ until → (stands : List Stand) × (banks_decoded plans until (banks_encoding plans states) ≡ Ok stands) × BanksStand plans states stands
+unfolding banks_encoding
+states-read plans epoch until states some few lawful shape are le =
+    let p = packing epoch plans states lawful are in
+    let whole : banks_encoding plans states ≡ whole_packed plans p.stands = ap (λ x. sealed (banks_header (length plans) ++ x)) p.bytes_are in
+    (p.stands, ap (banks_decoded plans until) whole ∙ banks-read epoch until plans p.stands some few lawful shape p.fit le, p.stand_for)
+
 pub banks-only : (plans : List Plan) (epoch until : ℕ) (bytes : List ℕ) (r : Result (Vec Stand) CheckpointRefused) (states : List (ℕ → Sample)) → 0 < length plans → length plans ≤ 4 → All IsLawfulPlan plans → HaveOneShape plans
     → AreBanks epoch plans states → epoch ≤ until → bytes ≡ banks_encoding plans states → GivesAfterTests refused.NoMemory (λ (v : Vec Stand). v.items) r (banks_decoded plans until bytes)
     → IfOk r (λ v. BanksStand plans states v.items) × IfErr r (λ e. e ≡ refused.NoMemory)
-unfolding banks_encoding
 banks-only plans epoch until bytes r states some few lawful shape are le is given =
-    let p = packing epoch plans states lawful are in
-    let whole : bytes ≡ whole_packed plans p.stands = is ∙ ap (λ x. sealed (banks_header (length plans) ++ x)) p.bytes_are in
-    let read = ap (banks_decoded plans until) whole ∙ banks-read epoch until plans p.stands some few lawful shape p.fit le in
-    given-only (BanksStand plans states) p.stands r p.stand_for (subst (GivesAfterTests refused.NoMemory (λ (v : Vec Stand). v.items) r) read given)
+    let packed = states-read plans epoch until states some few lawful shape are le in
+    let read = ap (banks_decoded plans until) is ∙ packed.1 in
+    given-only (BanksStand plans states) packed.0 r packed.2 (subst (GivesAfterTests refused.NoMemory (λ (v : Vec Stand). v.items) r) read given)
