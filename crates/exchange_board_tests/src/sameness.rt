@@ -32,7 +32,10 @@ fn same_pair(a: &PlainPair, b: &PlainPair) -> bool {
 
 // Two states of one sample.
 pub(super) fn same_sample(a: &Sample, b: &Sample) -> bool {
-    let mut same = a.epoch == b.epoch && a.slots.len() == b.slots.len();
+    let mut same = a.bit == b.bit
+        && a.epoch == b.epoch
+        && a.slots.len() == b.slots.len()
+        && a.pairs.len() == b.pairs.len();
     for (x, y) in a.slots.as_slice().iter().zip(b.slots.as_slice()) {
         same = same && same_slot(x, y);
     }
@@ -56,7 +59,9 @@ fn same_duo(a: &Duo, b: &Duo) -> bool {
 
 // Two states of all samples.
 pub(super) fn same_stand(a: &Stand, b: &Stand) -> bool {
-    let mut same = a.epoch == b.epoch && a.slots.len() == b.slots.len();
+    let mut same = a.epoch == b.epoch
+        && a.slots.len() == b.slots.len()
+        && a.pairs.len() == b.pairs.len();
     for (x, y) in a.slots.as_slice().iter().zip(b.slots.as_slice()) {
         same = same && same_duo(x, y);
     }

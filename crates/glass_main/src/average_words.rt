@@ -6,6 +6,7 @@ ghost use Rattle.glass_main.specs.ReadCommand.{read_average_order, IsLawfulAvera
 ghost use Rattle.glass_main.specs.Words.{texts};
 
 use crate::words::{name_word, number_word, word_at};
+use spin_model::MOST_SAMPLES;
 
 /// What `average` asks for: the name of the report, and the number of blocks of its samples, 1 to 256.
 #[derive(Clone, Copy)]
@@ -24,6 +25,6 @@ pub(crate) fn read_average(words: &[String]) -> Option<AverageOrder<'_>>
         return None;
     }
     let report = name_word(word_at(words, 1))?;
-    let blocks = number_word(word_at(words, 2), 1, 256)? as u32;
+    let blocks = number_word(word_at(words, 2), 1, MOST_SAMPLES as u64)? as u32;
     Some(AverageOrder { report, blocks })
 }

@@ -29,14 +29,20 @@ use std::thread::Threads;
 /// The program: from the words after its name to the text on `out`, the line on `err` and the exit
 /// status.
 ///
-/// Status 0: all is done, and `err` got nothing. Status 2: the words are no command. Status 3: the
-/// run file is refused, or the amount that a run would print. Status 4: a table is refused. Status 5:
-/// the couplings file is. Status 6: the checkpoint is. Status 7: the store holds no file of the name that
-/// is read next. Status 8: the store failed at a file. Status 9: the output failed. Status 10: the store
-/// failed at the checkpoint that is saved. Status 11: memory ran out, which no clause ties to a growth
-/// that failed. Status
-/// 12: the report is refused. With a status other than 0 `err` got one line, or a prefix of it where
-/// it failed itself.
+/// - 0: all is done, and `err` got nothing
+/// - 2: the words are no command
+/// - 3: the run file is refused, or the amount that a run would print
+/// - 4: a table is refused
+/// - 5: the couplings file is refused
+/// - 6: the checkpoint is refused
+/// - 7: the store holds no file of the name that is read next
+/// - 8: the store failed at a file
+/// - 9: the output failed
+/// - 10: the store failed at the checkpoint that is saved
+/// - 11: memory ran out, which no clause ties to a growth that failed
+/// - 12: the report is refused
+///
+/// With a status other than 0 `err` got one line, or a prefix of it where it failed itself.
 ///
 /// `plain`, `demo` and `potts` read no file, and end with 0, 9 or 11; words that are no command end with 2 alone.
 pub fn glass<R: Threads + Wait + Sync, H: Shelf, O: Sink, E: Sink, G: Gate + Sync>(

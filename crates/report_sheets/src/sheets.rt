@@ -19,6 +19,16 @@ const EPOCH_ROWS: u64 = 8192;
 /// The bytes of room that a sheet has for a row; those of a run have fewer. Speed alone depends on it.
 const ROW_ROOM: usize = 64;
 
+/// How many sheets all threads together have in a half, as nearly as can be: so many that a thread waits for a small
+/// part of the round at its end, and so few that each is worth its place in memory.
+const HALF_SHEETS: usize = 64;
+
+/// The fewest sheets of one of several threads in a half, so that it need not stop behind its first part.
+const FEWEST_EACH: usize = 2;
+
+/// The most sheets of one of several threads in a half.
+const MOST_EACH: usize = 16;
+
 /// The sheets of a report, and by how many threads they are to be filled. They have two halves: while the one goes
 /// out, the other is filled. There are twice as many in a half as there are parts in a round, so that a thread that
 /// gets on better than others makes more of the parts.
@@ -32,12 +42,12 @@ pub struct Sheets {
 /// How many sheets a thread has in each half, of so many threads.
 fn sheets_each(threads: usize) -> usize
     ensures some { 1 ≤ result }
-    ensures few { result ≤ 16 }
+    ensures few { result ≤ MOST_EACH }
 {
     if threads < 2 {
         return 1;
     }
-    (64 / threads).clamp(2, 16)
+    (HALF_SHEETS / threads).clamp(FEWEST_EACH, MOST_EACH)
 }
 
 /// How many rows the parts of a round have each at least, where there are as many and an epoch has no more.

@@ -60,7 +60,7 @@ fn add_digests(hasher: &mut Sha256, plans: &[Arc<Plan, Global>])
 }
 
 /// The law of the number of a plan's canonical bytes: by the numbers of its slots, entries and sites,
-/// and 1624 of the smallest plan, one slot of heat bath on the lattice of size 4.
+/// and 1624 of one slot of heat bath on the lattice of size 4.
 pub fn canonical_length(plan: &Plan)
     ensures formula { length (model.canonical plan.now) ≡ model.canonical_length plan.now }
     ensures smallest { plan.now.size ≡ 4 → slots_of plan.now ≡ 1 → plan.now.rules.kind ≡ RuleKind.Heat →
