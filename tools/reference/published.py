@@ -21,8 +21,8 @@ FULL = 2 ** 32
 UP, DOWN, BOARD = (0,) * 6 + (FULL,), (0,) * 7, (FULL,) * 3 + (0,) * 4
 
 
-def ferromagnet(rows, swaps):
-    return rule.Plan(4, "heat", tuple(rows), tuple(map(tuple, swaps)), rule.couplings_view(4, {}), 1, 7)
+def ferromagnet(rows, swaps, seed=7):
+    return rule.Plan(4, "heat", tuple(rows), tuple(map(tuple, swaps)), rule.couplings_view(4, {}), 1, seed)
 
 
 def glass(size, slots, sweeps, seed):
@@ -35,11 +35,22 @@ def plan_digest(plan):
     return sha256(rule.canonical(plan)).hexdigest()
 
 
-def level_digest(epoch):
-    """The last bytes of the checkpoint of two slots whose only swap is at epoch 0."""
+def level_bytes(epoch):
+    """The checkpoint of two slots whose only swap is at epoch 0."""
     plan = ferromagnet([BOARD, UP], [[FULL]])
     states = [rule.serial(plan, rule.opening(plan, "up", 0, b), epoch) for b in range(64)]
-    return rule.encoding(plan, states.__getitem__)[-32:].hex()
+    return rule.encoding(plan, states.__getitem__)
+
+
+def level_digest(epoch):
+    return level_bytes(epoch)[-32:].hex()
+
+
+def damaged_digest():
+    """What the one at epoch 1 should end with once the lowest bit of its first generator word is changed."""
+    body = bytearray(level_bytes(1)[:-32])
+    body[123] ^= 1
+    return sha256(body).hexdigest()
 
 
 def last_bytes_of_65():
@@ -80,8 +91,11 @@ TESTS = "crates/glass_tests/src/"
 BANKS, ALONE = TESTS + "banks.rt", TESTS + "banks_alone.rt"
 SHORT = {
     "smallest_plan": (lambda: plan_digest(ferromagnet([DOWN], [])), [TESTS + "check.rt", "crates/run_plan_tests/src/plans.rt"]),
-    "two_slots_plan": (lambda: plan_digest(ferromagnet([BOARD, UP], [[FULL]])), ["crates/run_checkpoint_tests/src/known.rt"]),
+    "two_slots_plan": (lambda: plan_digest(ferromagnet([BOARD, UP], [[FULL]])),
+                       ["crates/run_checkpoint_tests/src/known.rt", TESTS + "resuming.rt"]),
+    "other_seed_plan": (lambda: plan_digest(ferromagnet([BOARD, UP], [[FULL]], 8)), [TESTS + "resuming.rt"]),
     "level_at_1": (lambda: level_digest(1), [TESTS + "resuming.rt", "crates/run_checkpoint_tests/src/known.rt"]),
+    "damaged_at_1": (damaged_digest, [TESTS + "resuming.rt"]),
     "level_at_2": (lambda: level_digest(2), [TESTS + "resuming.rt", "crates/glass_engine_tests/src/saving.rt"]),
     "demo_plan": (lambda: plan_digest(glass(16, 8, 4, 1)), ["crates/run_plan_tests/src/demo.rt"]),
     "glass_8_plan": (lambda: plan_digest(glass(8, 16, 2, 20240611)),

@@ -86,7 +86,7 @@ fn a_sample_is_no_two_blocks(rt: HostRuntime) -> Result<(), Fail> {
 
 // At 80 bytes.
 #[test]
-fn a_report_cut_behind_its_first_row(rt: HostRuntime) -> Result<(), Fail> {
+fn report_cut_at_a_line_end(rt: HostRuntime) -> Result<(), Fail> {
     holds("80 bytes", HEADER.len() + FIRST_ROW.len() == 80)?;
     is_wrong_behind(&rt, FIRST_ROW, 2)
 }

@@ -1,7 +1,7 @@
 //! Runs over several banks of samples with random couplings from a random start, against an independent
 //! program and against the same samples run by themselves.
 
-ghost use Rattle.std.specs.Prelude.{◌≡◌, ◌<◌, ◌≤◌, length};
+ghost use Rattle.std.specs.Prelude.{◌≡◌, ◌<◌, ◌≤◌, length, IfOk};
 ghost use Rattle.scalar_rule.specs.Plan.{slots_of};
 ghost use Rattle.scalar_rule.specs.Shape.{Fits};
 
@@ -55,6 +55,18 @@ fn three_banks_with_random_couplings(rt: HostRuntime) -> Result<(), Fail> {
     is_saved(&rt, &mut shelf, "c", LAST_OF_130.as_slice())
 }
 
+// A sample at its opening, from a random start.
+fn opened(alloc: Global, plan: &Plan, sample: u32) -> Result<Sample, Fail>
+    requires { sample < 256 }
+    ensures fits { IfOk result (λ s. Fits plan.now s) }
+    ensures epoch { IfOk result (λ s. s.epoch ≡ 0) }
+{
+    if sample < 64 {
+        return Ok(Sample::opening(alloc, plan, sample, Start::Random)?);
+    }
+    Ok(Sample::opening_bank(alloc, plan, sample % 64, Start::Random, sample / 64)?)
+}
+
 // The rows of a sample that goes on by itself from its bank's opening, of each `every`th epoch.
 fn rows_alone(
     alloc: Global,
@@ -76,7 +88,7 @@ fn rows_alone(
     };
     let mut records = vec![in alloc; none; plan.slots() as usize]?;
     let mut text = String::new(alloc);
-    let mut alone = Sample::opening_bank(alloc, plan, sample % 64, Start::Random, sample / 64)?;
+    let mut alone = opened(alloc, plan, sample)?;
     'epochs: for epoch in 0..epochs {
         alone.epoch(plan, records.as_mut_slice());
         if epoch % every == every - 1 {
@@ -145,12 +157,19 @@ fn report_of<R: AllocGlobal + Threads + Wait + Sync>(
     Ok(String::from_str(rt.alloc(), report)?)
 }
 
-// Fails where the first and the last sample of the second bank at sixteen temperatures do not agree.
-fn second_bank_agrees(alloc: Global, report: &str, rules: &str, swaps: &str) -> Result<(), Fail> {
-    let lattice = Lattice::of(8)?;
-    let plan = plan_of(alloc, lattice, rules, swaps, 2, 20240611, 1)?;
-    agrees(alloc, report, &plan, 64, 20, 10)?;
-    agrees(alloc, report, &plan, 127, 20, 10)
+/// Fails where the first and the last sample of a bank at sixteen temperatures do not agree.
+pub fn sixteen_temperatures_agree<R: AllocGlobal>(
+    rt: &R,
+    report: &str,
+    bank: u32,
+) -> Result<(), Fail>
+    requires { bank < 4 }
+{
+    let (rules, swaps) = (sixteen::rules(rt)?, sixteen::swaps(rt)?);
+    let (lattice, rules, swaps) = (Lattice::of(8)?, rules.as_str(), swaps.as_str());
+    let plan = plan_of(rt.alloc(), lattice, rules, swaps, 2, 20240611, bank)?;
+    agrees(rt.alloc(), report, &plan, 64 * bank, 20, 10)?;
+    agrees(rt.alloc(), report, &plan, 64 * bank + 63, 20, 10)
 }
 
 // The files of sixteen temperatures at size 8.
@@ -160,7 +179,7 @@ fn samples_of_the_second_bank_run_alone(rt: HostRuntime) -> Result<(), Fail> {
     let (rules, swaps) = (sixteen::rules(&rt)?, sixteen::swaps(&rt)?);
     let (rules, swaps) = (rules.as_str(), swaps.as_str());
     let report = report_of(&rt, "run run.toml --workers 4", run.as_str(), rules, swaps)?;
-    second_bank_agrees(rt.alloc(), report.as_str(), rules, swaps)
+    sixteen_temperatures_agree(&rt, report.as_str(), 1)
 }
 
 // Fails where four samples of a bank of three slots do not agree.

@@ -2,7 +2,7 @@
 
 ghost use Rattle.std.specs.Prelude.{◌<◌};
 
-use glass_edges::{MemoryShelf, MemorySink, OpenGate};
+use glass_edges::{Gate, MemoryShelf, MemorySink, OpenGate};
 use glass_main::glass;
 use std::sync::Wait;
 use std::test::Fail;
@@ -51,16 +51,17 @@ pub fn call_words<R: AllocGlobal + Threads + Wait + Sync>(
     out: MemorySink,
     err: MemorySink,
 ) -> Called {
-    call_words_on(rt, words, &mut shelf, out, err)
+    call_words_on(rt, words, &mut shelf, out, err, &OpenGate)
 }
 
-/// The same over a store that is used further.
-fn call_words_on<R: AllocGlobal + Threads + Wait + Sync>(
+/// The same over a store that is used further, and with a hook.
+fn call_words_on<R: AllocGlobal + Threads + Wait + Sync, G: Gate + Sync>(
     rt: &R,
     words: &[String],
     shelf: &mut MemoryShelf,
     out: MemorySink,
     err: MemorySink,
+    gate: &G,
 ) -> Called {
     let mut called = Called {
         status: 0,
@@ -74,7 +75,7 @@ fn call_words_on<R: AllocGlobal + Threads + Wait + Sync>(
         shelf,
         &mut called.out,
         &mut called.err,
-        &OpenGate,
+        gate,
     );
     called
 }
@@ -100,7 +101,19 @@ pub fn call_on_over<R: AllocGlobal + Threads + Wait + Sync>(
     err: MemorySink,
 ) -> Result<Called, Fail> {
     let words = words_of(rt, line)?;
-    Ok(call_words_on(rt, &words, shelf, out, err))
+    Ok(call_words_on(rt, &words, shelf, out, err, &OpenGate))
+}
+
+/// Calls the program with the words of a line and a hook, over a store that is used further.
+pub fn call_with_hook<R: AllocGlobal + Threads + Wait + Sync, G: Gate + Sync>(
+    rt: &R,
+    line: &str,
+    shelf: &mut MemoryShelf,
+    gate: &G,
+) -> Result<Called, Fail> {
+    let words = words_of(rt, line)?;
+    let (out, err) = (ample(rt)?, ample(rt)?);
+    Ok(call_words_on(rt, &words, shelf, out, err, gate))
 }
 
 /// Calls the program with the words of a line, over a store that is used further.

@@ -72,6 +72,12 @@ pub fn with_byte<R: AllocGlobal>(
     Ok(copy)
 }
 
+/// A copy with the lowest bit of one byte changed.
+pub fn with_bit<R: AllocGlobal>(rt: &R, bytes: &[u8], at: usize) -> Result<Vec<u8>, Fail> {
+    let byte = bytes.get(at).copied().unwrap_or(0);
+    with_byte(rt, bytes, at, byte ^ 1)
+}
+
 /// A copy whose last 32 bytes are the digest of those before, by the crate sha2.
 pub fn sealed<R: AllocGlobal>(rt: &R, bytes: &[u8]) -> Result<Vec<u8>, Fail> {
     let body = beginning(bytes, bytes.len().saturating_sub(32));

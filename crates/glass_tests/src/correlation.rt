@@ -131,10 +131,15 @@ fn uneven_bytes<R: AllocGlobal + Threads + Wait + Sync>(rt: &R) -> Result<Vec<u8
 }
 
 #[test]
-fn a_short_checkpoint_and_one_of_another_kind(rt: HostRuntime) -> Result<(), Fail> {
+fn lines_of_a_short_checkpoint(rt: HostRuntime) -> Result<(), Fail> {
     let bytes = saved_bytes(&rt)?;
     let short = beginning(bytes.as_slice(), 87);
-    bytes_are_refused(&rt, short, "the checkpoint is too short: 87 bytes")?;
+    bytes_are_refused(&rt, short, "the checkpoint is too short: 87 bytes")
+}
+
+#[test]
+fn lines_of_checkpoints_of_another_kind(rt: HostRuntime) -> Result<(), Fail> {
+    let bytes = saved_bytes(&rt)?;
     let other = with_byte(&rt, bytes.as_slice(), 7, b'3')?;
     let told = "the checkpoint is of another kind";
     bytes_are_refused(&rt, other.as_slice(), told)?;

@@ -1,6 +1,6 @@
 //! Files that are wrong, of a small run and of one that goes on.
 
-use crate::checkpoints::{beginning, bytes_of, stopped_at_1, with_byte};
+use crate::checkpoints::{beginning, bytes_of, stopped_at_1, with_bit, with_byte};
 use crate::endings::{refuses, refuses_with};
 use crate::files::{DOWN, RUN, changed, store};
 use std::sync::Wait;
@@ -79,8 +79,7 @@ fn damage_is_told_before_another_plan(rt: HostRuntime) -> Result<(), Fail> {
     shelf.add("run.toml", run.as_bytes())?;
     let whole = bytes_of(&rt, &mut shelf, "c");
     // the last sample of one spin word of slot 0's first copy
-    let spin = whole.as_slice().get(400).copied().unwrap_or(0);
-    let other = with_byte(&rt, whole.as_slice(), 400, spin ^ 1)?;
+    let other = with_bit(&rt, whole.as_slice(), 400)?;
     shelf.add("c", other.as_slice())?;
     let first = "glass: the checkpoint is damaged: f5061320";
     refuses_with(&rt, "run run.toml --from c", &mut shelf, 6, first)

@@ -30,6 +30,8 @@ mod faults;
 #[cfg(test)]
 mod files;
 #[cfg(test)]
+mod hooks;
+#[cfg(test)]
 mod plain;
 #[cfg(test)]
 mod potts;

@@ -1,7 +1,9 @@
 //! The command `run`: reports of small runs.
 
+use crate::called::empty;
+use crate::checkpoints::{RULES, two_slots, two_slots_failing};
 use crate::endings::{are_no_commands, leaves_a_prefix, prints, prints_first, refuses};
-use crate::files::{DOWN, RUN, changed, store, store_failing};
+use crate::files::{DOWN, RUN, changed, store};
 use glass_edges::MemoryShelf;
 use std::sync::Wait;
 use std::test::Fail;
@@ -130,7 +132,8 @@ fn gap_one_past_last_entry_stays(rt: HostRuntime) -> Result<(), Fail> {
     swaps_at_epoch_0(&rt, 95, false)
 }
 
-const HOTTER_FIRST: &str = "glass 1 size=4 slots=2 samples=1 rule=heat from=0 to=2
+/// The report of two slots of which the hotter one is first.
+pub const HOTTER_FIRST: &str = "glass 1 size=4 slots=2 samples=1 rule=heat from=0 to=2
 row,0,0,0,192,192,64,0,0
 row,0,0,1,-192,-192,64,1,1
 row,1,0,0,192,192,64,1,1
@@ -142,16 +145,9 @@ spin,0,1,0,ffffffffffffffff
 spin,0,1,1,ffffffffffffffff
 ";
 
-// The store of that run.
-fn hotter_first<R: AllocGlobal>(rt: &R) -> Result<MemoryShelf, Fail> {
-    let rules = format!(in rt.alloc(); "{ALTERNATING}{UP}")?;
-    let run = changed(rt, RUN, "epochs = 1", "epochs = 2")?;
-    store(rt, run.as_str(), rules.as_str(), "4294967296\n")
-}
-
 #[test]
 fn hotter_first_slot_swaps_at_epoch_0(rt: HostRuntime) -> Result<(), Fail> {
-    prints(&rt, LINE, &mut hotter_first(&rt)?, HOTTER_FIRST)
+    prints(&rt, LINE, &mut two_slots(&rt)?, HOTTER_FIRST)
 }
 
 // Fails where a run by so many workers and pieces prints otherwise.
@@ -168,7 +164,7 @@ fn shared_run_prints<R: AllocGlobal + Threads + Wait + Sync>(
 
 #[test]
 fn workers_and_pieces_leave_the_bytes_equal(rt: HostRuntime) -> Result<(), Fail> {
-    let mut shelf = hotter_first(&rt)?;
+    let mut shelf = two_slots(&rt)?;
     for workers in [1, 2, 7] {
         for pieces in [1, 3, 16] {
             shared_run_prints(&rt, workers, pieces, &mut shelf, HOTTER_FIRST)?;
@@ -279,18 +275,20 @@ fn refused_table_is_told_before_a_too_large_amount(rt: HostRuntime) -> Result<()
 
 #[test]
 fn write_fault_leaves_a_prefix(rt: HostRuntime) -> Result<(), Fail> {
-    leaves_a_prefix(&rt, LINE, &mut all_down(&rt)?, 16, 1, "glass 1 size=4 s")
+    leaves_a_prefix(&rt, LINE, &mut two_slots(&rt)?, 16, 1, "glass 1 size=4 s")
 }
 
 #[test]
 fn fetch_fault(rt: HostRuntime) -> Result<(), Fail> {
-    let mut shelf = store_failing(&rt, RUN, DOWN, "", 0)?;
+    let mut shelf = two_slots_failing(&rt, 0)?;
     refuses(&rt, LINE, &mut shelf, 8, "reading the run file failed")
 }
 
 #[test]
 fn missing_swap_table(rt: HostRuntime) -> Result<(), Fail> {
-    let run = changed(&rt, RUN, "swaps.csv", "other.csv")?;
-    let mut shelf = store(&rt, run.as_str(), DOWN, "")?;
+    let run = changed(&rt, RUN, "epochs = 1", "epochs = 2")?;
+    let mut shelf = empty(&rt);
+    shelf.add("run.toml", run.as_bytes())?;
+    shelf.add("rules.csv", RULES.as_bytes())?;
     refuses(&rt, LINE, &mut shelf, 7, "the swap table is not held")
 }

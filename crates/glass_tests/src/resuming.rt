@@ -2,10 +2,12 @@
 
 use crate::called::call_on;
 use crate::checkpoints::{
-    beginning, bytes_of, ends_with, sealed, stopped_at_1, two_slots, two_slots_failing, with_byte,
+    beginning, bytes_of, ends_with, sealed, stopped_at_1, two_slots, two_slots_failing, with_bit,
+    with_byte,
 };
-use crate::endings::{ended, holds, prints, refuses, refuses_with};
-use crate::files::changed;
+use crate::endings::{ended, holds, prints, refuses};
+use crate::files::{RUN, changed};
+use crate::report::HOTTER_FIRST;
 use glass_edges::MemoryShelf;
 use std::sync::Wait;
 use std::test::Fail;
@@ -59,42 +61,24 @@ pub fn is_saved<R: AllocGlobal>(
     holds("the checkpoint's digest", ends_with(saved.as_slice(), last))
 }
 
-// The report of the run to epoch 1.
-fn report_to_1<R: AllocGlobal>(rt: &R) -> Result<String, Fail> {
-    let rows = "row,0,0,0,192,192,64,0,0\nrow,0,0,1,-192,-192,64,1,1\n";
-    report(rt, 0, 1, rows, SPINS_AT_1)
-}
-
 #[test]
-fn run_to_epoch_1_is_saved(rt: HostRuntime) -> Result<(), Fail> {
+fn stop_at_epoch_1_then_resume(rt: HostRuntime) -> Result<(), Fail> {
     let mut shelf = two_slots(&rt)?;
-    let text = report_to_1(&rt)?;
-    prints(
-        &rt,
-        "run --save=c run.toml --until 1",
-        &mut shelf,
-        text.as_str(),
-    )?;
+    let rows = "row,0,0,0,192,192,64,0,0\nrow,0,0,1,-192,-192,64,1,1\n";
+    let text = report(&rt, 0, 1, rows, SPINS_AT_1)?;
+    let line = "run --save=c run.toml --until 1";
+    prints(&rt, line, &mut shelf, text.as_str())?;
     holds("the length", bytes_of(&rt, &mut shelf, "c").len() == 10688)?;
-    is_saved(&rt, &mut shelf, "c", DIGEST_AT_1.as_slice())
-}
-
-#[test]
-fn saved_run_goes_on_to_epoch_2(rt: HostRuntime) -> Result<(), Fail> {
-    let mut shelf = stopped_at_1(&rt)?;
+    is_saved(&rt, &mut shelf, "c", DIGEST_AT_1.as_slice())?;
     let rows = "row,1,0,0,192,192,64,1,1\nrow,1,0,1,-192,-192,64,0,0\n";
     let text = report(&rt, 1, 2, rows, SPINS_AT_2)?;
-    prints(
-        &rt,
-        "run --from c run.toml --save d",
-        &mut shelf,
-        text.as_str(),
-    )?;
+    let line = "run --from c run.toml --until 2 --save d";
+    prints(&rt, line, &mut shelf, text.as_str())?;
     is_saved(&rt, &mut shelf, "d", DIGEST_AT_2.as_slice())
 }
 
 #[test]
-fn saved_run_ends_where_it_is(rt: HostRuntime) -> Result<(), Fail> {
+fn resume_at_its_own_epoch_prints_no_row(rt: HostRuntime) -> Result<(), Fail> {
     let mut shelf = stopped_at_1(&rt)?;
     let text = report(&rt, 1, 1, "", SPINS_AT_1)?;
     prints(
@@ -106,7 +90,7 @@ fn saved_run_ends_where_it_is(rt: HostRuntime) -> Result<(), Fail> {
 }
 
 #[test]
-fn checkpoint_past_the_last_epoch_is_refused(rt: HostRuntime) -> Result<(), Fail> {
+fn checkpoint_past_until_is_late(rt: HostRuntime) -> Result<(), Fail> {
     let mut shelf = stopped_at_1(&rt)?;
     let told = "the checkpoint is at epoch 1, past 0";
     refuses(&rt, "run run.toml --from c --until 0", &mut shelf, 6, told)
@@ -162,42 +146,46 @@ fn changed_checkpoints_are_refused_by_name(rt: HostRuntime) -> Result<(), Fail> 
     Ok(())
 }
 
+// Both digests of the checkpoint at epoch 1 with a bit of a generator changed, and of two plans that differ
+// in their seed, by an independent program.
+const DAMAGED: &str =
+    "the checkpoint is damaged: f5061320742401e61d10bc117909495b597fa50026b573897d9c4c900297dbd3 stored, 0d95b1c03d31562551d05a2a969364fbab2f8865a2798833fee311068a8c5b01 computed";
+
+const OF_ANOTHER_PLAN: &str =
+    "the checkpoint is of another plan: d9aa15c363f754a61bc0ea79f1bbe78112219581fbe4f49adbdb771408c853e7 stored, 3f9d4ab5126fef021b27c5daf9f4bc88dd7391d73e72eaaeca8abf17e4e6add8 here";
+
+// Cut, cut by a byte, with a byte more, and with a bit of the first generator word changed.
 #[test]
-fn cut_checkpoints_are_refused_by_name(rt: HostRuntime) -> Result<(), Fail> {
+fn damaged_checkpoints_are_refused_by_name(rt: HostRuntime) -> Result<(), Fail> {
     let mut shelf = stopped_at_1(&rt)?;
-    let whole = bytes_of(&rt, &mut shelf, "c");
+    let mut longer = bytes_of(&rt, &mut shelf, "c");
+    let damaged = with_bit(&rt, longer.as_slice(), 123)?;
+    longer.push(0)?;
     for (len, told) in [
         (87, "the checkpoint is too short: 87 bytes"),
         (10687, "the checkpoint has 10687 bytes, not 10688"),
+        (10689, "the checkpoint has 10689 bytes, not 10688"),
     ] {
-        bytes_are_refused(&rt, &mut shelf, beginning(whole.as_slice(), len), told)?;
+        bytes_are_refused(&rt, &mut shelf, beginning(longer.as_slice(), len), told)?;
     }
-    Ok(())
+    bytes_are_refused(&rt, &mut shelf, damaged.as_slice(), DAMAGED)
 }
 
 #[test]
 fn checkpoints_of_another_plan_are_refused(rt: HostRuntime) -> Result<(), Fail> {
     let mut shelf = stopped_at_1(&rt)?;
-    let run = changed(&rt, crate::files::RUN, "seed = 7", "seed = 8")?;
+    let run = changed(&rt, RUN, "seed = 7", "seed = 8")?;
     shelf.add("run.toml", run.as_bytes())?;
-    let first = "glass: the checkpoint is of another plan: d9aa15c3";
-    refuses_with(&rt, FROM, &mut shelf, 6, first)
+    refuses(&rt, FROM, &mut shelf, 6, OF_ANOTHER_PLAN)
 }
 
 // The fourth call of the store is the place.
 #[test]
-fn place_fault_is_told_after_the_report(rt: HostRuntime) -> Result<(), Fail> {
-    let line = "run run.toml --until 1 --save c";
+fn place_fault_after_whole_report(rt: HostRuntime) -> Result<(), Fail> {
+    let line = "run run.toml --save c";
     let called = call_on(&rt, line, &mut two_slots_failing(&rt, 3)?)?;
-    let text = report_to_1(&rt)?;
-    ended(
-        &rt,
-        line,
-        &called,
-        10,
-        text.as_str(),
-        "placing the checkpoint failed",
-    )
+    let told = "placing the checkpoint failed";
+    ended(&rt, line, &called, 10, HOTTER_FIRST, told)
 }
 
 // The fourth call of the store is the fetch of the checkpoint, behind the tables.

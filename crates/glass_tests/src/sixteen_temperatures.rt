@@ -1,6 +1,8 @@
 //! A spin glass at sixteen temperatures, whose report an independent program made too.
 
-use crate::called::call_on;
+use crate::banks_alone::sixteen_temperatures_agree;
+use crate::called::{Called, call_on};
+use crate::checkpoints::bytes_of;
 use crate::endings::holds;
 use crate::files::store;
 use crate::resuming::is_saved;
@@ -74,14 +76,27 @@ fn files<R: AllocGlobal>(rt: &R) -> Result<MemoryShelf, Fail> {
     store(rt, RUN, rules.as_str(), swaps.as_str())
 }
 
-#[test]
-fn sixteen_temperatures_64_samples(rt: HostRuntime) -> Result<(), Fail> {
-    let line = "run run.toml --workers 4 --pieces 2";
-    let called = call_on(&rt, line, &mut files(&rt)?)?;
+// The call by these words; fails where it does not end with status 0 and print the report.
+fn whole<R: AllocGlobal + Threads + Wait + Sync>(
+    rt: &R,
+    line: &str,
+    shelf: &mut MemoryShelf,
+) -> Result<Called, Fail> {
+    let called = call_on(rt, line, shelf)?;
     let report = called.out.taken();
     holds("status 0", called.status == 0)?;
     holds("the length", report.len() == 60821)?;
-    holds("the digest", Sha256::digest(report) == DIGEST)
+    holds("the digest", Sha256::digest(report) == DIGEST)?;
+    Ok(called)
+}
+
+// Samples 0 and 63 have the rows of the same samples, each run by itself.
+#[test]
+fn sixteen_temperatures_64_samples(rt: HostRuntime) -> Result<(), Fail> {
+    let line = "run run.toml --workers 4 --pieces 2";
+    let called = whole(&rt, line, &mut files(&rt)?)?;
+    let report = std::str::from_utf8(called.out.taken())?;
+    sixteen_temperatures_agree(&rt, report, 0)
 }
 
 // The last bytes of the checkpoints at epochs 10 and 20, by an independent program.
@@ -95,42 +110,90 @@ const DIGEST_AT_20: [u8; 32] = [
     0xe1, 0x31, 0x54, 0x0f, 0x7f, 0x74, 0x61, 0x2b, 0x09, 0xb2, 0xb0, 0x5b, 0x14, 0xdf, 0x04, 0x7d,
 ];
 
-// Fails where a run by these words does not end with status 0 and save a checkpoint with these last bytes.
-fn saves<R: AllocGlobal + Threads + Wait + Sync>(
-    rt: &R,
-    line: &str,
-    shelf: &mut MemoryShelf,
-    name: &str,
-    last: &[u8],
-) -> Result<(), Fail> {
-    holds(line, call_on(rt, line, shelf)?.status == 0)?;
-    is_saved(rt, shelf, name, last)
-}
-
-#[test]
-fn sixteen_temperatures_stopped_and_resumed(rt: HostRuntime) -> Result<(), Fail> {
-    let mut shelf = files(&rt)?;
-    shelf.room("c", 265456)?;
-    shelf.room("d", 265456)?;
-    let line = "run run.toml --until 10 --save c";
-    saves(&rt, line, &mut shelf, "c", DIGEST_AT_10.as_slice())?;
-    let line = "run run.toml --from c --save d";
-    saves(&rt, line, &mut shelf, "d", DIGEST_AT_20.as_slice())
-}
-
 /// The first line of the report, and its last.
 const FIRST_LINE: &str = "glass 1 size=8 slots=16 samples=64 rule=metropolis from=0 to=20\n";
 
 const LAST_LINE: &str = "end,20\n";
 
-// The lines of a report that are rows.
-fn push_rows(rows: &mut Vec<u8>, report: &[u8]) -> Result<(), Fail> {
+/// The first lines of its two halves, and the last line of the first.
+const FIRST_LINE_TO_10: &str = "glass 1 size=8 slots=16 samples=64 rule=metropolis from=0 to=10\n";
+
+const FIRST_LINE_FROM_10: &str =
+    "glass 1 size=8 slots=16 samples=64 rule=metropolis from=10 to=20\n";
+
+const LAST_LINE_AT_10: &str = "end,10\n";
+
+// Puts the lines of a report that begin so behind those that are there.
+fn push_lines(lines: &mut Vec<u8>, report: &[u8], begin: &str) -> Result<(), Fail> {
     for line in report.split_inclusive(|byte| *byte == b'\n') {
-        if line.starts_with(b"row,") {
-            rows.extend_from_slice(line)?;
+        if line.starts_with(begin.as_bytes()) {
+            lines.extend_from_slice(line)?;
         }
     }
     Ok(())
+}
+
+// A report with this first and this last line, and between them those of the whole report that begin so.
+fn half<R: AllocGlobal>(
+    rt: &R,
+    report: &[u8],
+    first: &str,
+    begin: &str,
+    last: &str,
+) -> Result<Vec<u8>, Fail> {
+    let mut text = Vec::from_slice(rt.alloc(), first.as_bytes())?;
+    push_lines(&mut text, report, begin)?;
+    text.extend_from_slice(last.as_bytes())?;
+    Ok(text)
+}
+
+// Fails where a run by these words does not end with status 0, print this and save a checkpoint of sixteen slots
+// with these last bytes.
+fn saves<R: AllocGlobal + Threads + Wait + Sync>(
+    rt: &R,
+    line: &str,
+    shelf: &mut MemoryShelf,
+    report: &[u8],
+    name: &str,
+    last: &[u8],
+) -> Result<(), Fail> {
+    let called = call_on(rt, line, shelf)?;
+    holds(line, called.status == 0 && called.out.taken() == report)?;
+    holds("the length", bytes_of(rt, shelf, name).len() == 265456)?;
+    is_saved(rt, shelf, name, last)
+}
+
+// The rows of epoch 9, then those of epoch 19, and the checkpoint `a` of the run that does not stop.
+#[test]
+fn sixteen_temperatures_resumed_at_epoch_10(rt: HostRuntime) -> Result<(), Fail> {
+    let mut shelf = files_with_room(&rt)?;
+    let called = whole(&rt, "run run.toml --save a", &mut shelf)?;
+    let rows = called.out.taken();
+    let report = half(&rt, rows, FIRST_LINE_TO_10, "row,9,", LAST_LINE_AT_10)?;
+    let (line, last) = ("run run.toml --until 10 --save c", DIGEST_AT_10);
+    saves(
+        &rt,
+        line,
+        &mut shelf,
+        report.as_slice(),
+        "c",
+        last.as_slice(),
+    )?;
+    let report = half(&rt, rows, FIRST_LINE_FROM_10, "row,19,", LAST_LINE)?;
+    let (line, last) = ("run run.toml --from c --until 20 --save d", DIGEST_AT_20);
+    saves(
+        &rt,
+        line,
+        &mut shelf,
+        report.as_slice(),
+        "d",
+        last.as_slice(),
+    )?;
+    let (saved, resumed) = (
+        bytes_of(&rt, &mut shelf, "a"),
+        bytes_of(&rt, &mut shelf, "d"),
+    );
+    holds("the same checkpoint", saved == resumed)
 }
 
 // Puts the rows that a run prints behind those that are there; fails where it does not end with status 0.
@@ -142,10 +205,10 @@ fn push_rows_of<R: AllocGlobal + Threads + Wait + Sync>(
 ) -> Result<(), Fail> {
     let called = call_on(rt, line, shelf)?;
     holds(line, called.status == 0)?;
-    push_rows(rows, called.out.taken())
+    push_lines(rows, called.out.taken(), "row,")
 }
 
-// The store with room for four checkpoints of slots at different epochs.
+// The store with room for four checkpoints, also of slots at different epochs.
 fn files_with_room<R: AllocGlobal>(rt: &R) -> Result<MemoryShelf, Fail> {
     let mut shelf = files(rt)?;
     for name in ["a", "b", "c", "d"] {

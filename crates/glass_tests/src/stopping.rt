@@ -126,6 +126,13 @@ fn with_a_wrong_place<R: AllocGlobal>(rt: &R, shelf: &mut MemoryShelf) -> Result
     sealed(rt, with_byte(rt, saved.as_slice(), 72, 1)?.as_slice())
 }
 
+// Sets the run file to record each second epoch.
+fn record_each_second<R: AllocGlobal>(rt: &R, shelf: &mut MemoryShelf) -> Result<(), Fail> {
+    let (old, new) = ("epochs = 1\nevery = 1", "epochs = 2\nevery = 2");
+    shelf.add("run.toml", changed(rt, RUN, old, new)?.as_bytes())?;
+    Ok(())
+}
+
 #[test]
 fn uneven_checkpoints_are_refused_by_name(rt: HostRuntime) -> Result<(), Fail> {
     let mut shelf = stopped_after_3(&rt)?;
@@ -134,7 +141,10 @@ fn uneven_checkpoints_are_refused_by_name(rt: HostRuntime) -> Result<(), Fail> {
     let wrong = with_a_wrong_place(&rt, &mut shelf)?;
     shelf.add("c", wrong.as_slice())?;
     let told = "the checkpoint has a wrong place at slot 0";
-    refuses(&rt, "run run.toml --from c", &mut shelf, 6, told)
+    refuses(&rt, "run run.toml --from c", &mut shelf, 6, told)?;
+    record_each_second(&rt, &mut shelf)?;
+    let told = "the checkpoint is of samples=1 every=1";
+    refuses(&rt, "run run.toml --from d", &mut shelf, 6, told)
 }
 
 // The store with the checkpoint `d` between epochs and `c` at epoch 1, whose run file has other orders now:
