@@ -89,7 +89,7 @@ fn saves<R: Threads + Wait + Sync>(
 }
 
 #[test]
-fn a_second_save_places_the_same_bytes(rt: HostRuntime) -> Result<(), Fail> {
+fn saving_twice_gives_equal_bytes(rt: HostRuntime) -> Result<(), Fail> {
     let last = DIGEST_AT_1.as_slice();
     saves(&rt, rt.alloc(), &whole(1, 2), SaveKind::Level, 10688, last)
 }

@@ -50,7 +50,7 @@ fn saved_failing<R: AllocGlobal + Threads + Wait + Sync>(
 }
 
 #[test]
-fn equal_replicas_agree_at_every_distance(rt: HostRuntime) -> Result<(), Fail> {
+fn lines_of_an_ordered_state(rt: HostRuntime) -> Result<(), Fail> {
     let text = text_of_equal(&rt, 1)?;
     prints(
         &rt,

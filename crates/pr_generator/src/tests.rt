@@ -64,7 +64,7 @@ fn drawn(wheel: &mut Wheel, out: &mut [u32]) {
 }
 
 #[test]
-fn filling_is_drawing(rt: HostRuntime) {
+fn lane_draws_equal_single_draws(rt: HostRuntime) {
     for n in [0, 1, 7, 8, 9, 32, 56, 61, 64, 72, 128, 200] {
         assert!(rt; n <= 200);
         let mut filling = Wheel::seeded(7, 2, 0, 1, 0);
