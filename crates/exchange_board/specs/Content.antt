@@ -1,11 +1,11 @@
 -- What an origin gives: the states of its samples, the content of its slots, and the records.
-use Rattle.std.specs.Prelude.{◌≡◌, ℕ, ◌+◌, ◌-◌, ◌*◌, ◌/◌, ◌<◌, ◌≤◌, List, [], slice_index_or, true}
+use Rattle.std.specs.Prelude.{◌≡◌, ℕ, ◌+◌, ◌*◌, ◌<◌, ◌≤◌, List, [], slice_index_or, true}
 use Rattle.std.specs.Arc.{arc_value}
 use Rattle.spin_model.specs.Limits.{every_take, last_epoch, most_rows}
 use Rattle.scalar_rule.specs.Plan.{Plan, slots_of, IsLawfulPlan}
 use Rattle.scalar_rule.specs.Ragged.{Position, UnevenState}
 use Rattle.scalar_rule.specs.Positions.{position_in, done, rank, floor_of, deepest_of, sum_below, uneven_record}
-use Rattle.scalar_rule.specs.Records.{is_recorded}
+use Rattle.scalar_rule.specs.Records.{is_recorded, recorded_epochs}
 pub use Rattle.scalar_rule.specs.Records.{no_record, record_at}
 use Rattle.scalar_rule.specs.declared.sample.Record.{Record}
 use Rattle.plane_sweep.specs.Uneven.{positions_of, uneven_part, RaggedStandFits}
@@ -42,7 +42,7 @@ taken_before o = sum_below (λ t. done (position_in (positions_in o) t)) (slots_
 
 -- the recorded epochs from the floor on and below f
 abbrev pub rows_before : Origin → ℕ → ℕ
-rows_before o f = f / o.window.every - floor_in o / o.window.every
+rows_before o f = recorded_epochs o.window.every (floor_in o) f
 
 -- where the record of sample i at epoch f in slot t stands
 abbrev pub row_place : Origin → ℕ → ℕ → ℕ → ℕ

@@ -1,12 +1,13 @@
 //! Opening a board: all its memory is taken here.
 
-ghost use Rattle.std.specs.Prelude.{◌≡◌, ◌+◌, ◌-◌, ◌*◌, ◌/◌, ◌%◌, ◌<◌, ◌≤◌, true, false, length, replicate, IfOk, IsSomeAnd, slice_set};
+ghost use Rattle.std.specs.Prelude.{◌≡◌, ◌+◌, ◌*◌, ◌/◌, ◌%◌, ◌<◌, ◌≤◌, true, false, length, replicate, IfOk, IsSomeAnd, slice_set};
 ghost use Rattle.std.specs.Arc.{arc_value};
 ghost use Rattle.spin_model.specs.Limits.{every_take, last_epoch, most_rows};
 ghost use Rattle.plane_sweep.specs.Packed.{FitsDuo, StandFits};
 ghost use Rattle.plane_sweep.specs.Uneven.{positions_of, level_stand, RaggedStandFits};
 ghost use Rattle.scalar_rule.specs.Plan.{slots_of};
 ghost use Rattle.scalar_rule.specs.Positions.{deepest_of, floor_of, cell_epoch};
+ghost use Rattle.scalar_rule.specs.Records.{recorded_epochs};
 ghost use Rattle.exchange_board.specs.Content.{positions_in, floor_in, started, row_place, row_total, no_record, record_at, KeepsRows, IsLawfulOrigin};
 ghost use Rattle.exchange_board.specs.Kept.{kept_in, before_in, cells_in, IsFilled};
 ghost use Rattle.exchange_board.specs.Opening.{Begins, AreFirst};
@@ -19,7 +20,7 @@ use crate::totals::count_totals;
 use glass_edges::NoMemory;
 use plain_list::Items;
 use plane_sweep::{Duo, Place, RaggedStand, Replica, Stand, cell_at, deepest, has_record};
-use scalar_rule::{Plan, Record};
+use scalar_rule::{Plan, Record, recorded_epochs};
 use std::alloc::{AllocError, Global};
 use std::sync::Arc;
 
@@ -87,7 +88,7 @@ fn opening_records(alloc: Global, origin: &Origin) -> Result<Items<Record>, NoMe
 {
     let window = origin.window;
     let floor = origin.base.floor();
-    let epochs = window.until / window.every - floor / window.every;
+    let epochs = recorded_epochs(window.every, floor, window.until);
     let count = epochs as usize * window.samples as usize * origin.plan.slots() as usize;
     let mut rows = no_records(alloc, count)?;
     fill_records(&mut rows, origin, floor);
@@ -185,7 +186,7 @@ impl Board {
         requires every { window.every ≤ last_epoch }
         requires takes { window.takes ≤ every_take }
         requires reach { deepest_of (positions_of base) ≤ window.until }
-        requires rows { (window.until / window.every - floor_of (positions_of base) / window.every) * window.samples
+        requires rows { recorded_epochs window.every (floor_of (positions_of base)) window.until * window.samples
             * slots_of (arc_value plan.now) ≤ most_rows }
         ensures { IfOk result (Opened (arc_value plan.now) base window) }
     {
@@ -240,7 +241,7 @@ impl Board {
         requires some_samples { 1 ≤ window.samples }
         requires samples { window.samples ≤ 64 }
         requires takes { window.takes ≤ every_take }
-        requires rows { (window.until / window.every - stand.epoch / window.every) * window.samples
+        requires rows { recorded_epochs window.every stand.epoch window.until * window.samples
             * slots_of (arc_value plan.now) ≤ most_rows }
         ensures { IfOk result (Opened (arc_value plan.now) (level_stand stand) window) }
     {

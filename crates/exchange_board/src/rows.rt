@@ -13,7 +13,7 @@ use crate::origin::Origin;
 use crate::totals::{Sums, measure, record_of};
 use plain_list::Items;
 use plane_sweep::Duo;
-use scalar_rule::{Plan, Record, is_recorded};
+use scalar_rule::{Plan, Record, is_recorded, recorded_epochs};
 use std::alloc::Global;
 
 /// A record of zeros.
@@ -61,8 +61,7 @@ pub(crate) fn rows_of(origin: &Origin, slot: u32, epoch: u64) -> Rows
     ensures rows { AreRowsOf origin.now slot epoch result }
     ensures room { (result.at + result.samples) * result.slots ≤ row_total origin.now }
 {
-    let every = origin.window.every;
-    let before = epoch / every - origin.base.floor() / every;
+    let before = recorded_epochs(origin.window.every, origin.base.floor(), epoch);
     Rows {
         at: before as usize * origin.window.samples as usize,
         samples: origin.window.samples,

@@ -5,7 +5,8 @@ use Rattle.std.proofs.lemmas.List.{length-map}
 use Rattle.run_checkpoint.specs.BankEncoding.{BanksFit, bank_len}
 use Rattle.run_checkpoint.specs.Lengths.{encoding_len}
 use Rattle.run_checkpoint.proofs.BankSteps.{next-item}
-use Rattle.run_plan.specs.Amounts.{row_count, recorded_epochs}
+use Rattle.run_plan.specs.Amounts.{row_count}
+use Rattle.scalar_rule.specs.Records.{recorded_epochs}
 use Rattle.run_plan.specs.declared.run_file.Orders.{Orders}
 use Rattle.scalar_rule.specs.Plan.{Plan, slots_of}
 use Rattle.plane_sweep.specs.Packed.{StandFits}

@@ -4,7 +4,7 @@ use Rattle.spin_model.specs.Limits.{every_take, last_epoch, most_rows}
 use Rattle.run_plan.specs.declared.run_file.Orders.{Orders}
 use Rattle.run_checkpoint.specs.BankEncoding.{HaveShape, BanksFit}
 use Rattle.run_checkpoint.specs.Encoding.{flattened}
-use Rattle.run_plan.specs.Amounts.{recorded_epochs}
+use Rattle.scalar_rule.specs.Records.{recorded_epochs}
 use Rattle.scalar_rule.specs.Plan.{Plan}
 use Rattle.plane_sweep.specs.Packed.{part}
 use Rattle.plane_sweep.specs.Uneven.{level_stand}

@@ -15,7 +15,7 @@ use crate::rows::{add_sample, epochs_of};
 use glass_edges::{Fault, Line, Sink};
 use report_sheets::RowSource;
 use run_plan::Orders;
-use scalar_rule::{Record, is_recorded};
+use scalar_rule::{Record, is_recorded, recorded_epochs};
 
 /// The rows of all banks between two epochs: the banks that were driven, the orders of the whole, and the
 /// number of slots.
@@ -65,8 +65,7 @@ fn recorded_before(rows: &BankRows, epoch: u64) -> usize
     requires to { epoch ≤ rows.now.to }
     ensures { AreRowsFrom rows.now.driven.now rows.now.orders.now rows.now.slots epoch rows.now.to result }
 {
-    let every = rows.orders.every;
-    (epoch / every - rows.from / every) as usize
+    recorded_epochs(rows.orders.every, rows.from, epoch) as usize
 }
 
 // Adds the rows between two epochs behind a text that is still to be put.

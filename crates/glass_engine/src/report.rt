@@ -19,7 +19,7 @@ use lattice_geometry::Lattice;
 use plane_sweep::{Duo, RaggedStand};
 use report_sheets::{Sheets, put_rows, put_rows_by};
 use report_text::{end, header, spins};
-use scalar_rule::{Plan, Record};
+use scalar_rule::{Plan, Record, recorded_epochs};
 use std::thread::Threads;
 
 /// What the report of a run tells: its plan, from where it came, where it stopped, its records, and whether its
@@ -169,7 +169,7 @@ fn row_count(origin: &Origin, slots: usize, from: u64, to: u64) -> usize
     ensures within { result ≤ board.row_total origin.now }
 {
     let window = origin.window;
-    let epochs = to / window.every - from / window.every;
+    let epochs = recorded_epochs(window.every, from, to);
     epochs as usize * window.samples as usize * slots
 }
 

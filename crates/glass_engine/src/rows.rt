@@ -1,10 +1,10 @@
 //! The rows of a run, as its report has them.
 
-ghost use Rattle.std.specs.Prelude.{◌≡◌, ◌-◌, ◌*◌, ◌/◌, ◌^◌, ◌<◌, ◌≤◌, ◌++◌, [], if◌then◌else◌, length, IfOk, OnOk, OnErr};
+ghost use Rattle.std.specs.Prelude.{◌≡◌, ◌*◌, ◌^◌, ◌<◌, ◌≤◌, ◌++◌, [], if◌then◌else◌, length, IfOk, OnOk, OnErr};
 ghost use Rattle.glass_edges.specs.Causes.{HasCause};
 ghost use Rattle.glass_edges.specs.Contents.{AppendsPrefix, PutsFront};
 ghost use Rattle.spin_model.specs.Limits.{most_slots};
-ghost use Rattle.scalar_rule.specs.Records.{is_recorded};
+ghost use Rattle.scalar_rule.specs.Records.{is_recorded, recorded_epochs};
 ghost use Rattle.glass_engine.specs.RecordPieces.{piece_rows, measured, IsRunRows};
 ghost use Rattle.glass_engine.specs.Report as text;
 ghost use Rattle.glass_engine.specs.RowLaws.{rows-empty, rows-joined};
@@ -13,7 +13,7 @@ use exchange_board::Origin;
 use glass_edges::{Fault, Line, Sink};
 use report_sheets::RowSource;
 use report_text::add_row;
-use scalar_rule::{Record, is_recorded};
+use scalar_rule::{Record, is_recorded, recorded_epochs};
 
 /// The rows of a run between two epochs, whose records are these.
 #[derive(Clone, Copy)]
@@ -83,12 +83,12 @@ fn rows_before(rows: &RunRows, epoch: u64) -> usize
     requires ready { IsRunRows rows.now }
     requires from { rows.now.from ≤ epoch }
     requires to { epoch ≤ rows.now.to }
-    ensures value { result ≡ (epoch / rows.now.origin.now.window.every - rows.now.from / rows.now.origin.now.window.every)
+    ensures value { result ≡ recorded_epochs rows.now.origin.now.window.every rows.now.from epoch
         * (rows.now.origin.now.window.samples * rows.now.slots) }
     ensures within { result ≤ length rows.now.records.now }
 {
     let window = rows.origin.window;
-    let epochs = epoch / window.every - rows.from / window.every;
+    let epochs = recorded_epochs(window.every, rows.from, epoch);
     epochs as usize * (window.samples as usize * rows.slots)
 }
 

@@ -3,7 +3,7 @@ use Rattle.std.proofs.Common.{arith, ℕ, ◌-◌, ◌*◌, ◌≤◌, min, List
 use Rattle.std.specs.Prelude.{All, ◌≢◌}
 use Rattle.std.proofs.lemmas.List.Elements.{All-nil, All-cons, All-head, All-tail}
 use Rattle.run_checkpoint.specs.BankEncoding.{HaveShape, BanksFit}
-use Rattle.run_plan.specs.Amounts.{recorded_epochs}
+use Rattle.scalar_rule.specs.Records.{recorded_epochs}
 use Rattle.run_plan.specs.declared.run_file.Orders.{Orders}
 use Rattle.scalar_rule.specs.Plan.{Plan, slots_of}
 use Rattle.plane_sweep.specs.declared.stand.Stand.{Stand}

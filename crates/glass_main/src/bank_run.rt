@@ -6,7 +6,7 @@ ghost use Rattle.glass_edges.specs.Refusals.{unless};
 ghost use Rattle.spin_model.specs.Limits.{last_epoch, most_rows};
 ghost use Rattle.glass_engine.specs.BankLaws.{BanksReportIsSerial, BanksCheckpointIsSerial};
 ghost use Rattle.run_checkpoint.specs.BankEncoding.{BanksStand, HaveShape};
-ghost use Rattle.run_plan.specs.Amounts.{recorded_epochs};
+ghost use Rattle.scalar_rule.specs.Records.{recorded_epochs};
 ghost use Rattle.scalar_rule.specs.declared.sample.Sample.{Sample};
 ghost use Rattle.glass_main.specs.BanksOpened.{is_named, AreReady, AreRunsOf};
 ghost use Rattle.glass_main.specs.CommandLine as commands;

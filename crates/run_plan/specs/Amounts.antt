@@ -1,9 +1,10 @@
 -- How much a run prints, and when that is too much.
-use Rattle.std.specs.Prelude.{ℕ, ◌-◌, ◌*◌, ◌/◌, ◌&&◌, nat_lt, if◌then◌else◌, Option, Some, None}
+use Rattle.std.specs.Prelude.{ℕ, ◌*◌, ◌&&◌, nat_lt, if◌then◌else◌, Option, Some, None}
 use Rattle.glass_edges.specs.Refusals.{or_else}
 use Rattle.spin_model.specs.Lattice.{volume}
 use Rattle.spin_model.specs.Limits.{most_rows}
 use Rattle.scalar_rule.specs.Plan.{Plan, slots_of}
+use Rattle.scalar_rule.specs.Records.{recorded_epochs}
 use Rattle.run_plan.specs.declared.run_file.Orders.{Orders}
 use Rattle.run_plan.specs.declared.refused.PlanRefused.{PlanRefused}
 use Rattle.run_plan.specs.declared.refused.PlanRefused.TheVariants as refused
@@ -15,10 +16,6 @@ most_spins = 268435456
 -- the spins of a state: of each printed sample and slot those of two replicas
 abbrev pub spin_bits : Plan → Orders → ℕ
 spin_bits plan orders = orders.samples * slots_of plan * 2 * volume plan.size
-
--- how many epochs from `from` on and below `until` are the last of each `every`
-abbrev pub recorded_epochs : ℕ → ℕ → ℕ → ℕ
-recorded_epochs every from until = until / every - from / every
 
 -- the rows: of each recorded epoch one for each printed sample and slot
 abbrev pub row_count : Plan → Orders → ℕ → ℕ → ℕ

@@ -9,7 +9,7 @@ ghost use Rattle.scalar_rule.specs.Plan.{slots_of};
 use crate::limits::MOST_SPIN_BITS;
 use crate::refused::PlanRefused;
 use crate::run_file::Orders;
-use scalar_rule::Plan;
+use scalar_rule::{Plan, recorded_epochs};
 use spin_model::MOST_ROWS;
 
 /// Tests the amount of what a run from epoch `from` to epoch `until` prints. Takes no memory.
@@ -53,7 +53,7 @@ pub fn row_count(plan: &Plan, orders: &Orders, from: u64, until: u64) -> u64
     requires until { until ≤ last_epoch }
     ensures { result ≡ rows_of_run plan.now orders.now from until }
 {
-    printed_slots(plan, orders) * (until / orders.every - from / orders.every)
+    printed_slots(plan, orders) * recorded_epochs(orders.every, from, until)
 }
 
 // The slots of all printed samples.

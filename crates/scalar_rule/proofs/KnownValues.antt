@@ -7,7 +7,7 @@ use Rattle.scalar_rule.specs.Neighbours.{aligned, satisfied}
 use Rattle.scalar_rule.specs.Exchange.{is_swapped}
 use Rattle.scalar_rule.specs.Epoch.{has_turn, has_partner, pair_of, partner}
 use Rattle.scalar_rule.specs.Ragged.{Position}
-use Rattle.scalar_rule.specs.Records.{is_recorded}
+use Rattle.scalar_rule.specs.Records.{is_recorded, recorded_epochs}
 use Rattle.scalar_rule.specs.Positions.{least, greatest, sum_below, done, position_in, floor_of, deepest_of, cell_number, pending_before, pending_count}
 
 -- a colder slot with as many unsatisfied bonds or more is always swapped, also without an entry and at the greatest draw
@@ -38,8 +38,12 @@ pub partners : (map (λ t. partner t 0) (0 ∷ 1 ∷ 2 ∷ 3 ∷ []) ≡ 1 ∷ 0
 partners = (refl, refl, refl, refl)
 
 -- every tenth epoch is recorded, the last of each ten
-pub recorded_epochs : map (is_recorded 10) (0 ∷ 8 ∷ 9 ∷ 10 ∷ 19 ∷ []) ≡ false ∷ false ∷ true ∷ false ∷ true ∷ []
-recorded_epochs = refl
+pub every_tenth : map (is_recorded 10) (0 ∷ 8 ∷ 9 ∷ 10 ∷ 19 ∷ []) ≡ false ∷ false ∷ true ∷ false ∷ true ∷ []
+every_tenth = refl
+
+-- so of the epochs 9 to 29 three, of those 10 to 19 one and of those 10 to 18 none
+pub some_of_each_ten : (recorded_epochs 10 9 30 ≡ 3) × (recorded_epochs 10 10 20 ≡ 1) × (recorded_epochs 10 10 19 ≡ 0)
+some_of_each_ten = (refl, refl, refl)
 
 -- the couplings of which bond 0 alone is -1
 abbrev one_negative : ℕ → Bool

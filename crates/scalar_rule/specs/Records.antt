@@ -1,5 +1,5 @@
 -- The measurement records of a run: of each recorded epoch, each printed sample and each slot, in this order.
-use Rattle.std.specs.Prelude.{ℕ, ◌+◌, ◌-◌, ◌%◌, Bool, ◌==◌, if◌then◌else◌, List, [], flat_map, slice_index_or, pos}
+use Rattle.std.specs.Prelude.{ℕ, ◌+◌, ◌-◌, ◌/◌, ◌%◌, Bool, ◌==◌, if◌then◌else◌, List, [], flat_map, slice_index_or, pos}
 use Rattle.spin_model.specs.Steps.{table}
 use Rattle.scalar_rule.specs.Plan.{Plan}
 use Rattle.scalar_rule.specs.Epoch.{epoch_records}
@@ -10,6 +10,10 @@ use Rattle.scalar_rule.specs.declared.sample.Record.{Record}
 -- an epoch is recorded: it is the last of each `every`
 abbrev pub is_recorded : ℕ → ℕ → Bool
 is_recorded every e = e % every == every - 1
+
+-- how many epochs from `from` on and below `to` are recorded
+abbrev pub recorded_epochs : ℕ → ℕ → ℕ → ℕ
+recorded_epochs every from to = to / every - from / every
 
 -- a record of zeros, which stands where there is none
 abbrev pub no_record : Record

@@ -30,4 +30,4 @@ pub use plan::Plan;
 pub use sample::{Beginning, PlainPair, PlainSlot, Record, Sample, Start};
 pub use sums::{agreeing, excess, unsatisfied};
 pub use sweeps::{half_sweep, sweep};
-pub use turns::{has_partner, has_turn, is_recorded};
+pub use turns::{has_partner, has_turn, is_recorded, recorded_epochs};

@@ -12,6 +12,15 @@ pub fn is_recorded(every: u64, epoch: u64) -> bool
     epoch % every == every - 1
 }
 
+/// How many epochs from one on and below another are recorded.
+pub fn recorded_epochs(every: u64, from: u64, to: u64) -> u64
+    requires some { 1 ≤ every }
+    requires window { from ≤ to }
+    ensures { result ≡ records.recorded_epochs every from to }
+{
+    to / every - from / every
+}
+
 /// Whether a pair of neighbouring slots has its turn at an epoch: its number, which is that of its
 /// colder slot, and the epoch are equal modulo 2.
 pub fn has_turn(pair: u32, epoch: u64) -> bool

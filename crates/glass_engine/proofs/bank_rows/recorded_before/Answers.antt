@@ -1,5 +1,10 @@
+use Rattle.std.proofs.Common.{ℕ, sym, subst}
+use Rattle.glass_engine.specs.BankPieces.{AreRowsFrom}
 use Rattle.glass_engine.proofs.BankRows.{rows-ahead}
 use Rattle.glass_engine.proofs.bank_rows.recorded_before.Goals as goal
 
 pub returns : goal.returns
-returns c = rows-ahead c.args.rows.now.driven.now c.args.rows.now.orders.now c.args.rows.now.slots c.args.rows.now.from c.args.epoch c.args.rows.now.to c.requires.from c.requires.to c.requires.ready
+returns c =
+    let rows = c.args.rows.now in
+    let R : ℕ → Type 0 = λ n. AreRowsFrom rows.driven.now rows.orders.now rows.slots c.args.epoch rows.to n in
+    subst R (sym c.recorded_epochs.ensures) (rows-ahead rows.driven.now rows.orders.now rows.slots rows.from c.args.epoch rows.to c.requires.from c.requires.to c.requires.ready)

@@ -1,7 +1,8 @@
 use Rattle.std.proofs.Common.{arith, ℕ, ◌*◌, ◌≤◌, Option, IfOk, sym, ap, ◌∙◌, subst}
 use Rattle.std.specs.Arc.{arc_value}
 use Rattle.glass_edges.specs.Refusals.{unless}
-use Rattle.run_plan.specs.Amounts.{amount_refusal, recorded_epochs}
+use Rattle.run_plan.specs.Amounts.{amount_refusal}
+use Rattle.scalar_rule.specs.Records.{recorded_epochs}
 use Rattle.run_plan.specs.declared.refused.PlanRefused.{PlanRefused}
 use Rattle.scalar_rule.specs.Plan.{Plan, slots_of}
 use Rattle.glass_main.proofs.BankRuns.{first-amount, first-shape}

@@ -6,7 +6,7 @@ use Rattle.glass_engine.proofs.BankStarts.{fit-long}
 use Rattle.glass_engine.specs.BankRuns.{bank_runs, bank_kind, AreBankStarts}
 use Rattle.plane_sweep.specs.declared.stand.Stand.{Stand}
 use Rattle.run_checkpoint.specs.BankEncoding.{HaveShape, BanksFit}
-use Rattle.run_plan.specs.Amounts.{recorded_epochs}
+use Rattle.scalar_rule.specs.Records.{recorded_epochs}
 use Rattle.run_plan.specs.declared.run_file.Orders.{Orders}
 use Rattle.scalar_rule.specs.Plan.{Plan}
 use Rattle.glass_main.proofs.Amounts.{refused-amount}
