@@ -30,8 +30,8 @@ use Rattle.plane_sweep.specs.Uneven.{position_of, positions_of}
 use Rattle.glass_engine.specs.Report.{epoch_rows, rows_in_order, uneven_measured, all_rest, all_spins, uneven_report, report}
 use Rattle.spin_model.proofs.Joined.{joined-add}
 use Rattle.glass_engine.proofs.Reporting.{spins-same}
-use Rattle.glass_main.specs.Beginnings.{Beginning, Level, Uneven, opened_by, begins_at, all_at, run_text, run_checkpoint}
-use Rattle.glass_main.specs.StopLaws.{IsEncodingOf, IsBeginning, state_at, reached_by, Leaves, AreLeft, last_of, all_rows, AddUp}
+use Rattle.glass_main.specs.Beginnings.{Beginning, Level, Uneven, opened_by, begins_at, all_at, run_text, state_at, run_checkpoint}
+use Rattle.glass_main.specs.StopLaws.{IsEncodingOf, IsBeginning, reached_by, Leaves, AreLeft, last_of, all_rows, AddUp}
 use Rattle.glass_main.specs.Stops.{states_of, kept_of, rows_to, spins_at}
 use Rattle.glass_main.specs.declared.planned.Planned.{Planned}
 use Rattle.glass_main.proofs.OpenedRuns.{floor-upto}

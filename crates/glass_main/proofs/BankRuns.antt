@@ -1,28 +1,36 @@
 -- A run of several banks as it is opened, and what it prints and saves.
-use Rattle.std.proofs.Common.{arith, ◌≡◌, ◌≢◌, ℕ, ◌-◌, ◌*◌, ◌<◌, ◌≤◌, min, List, [], ◌∷◌, length, map, get_or, Option, Some, None, Result, Ok, Err, refl, sym, ap, ◌∙◌, subst}
+use Rattle.std.proofs.Common.{arith, ◌≡◌, ◌≢◌, ℕ, ◌-◌, ◌*◌, ◌<◌, ◌≤◌, min, List, [], ◌∷◌, length, map, get_or, Option, Some, None, Result, Ok, Err, refl, sym, ap, ap₂, ◌∙◌, subst}
 use Rattle.std.specs.Prelude.{All}
 use Rattle.std.proofs.lemmas.List.{length-map, get_or-map}
-use Rattle.std.proofs.lemmas.List.Elements.{All-nil, All-cons}
+use Rattle.std.proofs.lemmas.List.Elements.{All-nil, All-cons, All-head, All-tail}
 use Rattle.glass_edges.specs.Refusals.{unless}
-use Rattle.glass_engine.specs.BankLaws.{HaveSlots, BanksReportIsSerial, BanksCheckpointIsSerial}
-use Rattle.glass_engine.specs.BankRuns.{bank_run, bank_runs, bank_kind, for_samples, runs_report, runs_checkpoint, AreBankOrders}
-use Rattle.glass_engine.specs.Runs.{RunView, DoneView}
+use Rattle.exchange_board.specs.Views.{RaggedEndedView}
+use Rattle.glass_engine.specs.BankLaws.{banks_with, HaveSlots, BanksReportIsSerial, BanksCheckpointIsSerial}
+use Rattle.glass_engine.specs.Banks.{Bank, banks_checkpoint}
+use Rattle.glass_engine.specs.BankRuns.{bank_run, bank_runs, bank_kind, for_samples, runs_of, runs_report, runs_checkpoint, AreBankOrders}
+use Rattle.glass_engine.specs.Laws.{stand_at}
+use Rattle.glass_engine.specs.Runs.{RunView, DoneView, IsEnd}
 use Rattle.glass_engine.specs.declared.run.SaveKind.{SaveKind}
 use Rattle.glass_engine.specs.declared.run.SaveKind.TheVariants as saves
 use Rattle.glass_engine.proofs.BankStarts.{fit-long, runs-plans}
+use Rattle.glass_engine.proofs.SavedRuns.{fits-at}
+use Rattle.glass_engine.proofs.WholeRuns.{level-serial}
 use Rattle.plane_sweep.specs.declared.stand.Stand.{Stand}
-use Rattle.plane_sweep.specs.Packed.{part}
-use Rattle.run_checkpoint.specs.BankEncoding.{HaveShape, BanksFit, BanksStand}
+use Rattle.plane_sweep.specs.Packed.{part, StandFits, StandsFor}
+use Rattle.plane_sweep.specs.Uneven.{RaggedStandFits}
+use Rattle.run_checkpoint.specs.BankEncoding.{banks_encoding, HaveShape, AreBanks, BanksFit, BanksStand}
+use Rattle.run_checkpoint.specs.Encoding.{AreBankStates}
 use Rattle.run_plan.specs.Amounts.{amount_refusal}
 use Rattle.run_plan.specs.RunFile.{AreOrdersOfBanks}
 use Rattle.run_plan.specs.declared.refused.PlanRefused.{PlanRefused}
 use Rattle.run_plan.specs.declared.run_file.Orders.{Orders}
 use Rattle.scalar_rule.specs.Plan.{Plan, slots_of}
+use Rattle.scalar_rule.specs.Serial.{serial}
 use Rattle.scalar_rule.specs.declared.sample.Sample.{Sample}
 use Rattle.glass_main.specs.BanksOpened.{is_named, AreOpened, AreReady, AreRunsOf}
 use Rattle.glass_main.specs.Endings.{IsOfAmount}
 use Rattle.glass_main.proofs.Amounts.{amount-told}
-use Rattle.glass_main.specs.ManyBanks.{PlannedBanks, bank_count, banks_amount_refusal, stands_at, starts_at}
+use Rattle.glass_main.specs.ManyBanks.{PlannedBanks, bank_count, banks_amount_refusal, banks_at, stands_at, starts_at}
 use Rattle.glass_main.specs.Request.{BanksWork, told_as, banks_work}
 use Rattle.glass_main.specs.Resumes.{AreResumable}
 use Rattle.glass_main.specs.declared.bank_finishing.OpenedBanks.{OpenedBanks}
@@ -131,6 +139,73 @@ opened-ready planned stands until name opened r o = record {
   saved = λ named. subst (λ runs. All (λ (run : RunView). run.saves ≢ saves.Never) runs) (sym o.runs) (runs-kind planned.plans stands planned.orders until (bank_kind (is_named name)) (saved-kind name named));
 }
 
+-- ---- what they save
+
+with-plans : (plans : List Plan) (starts : List (ℕ → Sample)) (stands : List Stand) → BanksStand plans starts stands → map (λ (x : Bank). x.plan) (banks_with plans starts) ≡ plans
+unfolding BanksStand banks_with
+with-plans [] starts stands all = refl
+with-plans (p ∷ ps) [] stands all = absurd all
+with-plans (p ∷ ps) (s ∷ ss) [] all = absurd all
+with-plans (p ∷ ps) (s ∷ ss) (x ∷ xs) all = ap (λ l. p ∷ l) (with-plans ps ss xs all.1)
+
+with-states : (plans : List Plan) (starts : List (ℕ → Sample)) (e : ℕ) → map {B = ℕ → Sample} (λ (x : Bank) (b : ℕ). serial x.plan (x.start b) e) (banks_with plans starts) ≡ banks_at plans starts e
+unfolding banks_with banks_at
+with-states [] starts e = refl
+with-states (p ∷ ps) [] e = refl
+with-states (p ∷ ps) (s ∷ ss) e = ap (λ l. (λ b. serial p (s b) e) ∷ l) (with-states ps ss e)
+
+saved-states : (plans : List Plan) (starts : List (ℕ → Sample)) (stands : List Stand) (e : ℕ) → BanksStand plans starts stands
+    → banks_checkpoint (banks_with plans starts) e ≡ banks_encoding plans (banks_at plans starts e)
+saved-states plans starts stands e all = ap₂ banks_encoding (with-plans plans starts stands all) (with-states plans starts e)
+
+-- the first of a list, and the rest
+unfoldable first-or : {X : Type 0} → X → List X → X
+first-or none [] = none
+first-or none (x ∷ xs) = x
+
+unfoldable rest-of : {X : Type 0} → List X → List X
+rest-of [] = []
+rest-of (x ∷ xs) = xs
+
+-- a bank that was driven from a packed state ends with the states of the serial dynamics, which fit and are at its last epoch
+bank-ends : (plan : Plan) (stand : Stand) (start : ℕ → Sample) (orders : Orders) (until : ℕ) (kind : SaveKind) (d : RaggedEndedView) → StandFits plan stand → StandsFor plan start stand
+    → IsEnd (bank_run plan stand orders until kind) d → AreBankStates plan (λ b. serial plan (start b) until) × ((serial plan (start 0) until).epoch ≡ until)
+unfolding part
+bank-ends plan stand start orders until kind d fits stands end =
+    let run = bank_run plan stand orders until kind in
+    let whole = level-serial run stand d refl refl fits end in
+    let F : Plan → Type 0 = λ p. RaggedStandFits p d.origin.window.samples d.origin.window.every d.stand in
+    let last : d.origin.window.until ≡ until = end.origin.until_is in
+    let short : until ≤ 1000000000 = let z = end.lawful.until in omega arith in
+    let stands_end : (b : ℕ) → b < 64 → part plan.size b (stand_at until d.stand) ≡ serial plan (start b) until =
+    λ b small. whole.stand b small ∙ ap (λ s. serial plan s until) (stands b small) in (
+      record {
+        stand = stand_at until d.stand;
+        fits = fits-at plan d.origin.window.samples d.origin.window.every until d.stand (subst F end.origin.plan_is end.stop.fits) (omega arith);
+        stands = stands_end;
+      },
+      sym (ap (λ (s : Sample). s.epoch) (stands_end 0 (omega arith))),
+    )
+
+-- and so do all banks
+all-end : (epoch : ℕ) (plans : List Plan) (stands : List Stand) (starts : List (ℕ → Sample)) (orders : Orders) (until : ℕ) (kind : SaveKind) (dones : List DoneView) → BanksFit epoch plans stands
+    → BanksStand plans starts stands → runs_of dones ≡ bank_runs plans stands orders until kind → All (λ (d : DoneView). IsEnd d.run d.ended) dones
+    → AreBanks until plans (banks_at plans starts until)
+unfolding BanksFit BanksStand bank_runs AreBanks banks_at first-or rest-of
+all-end epoch [] [] [] orders until kind dones fit stand are ends = tt
+all-end epoch [] [] (s ∷ ss) orders until kind dones fit stand are ends = absurd stand
+all-end epoch [] (x ∷ xs) starts orders until kind dones fit stand are ends = absurd fit
+all-end epoch (p ∷ ps) [] starts orders until kind dones fit stand are ends = absurd fit
+all-end epoch (p ∷ ps) (x ∷ xs) [] orders until kind dones fit stand are ends = absurd stand
+all-end epoch (p ∷ ps) (x ∷ xs) (s ∷ ss) orders until kind [] fit stand are ends = absurd (omega (arith, ap length are))
+all-end epoch (p ∷ ps) (x ∷ xs) (s ∷ ss) orders until kind (d ∷ ds) fit stand are ends =
+    let one = for_samples (min orders.samples 64) orders in
+    let E : DoneView → Type 0 = λ z. IsEnd z.run z.ended in
+    let R : RunView → Type 0 = λ r. IsEnd r d.ended in
+    let run : d.run ≡ bank_run p x one until kind = ap (first-or d.run) are in
+    let states = bank-ends p x s one until kind d.ended fit.0 stand.0 (subst R run (All-head E d ds ends)) in
+    (states.0, states.1, all-end epoch ps xs ss (for_samples (orders.samples - 64) orders) until kind ds fit.2 stand.1 (ap rest-of are) (All-tail E d ds ends))
+
 -- what they print and save, from each start that the states are packed of
 pub opened-runs : (report : BanksReportIsSerial) (saving : BanksCheckpointIsSerial) (planned : PlannedBanks) (stands : List Stand) (until : ℕ) (name : Option (List ℕ)) (opened : OpenedBanks) (starts : List (ℕ → Sample))
     → 1 ≤ length planned.plans → planned.orders.samples ≤ 64 * length planned.plans → HaveSlots planned.plans → AreResumable planned.plans until stands
@@ -139,7 +214,9 @@ opened-runs report saving planned stands until name opened starts some few slots
     let kind = bank_kind (is_named name) in
     record {
       report = ap runs_report o.runs ∙ report planned.plans stands starts planned.orders until kind few (record { epoch = r.epoch; fit = r.fit; slots = slots; stand = stand });
-      checkpoint = ap runs_checkpoint o.runs ∙ saving planned.plans stands starts planned.orders until kind some (record { epoch = r.epoch; fit = r.fit; slots = slots; stand = stand });
+      checkpoint = ap runs_checkpoint o.runs ∙ saving planned.plans stands starts planned.orders until kind some (record { epoch = r.epoch; fit = r.fit; slots = slots; stand = stand })
+          ∙ saved-states planned.plans starts stands until stand;
+      states = λ dones are ends. all-end r.epoch planned.plans stands starts planned.orders until kind dones r.fit stand (are ∙ o.runs) ends;
     }
 
 -- ---- after the drive

@@ -2,7 +2,7 @@
 use Rattle.std.proofs.Common.{◌≡◌, ℕ, ◌<◌, ◌≤◌, false, List, length, Option, Some, None, ap, ap₂, sym, ◌∙◌, subst, arith}
 use Rattle.std.proofs.lemmas.List.{length-map, length-replicate, get_or-replicate, ext_get_or}
 use Rattle.spin_model.specs.Limits.{every_take}
-use Rattle.run_checkpoint.specs.Encoding.{encoding}
+use Rattle.run_checkpoint.specs.Encoding.{encoding, AreBankStates}
 use Rattle.run_plan.specs.declared.run_file.Orders.{Orders}
 use Rattle.scalar_rule.specs.Plan.{Plan, slots_of}
 use Rattle.scalar_rule.specs.Opening.{opening}
@@ -13,23 +13,24 @@ use Rattle.scalar_rule.specs.declared.sample.Sample.{Sample}
 use Rattle.scalar_rule.specs.declared.sample.Start.{Start}
 use Rattle.scalar_rule.proofs.Extremes.{least-at, greatest-at}
 use Rattle.plane_sweep.specs.Packed.{part, StandFits, StandsFor}
-use Rattle.plane_sweep.specs.Uneven.{place_at, position_of, positions_of, uneven_part, level_stand}
+use Rattle.plane_sweep.specs.Uneven.{place_at, position_of, positions_of, uneven_part, level_stand, RaggedStandFits}
 use Rattle.plane_sweep.specs.declared.stand.Stand.{Stand}
 use Rattle.plane_sweep.specs.declared.uneven.RaggedStand.{RaggedStand}
 use Rattle.plane_sweep.proofs.LevelStands.{level-floor, position-at}
 use Rattle.exchange_board.specs.Answers.{start_place}
 use Rattle.exchange_board.specs.Views.{RaggedEndedView}
 use Rattle.exchange_board.proofs.Cells.{floor-deep}
-use Rattle.glass_engine.specs.Laws.{UnstoppedRunIsWhole, LevelReportIsSerial}
+use Rattle.glass_engine.specs.Laws.{stand_at, UnstoppedRunIsWhole, LevelReportIsSerial}
 use Rattle.glass_engine.specs.Report.{report, uneven_report, run_report}
 use Rattle.glass_engine.specs.Runs.{RunView, starts, IsEnd}
 use Rattle.glass_engine.specs.Saves.{checkpoint, written, WholeCheckpointIsTheRules, LevelCheckpointIsSerial}
 use Rattle.glass_engine.specs.declared.run.SaveKind.TheVariants as saves
-use Rattle.glass_engine.proofs.WholeRuns.{rest-at}
-use Rattle.glass_main.specs.Beginnings.{Beginning, Level, Uneven, begins_at, all_at, run_text, run_checkpoint, IsBaseOf}
+use Rattle.glass_engine.proofs.SavedRuns.{fits-at}
+use Rattle.glass_engine.proofs.WholeRuns.{rest-at, unstopped-whole}
+use Rattle.glass_main.specs.Beginnings.{Beginning, Level, Uneven, begins_at, all_at, run_text, state_at, run_checkpoint, IsBaseOf}
 use Rattle.glass_main.specs.Opened.{saves_as, IsOpened, text_at, bytes_at, Comes, IsRunOf}
 use Rattle.glass_main.specs.Stops.{RunGives}
-use Rattle.glass_main.proofs.StoppedRuns.{base-floor, base-text, stopped-report, comes-packed, comes-from}
+use Rattle.glass_main.proofs.StoppedRuns.{base-floor, base-text, base-state-at, stopped-report, comes-packed, comes-from}
 use Rattle.glass_main.specs.declared.planned.Planned.{Planned}
 use Rattle.glass_main.specs.declared.finishing.Opened.{Opened}
 
@@ -104,17 +105,24 @@ few-samples run d planned orders e =
     let same : d.origin.window.samples ≡ planned.orders.samples = e.origin.samples_is ∙ ap (λ (o : Orders). o.samples) orders in
     let z = e.stop.fits.few_samples in omega arith
 
+-- it begins before its last epoch
+begins-upto : (planned : Planned) (from : Beginning) (e : ℕ) (run : RunView) (d : RaggedEndedView) → run.plan ≡ planned.plan → run.until ≡ e → IsBaseOf planned.plan from run.base → IsEnd run d
+    → begins_at from ≤ e
+begins-upto planned from e run d plan until base end =
+    let begins : begins_at from ≡ floor_of (positions_of d.origin.base) =
+    base-floor planned.plan from run.base (some-slots run d planned plan end) base ∙ sym (ap (λ (r : RaggedStand). floor_of (positions_of r)) end.origin.base_is) in
+    let last : d.origin.window.until ≡ e = end.origin.until_is ∙ until in
+    let upto = (floor-deep d.origin end.lawful).1 in
+    omega arith
+
 -- its report
 pub text-of : (whole : UnstoppedRunIsWhole) (law : LevelReportIsSerial) (stop_after : Option ℕ) (planned : Planned) (from : Beginning) (e : ℕ) (run : RunView) (d : RaggedEndedView)
     → IsRunOf stop_after planned from e run → IsEnd run d → run_report run (positions_of d.stand) ≡ text_at stop_after planned from e d.stand
 text-of whole law None planned from e run d o end = report-of whole law planned from e run d o end
 text-of whole law (Some takes) planned from e run d o end =
     let some = some-slots run d planned o.plan end in
-    let begins : begins_at from ≡ floor_of (positions_of d.origin.base) = base-floor planned.plan from run.base some o.base ∙ sym (ap (λ (r : RaggedStand). floor_of (positions_of r)) end.origin.base_is) in
-    let last : d.origin.window.until ≡ e = end.origin.until_is ∙ o.until in
-    let upto = (floor-deep d.origin end.lawful).1 in
     stopped-report planned e run (positions_of d.stand) o.plan o.orders o.until
-    ∙ base-text planned from e (positions_of d.stand) run.base some (few-samples run d planned o.orders end) (omega arith) o.base
+    ∙ base-text planned from e (positions_of d.stand) run.base some (few-samples run d planned o.orders end) (begins-upto planned from e run d o.plan o.until o.base end) o.base
 
 -- its checkpoint
 pub bytes-of : (whole : WholeCheckpointIsTheRules) (law : LevelCheckpointIsSerial) (stop_after : Option ℕ) (name : List ℕ) (planned : Planned) (from : Beginning) (e : ℕ) (run : RunView) (d : RaggedEndedView)
@@ -124,10 +132,29 @@ bytes-of whole law (Some takes) name planned from e run d kind o end =
     ap (λ k. written k run.plan run.orders.samples run.orders.every d.stand) kind
     ∙ ap₂ (λ p (r : Orders). written saves.Ragged p r.samples r.every d.stand) o.plan o.orders
 
+-- the states of one that isn't to stop fit
+fits-end : (planned : Planned) (from : Beginning) (e : ℕ) (run : RunView) (d : RaggedEndedView) → IsRunOf None planned from e run → IsEnd run d
+    → AreBankStates planned.plan (λ b. state_at planned.plan from e b)
+fits-end planned from e run d o end =
+    let plan = planned.plan in
+    let whole = unstopped-whole run d o.takes end in
+    let A : Plan → ℕ → Type 0 = λ p n. (b : ℕ) → b < 64 → part p.size b (stand_at n d.stand) ≡ all_ready p (uneven_part p.size b run.base) n in
+    let packed : A plan e = subst (A plan) o.until (subst (λ p. A p run.until) o.plan whole.stand) in
+    let upto = begins-upto planned from e run d o.plan o.until o.base end in
+    let F : Plan → Type 0 = λ p. RaggedStandFits p d.origin.window.samples d.origin.window.every d.stand in
+    let fits = subst F (end.origin.plan_is ∙ o.plan) end.stop.fits in
+    let last : d.origin.window.until ≡ e = end.origin.until_is ∙ o.until in
+    let short : e ≤ 1000000000 = let z = end.lawful.until in omega arith in
+    record {
+      stand = stand_at e d.stand;
+      fits = fits-at plan d.origin.window.samples d.origin.window.every e d.stand fits (omega arith);
+      stands = λ b small. packed b small ∙ base-state-at plan from run.base b e small upto o.base;
+    }
+
 -- where it comes to
 pub run-comes : (stop_after : Option ℕ) (planned : Planned) (from : Beginning) (e : ℕ) (run : RunView) (d : RaggedEndedView) → IsRunOf stop_after planned from e run → IsEnd run d
     → Comes stop_after planned from e d.stand
-run-comes None planned from e run d o end = tt
+run-comes None planned from e run d o end = fits-end planned from e run d o end
 run-comes (Some takes) planned from e run d o end =
     comes-from planned from e takes run.base d.stand (some-slots run d planned o.plan end) (few-samples run d planned o.orders end) o.base
     (comes-packed planned e takes run d o.plan o.orders o.until o.takes end)
@@ -135,7 +162,7 @@ run-comes (Some takes) planned from e run d o end =
 -- what is written of it
 pub run-gives : (stop_after : Option ℕ) (planned : Planned) (from : Beginning) (e : ℕ) (came : RaggedStand) (P : List ℕ → List ℕ → Type 0) → Comes stop_after planned from e came
     → P (text_at stop_after planned from e came) (bytes_at stop_after planned from e came) → RunGives stop_after planned from e P
-run-gives None planned from e came P comes p = p
+run-gives None planned from e came P comes p = (comes, p)
 run-gives (Some takes) planned from e came P comes p = (came, comes, p)
 
 -- ---- how far a starting state is

@@ -1,5 +1,5 @@
 -- A checkpoint of states at one epoch, of 64 samples or of several banks, is what the next run reads, and what is read is one.
-use Rattle.std.proofs.Common.{arith, ◌≡◌, ℕ, ◌≤◌, false, List, [], ◌∷◌, drop, Ok, refl, ap, ◌∙◌, subst}
+use Rattle.std.proofs.Common.{arith, ◌≡◌, ℕ, ◌<◌, ◌≤◌, false, List, [], ◌∷◌, drop, Ok, refl, sym, ap, ◌∙◌, subst}
 use Rattle.std.specs.Str.{bytes_eq}
 use Rattle.plane_sweep.specs.Packed.{part, StandFits}
 use Rattle.plane_sweep.specs.declared.stand.Stand.{Stand}
@@ -13,11 +13,15 @@ use Rattle.run_checkpoint.proofs.BankClauses.{none-encoded, states-read}
 use Rattle.run_checkpoint.proofs.LevelClauses.{packed-none, states-packed, states-epoch}
 use Rattle.run_checkpoint.proofs.LevelForm.{packed_body, form-long, form-again, stand-again}
 use Rattle.run_checkpoint.proofs.Tested.{long-enough}
+use Rattle.run_plan.specs.RunFile.{AreLawfulOrders}
 use Rattle.scalar_rule.specs.Plan.{Plan, IsLawfulPlan, slots_of}
 use Rattle.scalar_rule.specs.declared.sample.Sample.{Sample}
-use Rattle.glass_main.specs.Beginnings.{Level, resumed_by}
+use Rattle.scalar_rule.proofs.Resuming.{epoch-serial}
+use Rattle.glass_main.proofs.AddingUp.{add-up}
+use Rattle.glass_main.specs.Beginnings.{Beginning, Level, Uneven, resumed_by, state_at}
 use Rattle.glass_main.specs.ManyBanks.{PlannedBanks, banks_resumed_by}
-use Rattle.glass_main.specs.ResumeLaws.{IsReadAs, AreBankPlans, IsEncodingOfBanks, AreReadAs}
+use Rattle.glass_main.specs.ResumeLaws.{IsReadAs, GoesOnFrom, AreBankPlans, IsEncodingOfBanks, AreReadAs}
+use Rattle.glass_main.specs.StopLaws.{IsBeginning, reached_by, AreLeft}
 use Rattle.glass_main.specs.declared.planned.Planned.{Planned}
 use Rattle.glass_edges.proofs.FirstRefusals.{is-found, unless-ok}
 use Rattle.glass_edges.proofs.NumberBytes.{IsBytes}
@@ -46,6 +50,29 @@ saved-run-read planned until states lawful are time = record {
       ∙ packed-read planned until are.stand lawful are.fits (omega (arith, time, states-epoch planned.plan states are));
   same = are.stands;
 }
+
+-- the state at an epoch is there
+state-epoch : (plan : Plan) (from : Beginning) (e : ℕ) → reached_by from ≤ e → (state_at plan from e 0).epoch ≡ e
+state-epoch plan (Level start) e upto = epoch-serial plan (start 0) e upto
+state-epoch plan (Uneven stand) e upto = refl
+
+pub saved-run-goes-on : (planned : Planned) (from : Beginning) (e until : ℕ) → IsLawfulPlan planned.plan → AreLawfulOrders planned.orders → IsBeginning planned from → reached_by from ≤ e → e ≤ until
+    → AreBankStates planned.plan (λ b. state_at planned.plan from e b) → GoesOnFrom planned from e until
+unfolding AreLeft
+saved-run-goes-on planned from e until lawful orders begins upto within fit =
+    let plan = planned.plan in
+    let states : ℕ → Sample = λ b. state_at plan from e b in
+    let epoch = state-epoch plan from e upto in
+    let r = saved-run-read planned until states lawful fit (omega (arith, within, epoch)) in
+    let first : (r.start 0).epoch ≡ e = ap (λ (s : Sample). s.epoch) (r.same 0 (omega arith)) ∙ epoch in
+    let same : (b : ℕ) → b < 64 → r.start b ≡ state_at plan from (r.start 0).epoch b = λ b small. r.same b small ∙ ap (λ n. state_at plan from n b) (sym first) in
+    let since : reached_by from ≤ (r.start 0).epoch = omega (arith, upto, first) in
+    let late : (r.start 0).epoch ≤ until = omega (arith, within, first) in
+    record {
+      later = r.start;
+      read = r.read;
+      adds_up = add-up planned until from (Level r.start ∷ []) lawful orders begins (omega (arith, upto, within)) ((since, same), late, tt);
+    }
 
 -- ---- several banks
 

@@ -36,7 +36,7 @@ use Rattle.glass_engine.specs.Runs.{RunView, IsEnd}
 use Rattle.spin_model.proofs.Joined.{joined-same}
 use Rattle.glass_engine.proofs.Reporting.{spins-same}
 use Rattle.glass_engine.proofs.WholeRuns.{later, later-lawful, rest-at}
-use Rattle.glass_main.specs.Beginnings.{Beginning, Level, Uneven, begins_at, IsLevelBase, IsBaseOf}
+use Rattle.glass_main.specs.Beginnings.{Beginning, Level, Uneven, begins_at, state_at, IsLevelBase, IsBaseOf}
 use Rattle.glass_main.specs.Stops.{states_of, kept_of, hand_outs, Reaches, ComesTo, rows_to, spins_at, stopped_text}
 use Rattle.glass_main.specs.declared.planned.Planned.{Planned}
 
@@ -110,6 +110,11 @@ level-state plan start base b e small from is =
     ap (λ s. all_ready plan s e) (ap (uneven_part plan.size b) is.is ∙ level-part plan b is.stand is.fits.slots)
     ∙ all_ready-serial plan x e (part-fits plan b is.stand small is.fits) (omega arith)
     ∙ ap (λ s. serial plan s e) (is.stands b small)
+
+pub base-state-at : (plan : Plan) (from : Beginning) (base : RaggedStand) (b e : ℕ) → b < 64 → begins_at from ≤ e → IsBaseOf plan from base
+    → all_ready plan (uneven_part plan.size b base) e ≡ state_at plan from e b
+base-state-at plan (Level start) base b e small upto is = level-state plan start base b e small upto is
+base-state-at plan (Uneven stand) base b e small upto is = ap (λ r. all_ready plan (uneven_part plan.size b r) e) is
 
 pub base-spins : (plan : Plan) (samples e : ℕ) (from : Beginning) (base : RaggedStand) → samples ≤ 64 → begins_at from ≤ e → IsBaseOf plan from base
     → spins_at plan samples (Uneven base) e ≡ spins_at plan samples from e

@@ -1,12 +1,13 @@
 -- A run over several banks as it is opened.
 use Rattle.std.specs.Prelude.{◌≡◌, ◌≢◌, ℕ, Bool, true, false, List, map, Option, Some, None, All}
 use Rattle.std.specs.Arc.{arc_value}
-use Rattle.glass_engine.specs.BankRuns.{bank_runs, bank_kind, plans_of, runs_report, runs_checkpoint}
-use Rattle.glass_engine.specs.Runs.{RunView}
+use Rattle.glass_engine.specs.BankRuns.{bank_runs, bank_kind, plans_of, runs_of, runs_report, runs_checkpoint}
+use Rattle.glass_engine.specs.Runs.{RunView, DoneView, IsEnd}
 use Rattle.glass_engine.specs.declared.run.SaveKind.TheVariants as saves
 use Rattle.plane_sweep.specs.declared.stand.Stand.{Stand}
+use Rattle.run_checkpoint.specs.BankEncoding.{AreBanks}
 use Rattle.scalar_rule.specs.declared.sample.Sample.{Sample}
-use Rattle.glass_main.specs.ManyBanks.{PlannedBanks, banks_text, banks_bytes}
+use Rattle.glass_main.specs.ManyBanks.{PlannedBanks, banks_text, banks_at, banks_bytes}
 use Rattle.glass_main.specs.declared.bank_finishing.OpenedBanks.{OpenedBanks}
 
 -- whether a checkpoint is saved: where there is a name for it
@@ -24,7 +25,9 @@ pub record AreReady (name : Option (List ℕ)) (opened : OpenedBanks) : Type 0 w
   pub plans : map arc_value opened.plans.items ≡ plans_of opened.banks
   pub saved : name ≢ None → All (λ (run : RunView). run.saves ≢ saves.Never) opened.banks
 
--- what these runs print and save is what is asked for
+-- what these runs print and save is what is asked for, and the states at their end fit
 pub record AreRunsOf (planned : PlannedBanks) (starts : List (ℕ → Sample)) (until : ℕ) (runs : List RunView) : Type 0 where
   pub report : runs_report runs ≡ banks_text planned starts until
   pub checkpoint : runs_checkpoint runs ≡ banks_bytes planned starts until
+  pub states : (dones : List DoneView) → runs_of dones ≡ runs → All (λ (d : DoneView). IsEnd d.run d.ended) dones
+      → AreBanks until planned.plans (banks_at planned.plans starts until)

@@ -54,11 +54,14 @@ run_text planned (Uneven stand) until =
     uneven_report planned.plan (λ b. uneven_part planned.plan.size b stand) stand.pending planned.orders.samples planned.orders.every
     planned.orders.spins until (all_at planned.plan until)
 
--- the checkpoint of the states of that rule at the last epoch
+-- the state of sample b with every slot at rest at an epoch: from states at one epoch by the serial dynamics
+abbrev pub state_at : Plan → Beginning → ℕ → ℕ → Sample
+state_at plan (Level start) e b = serial plan (start b) e
+state_at plan (Uneven stand) e b = all_ready plan (uneven_part plan.size b stand) e
+
+-- the checkpoint of these states at the last epoch
 abbrev pub run_checkpoint : Planned → Beginning → ℕ → List ℕ
-run_checkpoint planned (Level start) until = encoding planned.plan (λ b. serial planned.plan (start b) until)
-run_checkpoint planned (Uneven stand) until =
-    encoding planned.plan (λ b. all_ready planned.plan (uneven_part planned.plan.size b stand) until)
+run_checkpoint planned from until = encoding planned.plan (λ b. state_at planned.plan from until b)
 
 -- ---- what the code starts from
 

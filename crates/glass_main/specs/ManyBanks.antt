@@ -5,9 +5,9 @@ use Rattle.coupling_set.specs.BondsAsWords.{couplings_with, bank_of}
 use Rattle.coupling_set.specs.CouplingWords.{CouplingsView}
 use Rattle.glass_edges.specs.Refusals.{unless}
 use Rattle.glass_engine.specs.BankLaws.{banks_with}
-use Rattle.glass_engine.specs.Banks.{banks_report, banks_checkpoint}
+use Rattle.glass_engine.specs.Banks.{banks_report}
 use Rattle.run_checkpoint.specs.BankDecoding.{banks_refusal, banks_in}
-use Rattle.run_checkpoint.specs.BankEncoding.{bank_len, banks_parts}
+use Rattle.run_checkpoint.specs.BankEncoding.{bank_len, banks_parts, banks_encoding}
 use Rattle.run_checkpoint.specs.declared.refused.CheckpointRefused.{CheckpointRefused}
 use Rattle.run_plan.specs.Amounts.{amount_refusal}
 use Rattle.run_plan.specs.declared.refused.PlanRefused.{PlanRefused}
@@ -15,6 +15,7 @@ use Rattle.run_plan.specs.declared.run_file.Orders.{Orders}
 use Rattle.plane_sweep.specs.declared.stand.Stand.{Stand}
 use Rattle.scalar_rule.specs.Opening.{opening}
 use Rattle.scalar_rule.specs.Plan.{Plan}
+use Rattle.scalar_rule.specs.Serial.{serial}
 use Rattle.scalar_rule.specs.declared.sample.Sample.{Sample}
 use Rattle.scalar_rule.specs.declared.sample.Start.{Start}
 use Rattle.spin_model.specs.Couplings.{Bonds}
@@ -67,9 +68,16 @@ unfoldable pub banks_amount_refusal : List Plan → Orders → ℕ → ℕ → O
 banks_amount_refusal [] orders from until = None
 banks_amount_refusal (plan ∷ plans) orders from until = amount_refusal plan orders from until
 
--- the one report of the serial dynamics of each bank's samples, and the one checkpoint of all states at the last epoch
+-- the one report of the serial dynamics of each bank's samples
 abbrev pub banks_text : PlannedBanks → List (ℕ → Sample) → ℕ → List ℕ
 banks_text planned starts until = banks_report (banks_with planned.plans starts) planned.orders until
 
+-- the states of each bank at an epoch, by the serial dynamics
+unfoldable pub banks_at : List Plan → List (ℕ → Sample) → ℕ → List (ℕ → Sample)
+banks_at [] starts e = []
+banks_at (plan ∷ plans) [] e = []
+banks_at (plan ∷ plans) (start ∷ starts) e = (λ b. serial plan (start b) e) ∷ banks_at plans starts e
+
+-- the one checkpoint of these states at the last epoch
 abbrev pub banks_bytes : PlannedBanks → List (ℕ → Sample) → ℕ → List ℕ
-banks_bytes planned starts until = banks_checkpoint (banks_with planned.plans starts) until
+banks_bytes planned starts until = banks_encoding planned.plans (banks_at planned.plans starts until)

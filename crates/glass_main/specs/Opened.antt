@@ -2,12 +2,13 @@
 use Rattle.std.specs.Prelude.{◌≡◌, ◌≢◌, ℕ, List, Option, Some, None, unwrap_or, Result}
 use Rattle.std.specs.Arc.{arc_value}
 use Rattle.spin_model.specs.Limits.{every_take}
+use Rattle.run_checkpoint.specs.Encoding.{AreBankStates}
 use Rattle.glass_engine.specs.Runs.{RunView}
 use Rattle.glass_engine.specs.declared.run.SaveKind.{SaveKind}
 use Rattle.glass_engine.specs.declared.run.SaveKind.TheVariants as saves
 use Rattle.plane_sweep.specs.Uneven.{positions_of}
 use Rattle.plane_sweep.specs.declared.uneven.RaggedStand.{RaggedStand}
-use Rattle.glass_main.specs.Beginnings.{Beginning, run_text, run_checkpoint, IsBaseOf}
+use Rattle.glass_main.specs.Beginnings.{Beginning, run_text, state_at, run_checkpoint, IsBaseOf}
 use Rattle.glass_main.specs.Stops.{ComesTo, stopped_text, stopped_checkpoint}
 use Rattle.glass_main.specs.Endings.{IsOfAmount}
 use Rattle.glass_main.specs.Request.{Work}
@@ -51,9 +52,9 @@ abbrev pub bytes_at : Option ℕ → Planned → Beginning → ℕ → RaggedSta
 bytes_at None planned from e came = run_checkpoint planned from e
 bytes_at (Some takes) planned from e came = stopped_checkpoint planned came
 
--- one that may stop comes to it
+-- one that may stop comes to it; the states of one to its last epoch fit
 abbrev pub Comes : Option ℕ → Planned → Beginning → ℕ → RaggedStand → Type 0
-Comes None planned from e came = Unit {0}
+Comes None planned from e came = AreBankStates planned.plan (λ b. state_at planned.plan from e b)
 Comes (Some takes) planned from e came = ComesTo planned from e takes came
 
 -- the ending of a run, of which this work is asked, that isn't opened: it is refused for its amount, or there was not enough memory

@@ -19,6 +19,7 @@ use Rattle.run_plan.specs.Amounts.{amount_refusal}
 use Rattle.run_plan.specs.declared.run_file.CouplingSource.{CouplingSource}
 use Rattle.run_plan.specs.declared.run_file.CouplingSource.TheVariants as sources
 use Rattle.run_plan.specs.PlanOf.{plan_with}
+use Rattle.run_checkpoint.specs.BankEncoding.{AreBanks}
 use Rattle.run_checkpoint.specs.Decoding.{decoded}
 use Rattle.run_checkpoint.specs.Lengths.{longest_checkpoint}
 use Rattle.run_checkpoint.specs.declared.refused.CheckpointRefused.{CheckpointRefused}
@@ -33,7 +34,7 @@ use Rattle.glass_main.specs.PottsRun.{potts_report}
 use Rattle.glass_main.specs.PottsWords.{PottsOrder}
 use Rattle.glass_main.specs.AgeRun.{age_text}
 use Rattle.glass_main.specs.Beginnings.{Beginning, opened_by, resumed_by, begins_at}
-use Rattle.glass_main.specs.ManyBanks.{PlannedBanks, bank_count, bank_plans, banks_opened_by, banks_resumed_by, starts_at, banks_amount_refusal, banks_text, banks_bytes}
+use Rattle.glass_main.specs.ManyBanks.{PlannedBanks, bank_count, bank_plans, banks_opened_by, banks_resumed_by, starts_at, banks_amount_refusal, banks_text, banks_at, banks_bytes}
 use Rattle.glass_main.specs.Stops.{RunGives}
 use Rattle.glass_main.specs.Texts.{plain_text, check_text, demo_text, saved_text}
 use Rattle.glass_main.specs.declared.planned.Planned.{Planned}
@@ -59,12 +60,14 @@ pub data Work : Type 0 where
   PottsWork : PottsOrder → Work
   AgeWork : Planned → ℕ → List ℕ → Work
 
--- what holds of the text that the work prints, and of the checkpoint that it saves where it is asked to
+-- what holds of the text that the work prints, and of the checkpoint that it saves where it is asked to; the states of a run's
+-- checkpoint fit, so that a run which goes on from it has them
 abbrev pub Gives : Work → (List ℕ → List ℕ → Type 0) → Type 0
 Gives (PlainWork order) P = P (plain_text order) []
 Gives (CheckWork plans) P = P (check_text plans) []
 Gives (RunWork planned from until stop_after) P = RunGives stop_after planned from until P
-Gives (BanksWork planned starts until) P = P (banks_text planned starts until) (banks_bytes planned starts until)
+Gives (BanksWork planned starts until) P =
+    AreBanks until planned.plans (banks_at planned.plans starts until) × P (banks_text planned starts until) (banks_bytes planned starts until)
 Gives (AverageWork averages) P = P (averages_text averages) []
 Gives (DemoWork n) P = P (demo_text n) []
 Gives (LinesWork saved) P = P (saved_text saved) []

@@ -1,12 +1,14 @@
 -- What holds of the checkpoints of states at one epoch, of 64 samples or of several banks of 64, from which runs go on.
-use Rattle.std.specs.Prelude.{◌≡◌, ℕ, ◌<◌, ◌≤◌, List, All, length, slice_index, Ok}
+use Rattle.std.specs.Prelude.{◌≡◌, ℕ, ◌<◌, ◌≤◌, List, [], ◌∷◌, All, length, slice_index, Ok}
 use Rattle.run_checkpoint.specs.BankEncoding.{banks_encoding, HaveOneShape, AreBanks}
 use Rattle.run_checkpoint.specs.Encoding.{encoding, AreBankStates}
 use Rattle.run_checkpoint.specs.Laws.{AreSameBanks}
+use Rattle.run_plan.specs.RunFile.{AreLawfulOrders}
 use Rattle.scalar_rule.specs.Plan.{Plan, IsLawfulPlan}
 use Rattle.scalar_rule.specs.declared.sample.Sample.{Sample}
-use Rattle.glass_main.specs.Beginnings.{Level, resumed_by}
+use Rattle.glass_main.specs.Beginnings.{Beginning, Level, resumed_by, state_at, run_checkpoint}
 use Rattle.glass_main.specs.ManyBanks.{PlannedBanks, banks_resumed_by}
+use Rattle.glass_main.specs.StopLaws.{IsBeginning, reached_by, AddUp}
 use Rattle.glass_main.specs.declared.planned.Planned.{Planned}
 
 -- ---- 64 samples
@@ -22,6 +24,18 @@ pub record IsReadAs (planned : Planned) (until : ℕ) (bytes : List ℕ) (states
 abbrev pub SavedRunsAreRead : Type 0
 SavedRunsAreRead = (planned : Planned) (until : ℕ) (states : ℕ → Sample) → IsLawfulPlan planned.plan → AreBankStates planned.plan states → (states 0).epoch ≤ until
     → IsReadAs planned until (encoding planned.plan states) states
+
+-- the next run goes on from what a run to epoch e saved: its report and that of the run before add up to that of one run, whose
+-- checkpoint is its own
+pub record GoesOnFrom (planned : Planned) (from : Beginning) (e until : ℕ) : Type 0 where
+  pub later : ℕ → Sample
+  pub read : resumed_by planned until (run_checkpoint planned from e) ≡ Ok (Level later)
+  pub adds_up : AddUp planned until from (Level later ∷ [])
+
+-- a run to an epoch, whose states there fit, and the next one
+abbrev pub SavedRunsGoOn : Type 0
+SavedRunsGoOn = (planned : Planned) (from : Beginning) (e until : ℕ) → IsLawfulPlan planned.plan → AreLawfulOrders planned.orders → IsBeginning planned from → reached_by from ≤ e → e ≤ until
+    → AreBankStates planned.plan (λ b. state_at planned.plan from e b) → GoesOnFrom planned from e until
 
 -- ---- several banks
 

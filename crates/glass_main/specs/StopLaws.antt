@@ -6,12 +6,10 @@ use Rattle.run_checkpoint.specs.Encoding.{encoding, AreBankStates}
 use Rattle.run_plan.specs.RunFile.{AreLawfulOrders}
 use Rattle.scalar_rule.specs.Plan.{Plan, IsLawfulPlan}
 use Rattle.scalar_rule.specs.Positions.{deepest_of}
-use Rattle.scalar_rule.specs.Ragged.{all_ready}
-use Rattle.scalar_rule.specs.Serial.{serial}
 use Rattle.scalar_rule.specs.declared.sample.Sample.{Sample}
 use Rattle.plane_sweep.specs.Uneven.{positions_of, uneven_part, RaggedStandFits}
 use Rattle.plane_sweep.specs.declared.uneven.RaggedStand.{RaggedStand}
-use Rattle.glass_main.specs.Beginnings.{Beginning, Level, Uneven, opened_by, begins_at, resumed_by, run_text, run_checkpoint}
+use Rattle.glass_main.specs.Beginnings.{Beginning, Level, Uneven, opened_by, begins_at, resumed_by, run_text, state_at, run_checkpoint}
 use Rattle.glass_main.specs.Stops.{Reaches, rows_to, spins_at, stopped_checkpoint}
 use Rattle.glass_main.specs.declared.planned.Planned.{Planned}
 
@@ -41,11 +39,6 @@ SavedStopsAreRead = (planned : Planned) (until : ℕ) (came : RaggedStand) → I
 abbrev pub IsBeginning : Planned → Beginning → Type 0
 IsBeginning planned from =
     (from ≡ opened_by planned) ⊎ ((until : ℕ) × (bytes : List ℕ) × ((i : ℕ) → slice_index bytes i < 256) × (resumed_by planned until bytes ≡ Ok from))
-
--- the state of sample b with every slot at rest at an epoch: from states at one epoch by the serial dynamics
-abbrev pub state_at : Plan → Beginning → ℕ → ℕ → Sample
-state_at plan (Level start) e b = serial plan (start b) e
-state_at plan (Uneven stand) e b = all_ready plan (uneven_part plan.size b stand) e
 
 -- the greatest number of epochs that a slot has completed
 abbrev pub reached_by : Beginning → ℕ

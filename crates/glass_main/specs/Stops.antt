@@ -10,9 +10,10 @@ use Rattle.scalar_rule.specs.Serial.{serial}
 use Rattle.scalar_rule.specs.declared.sample.Record.{Record}
 use Rattle.plane_sweep.specs.Uneven.{positions_of, uneven_part, RaggedStandFits}
 use Rattle.plane_sweep.specs.declared.uneven.RaggedStand.{RaggedStand}
+use Rattle.run_checkpoint.specs.Encoding.{AreBankStates}
 use Rattle.run_checkpoint.specs.UnevenEncoding.{uneven_encoding}
 use Rattle.glass_engine.specs.Report.{rows_in_order, uneven_measured, all_rest, all_spins}
-use Rattle.glass_main.specs.Beginnings.{Beginning, Level, Uneven, begins_at, run_text, run_checkpoint}
+use Rattle.glass_main.specs.Beginnings.{Beginning, Level, Uneven, begins_at, run_text, state_at, run_checkpoint}
 use Rattle.glass_main.specs.declared.planned.Planned.{Planned}
 
 -- ---- what a run starts from, slot by slot
@@ -79,9 +80,11 @@ abbrev pub stopped_checkpoint : Planned → RaggedStand → List ℕ
 stopped_checkpoint planned came =
     uneven_encoding planned.plan planned.orders.samples planned.orders.every (λ b. uneven_part planned.plan.size b came) came.pending
 
--- what holds of the text and the checkpoint of a run: of one to its last epoch both are known beforehand, of one that may stop
--- they are those of a state that it comes to
+-- what holds of the text and the checkpoint of a run: of one to its last epoch both are known beforehand, and the states at
+-- that epoch fit, so that a run which goes on from the checkpoint has them; of one that may stop they are those of a state that
+-- it comes to
 abbrev pub RunGives : Option ℕ → Planned → Beginning → ℕ → (List ℕ → List ℕ → Type 0) → Type 0
-RunGives None planned from until P = P (run_text planned from until) (run_checkpoint planned from until)
+RunGives None planned from until P =
+    AreBankStates planned.plan (λ b. state_at planned.plan from until b) × P (run_text planned from until) (run_checkpoint planned from until)
 RunGives (Some takes) planned from until P =
     (came : RaggedStand) × ComesTo planned from until takes came × P (stopped_text planned from until (positions_of came)) (stopped_checkpoint planned came)

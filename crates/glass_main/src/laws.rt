@@ -1,7 +1,7 @@
 //! What holds of the definitions: each law is the contract of a function with an empty body.
 
 ghost use Rattle.glass_main.specs.LawfulRuns.{EndedReportsAreLawful, RunReportsAreLawful};
-ghost use Rattle.glass_main.specs.ResumeLaws.{AcceptedBanksAreEncodings, SavedBanksAreRead, SavedRunsAreRead};
+ghost use Rattle.glass_main.specs.ResumeLaws.{AcceptedBanksAreEncodings, SavedBanksAreRead, SavedRunsAreRead, SavedRunsGoOn};
 ghost use Rattle.glass_main.specs.SampleLaws.{SamplesBelow64AreOfOneBank};
 ghost use Rattle.glass_main.specs.SavedLaws.{EncodedStatesAreRead, ReadStatesAreEncoded};
 ghost use Rattle.glass_main.specs.StopLaws.{AcceptedCheckpointsAreEncodings, SavedStopsAreRead, StoppedRunsAddUp};
@@ -31,6 +31,12 @@ pub fn saved_stops_are_read()
 /// goes on from as those states.
 pub fn saved_runs_are_read()
     ensures { SavedRunsAreRead }
+{}
+
+/// What a run saved at an epoch, whose states there fit, is what the next run goes on from, and the two
+/// add up to one run.
+pub fn saved_runs_go_on()
+    ensures { SavedRunsGoOn }
 {}
 
 /// The bytes of a checkpoint that a run of 2 to 4 banks goes on from are the encoding of what it goes on
