@@ -1,4 +1,5 @@
 # make            builds the program as ./glass, for this processor
+# make CPU=x86-64 builds it for each processor of the kind; others are x86-64-v2 and x86-64-v3
 # make run        builds it and runs the study of examples/ising_4
 # make install    puts the program, the tools and the manual page below PREFIX, which is /usr/local
 # make uninstall  takes them away from there
@@ -21,11 +22,12 @@ MODULES := $(wildcard tools/*.py)
 REFERENCE := $(wildcard tools/reference/*.py)
 PACKAGE := $(wildcard tools/glass_analysis/*.py)
 
-.PHONY: all run install uninstall clean
+.PHONY: all run install uninstall clean always
 all: glass
 
-glass: $(SOURCES) crates.txt tools/build
-	@tools/build
+# Where a processor is named the program is built anew, since the one that is there may be for another.
+glass: $(SOURCES) crates.txt tools/build $(if $(CPU),always)
+	@tools/build $(if $(CPU),--cpu $(CPU))
 
 run: glass
 	@examples/ising_4/study
