@@ -41,7 +41,7 @@ use Rattle.glass_main.proofs.StoppedRuns.{rows-same}
 -- ---- rows
 
 -- the rows between two epochs, and then those on to a third
-rows-split : (m : ℕ → ℕ → List Record) (samples every c k e : ℕ) → c ≤ k → k ≤ e
+pub rows-split : (m : ℕ → ℕ → List Record) (samples every c k e : ℕ) → c ≤ k → k ≤ e
     → rows_in_order m samples every c e ≡ rows_in_order m samples every c k ++ rows_in_order m samples every k e
 rows-split m samples every c k e first second =
     let F : ℕ → List ℕ = λ f. cond (is_recorded every f) (epoch_rows m samples f) [] in

@@ -15,6 +15,7 @@ pub mod OneBank
 pub mod AddingUp
 pub mod ReadStops
 pub mod ReadRuns
+pub mod BanksGoOn
 pub mod SavedStates
 pub mod SaidWords
 pub mod SaidOnce

@@ -1,5 +1,8 @@
 -- What holds of the checkpoints of states at one epoch, of 64 samples or of several banks of 64, from which runs go on.
-use Rattle.std.specs.Prelude.{◌≡◌, ℕ, ◌<◌, ◌≤◌, List, [], ◌∷◌, All, length, slice_index, Ok}
+use Rattle.std.specs.Prelude.{◌≡◌, ◌⊎◌, ℕ, ◌<◌, ◌≤◌, List, [], ◌∷◌, ◌++◌, All, length, slice_index, Ok}
+use Rattle.glass_engine.specs.BankLaws.{banks_with}
+use Rattle.glass_engine.specs.Banks.{banks_measured, banks_slots}
+use Rattle.glass_engine.specs.Report.{rows_in_order, all_spins}
 use Rattle.run_checkpoint.specs.BankEncoding.{banks_encoding, HaveOneShape, AreBanks}
 use Rattle.run_checkpoint.specs.Encoding.{encoding, AreBankStates}
 use Rattle.run_checkpoint.specs.Laws.{AreSameBanks}
@@ -7,7 +10,7 @@ use Rattle.run_plan.specs.RunFile.{AreLawfulOrders}
 use Rattle.scalar_rule.specs.Plan.{Plan, IsLawfulPlan}
 use Rattle.scalar_rule.specs.declared.sample.Sample.{Sample}
 use Rattle.glass_main.specs.Beginnings.{Beginning, Level, resumed_by, state_at, run_checkpoint}
-use Rattle.glass_main.specs.ManyBanks.{PlannedBanks, banks_resumed_by}
+use Rattle.glass_main.specs.ManyBanks.{PlannedBanks, banks_opened_by, banks_resumed_by, starts_at, banks_at, banks_bytes}
 use Rattle.glass_main.specs.StopLaws.{IsBeginning, reached_by, AddUp}
 use Rattle.glass_main.specs.declared.planned.Planned.{Planned}
 
@@ -70,3 +73,33 @@ pub record AreReadAs (planned : PlannedBanks) (until : ℕ) (bytes : List ℕ) (
 abbrev pub SavedBanksAreRead : Type 0
 SavedBanksAreRead = (planned : PlannedBanks) (epoch until : ℕ) (states : List (ℕ → Sample)) → AreBankPlans planned.plans → AreBanks epoch planned.plans states → epoch ≤ until
     → AreReadAs planned until (banks_encoding planned.plans states) states
+
+-- ---- runs of several banks that go on from one another
+
+-- what such a run can begin with: its opening states, or what the bytes of a checkpoint are
+abbrev pub AreBeginnings : PlannedBanks → List (ℕ → Sample) → Type 0
+AreBeginnings planned starts =
+    (starts ≡ banks_opened_by planned) ⊎ ((until : ℕ) × (bytes : List ℕ) × ((i : ℕ) → slice_index bytes i < 256) × (banks_resumed_by planned until bytes ≡ Ok starts))
+
+-- the rows that it prints of the epochs below e
+abbrev pub banks_rows : PlannedBanks → List (ℕ → Sample) → ℕ → List ℕ
+banks_rows planned starts e = rows_in_order (banks_measured (banks_with planned.plans starts)) planned.orders.samples planned.orders.every (starts_at starts) e
+
+-- the spins that it prints at epoch e, of so many slots and so great a lattice as a plan has
+abbrev pub banks_spins : Plan → PlannedBanks → List (ℕ → Sample) → ℕ → List ℕ
+banks_spins plan planned starts e = all_spins plan planned.orders.samples (banks_slots (banks_with planned.plans starts) e)
+
+-- the next run goes on from what a run to epoch e saved: the rows of both, one after the other, are those of one run, whose spins
+-- and checkpoint are those of the next
+pub record BanksGoOnFrom (planned : PlannedBanks) (starts : List (ℕ → Sample)) (e until : ℕ) : Type 0 where
+  pub later : List (ℕ → Sample)
+  pub read : banks_resumed_by planned until (banks_bytes planned starts e) ≡ Ok later
+  pub from : starts_at later ≡ e
+  pub rows : banks_rows planned starts until ≡ banks_rows planned starts e ++ banks_rows planned later until
+  pub spins : (plan : Plan) → banks_spins plan planned starts until ≡ banks_spins plan planned later until
+  pub checkpoint : banks_bytes planned starts until ≡ banks_bytes planned later until
+
+-- a run of several banks to an epoch, whose states there fit, and the next one
+abbrev pub SavedBanksGoOn : Type 0
+SavedBanksGoOn = (planned : PlannedBanks) (starts : List (ℕ → Sample)) (e until : ℕ) → AreBankPlans planned.plans → AreBeginnings planned starts → starts_at starts ≤ e → e ≤ until
+    → AreBanks e planned.plans (banks_at planned.plans starts e) → BanksGoOnFrom planned starts e until

@@ -1,7 +1,7 @@
 //! What holds of the definitions: each law is the contract of a function with an empty body.
 
 ghost use Rattle.glass_main.specs.LawfulRuns.{EndedReportsAreLawful, RunReportsAreLawful};
-ghost use Rattle.glass_main.specs.ResumeLaws.{AcceptedBanksAreEncodings, SavedBanksAreRead, SavedRunsAreRead, SavedRunsGoOn};
+ghost use Rattle.glass_main.specs.ResumeLaws.{AcceptedBanksAreEncodings, SavedBanksAreRead, SavedBanksGoOn, SavedRunsAreRead, SavedRunsGoOn};
 ghost use Rattle.glass_main.specs.SampleLaws.{SamplesBelow64AreOfOneBank};
 ghost use Rattle.glass_main.specs.SavedLaws.{EncodedStatesAreRead, ReadStatesAreEncoded};
 ghost use Rattle.glass_main.specs.StopLaws.{AcceptedCheckpointsAreEncodings, SavedStopsAreRead, StoppedRunsAddUp};
@@ -49,6 +49,12 @@ pub fn accepted_banks_are_encodings()
 /// goes on from as those states.
 pub fn saved_banks_are_read()
     ensures { SavedBanksAreRead }
+{}
+
+/// What a run of 2 to 4 banks saved at an epoch, whose states there fit, is what the next run goes on from,
+/// and the rows, the spins and the checkpoint of both are those of one run.
+pub fn saved_banks_go_on()
+    ensures { SavedBanksGoOn }
 {}
 
 /// Runs that stop and are gone on with add up, however often and wherever they were stopped: the rows of

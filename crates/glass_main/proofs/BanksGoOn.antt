@@ -1,0 +1,137 @@
+-- A run of several banks that goes on from what another one saved: both are one run.
+use Rattle.std.proofs.Common.{arith, ◌≡◌, ◌⊎◌, inl, inr, ℕ, zero, suc, ◌+◌, ◌-◌, ◌*◌, ◌<◌, ◌≤◌, List, [], ◌∷◌, ◌++◌, length, refl, sym, ap, ap₂, ◌∙◌, subst}
+use Rattle.std.proofs.lemmas.Bool.{cases_lt}
+use Rattle.glass_engine.specs.BankLaws.{banks_with}
+use Rattle.glass_engine.specs.Banks.{Bank, of_sample, banks_measured, banks_slots}
+use Rattle.glass_engine.specs.Report.{rows_in_order, all_spins}
+use Rattle.glass_engine.proofs.BankLaws.{of-first, of-next}
+use Rattle.glass_engine.proofs.Reporting.{spins-same}
+use Rattle.plane_sweep.specs.Packed.{part}
+use Rattle.run_checkpoint.specs.BankEncoding.{banks_header, banks_encoding, banks_bytes as encodings, AreBanks}
+use Rattle.run_checkpoint.specs.Encoding.{encoding, sealed}
+use Rattle.run_checkpoint.specs.Laws.{AreSameBanks}
+use Rattle.run_checkpoint.proofs.LevelClauses.{encoding-same}
+use Rattle.scalar_rule.specs.Epoch.{epoch_records}
+use Rattle.scalar_rule.specs.Plan.{Plan}
+use Rattle.scalar_rule.specs.Serial.{serial}
+use Rattle.scalar_rule.specs.declared.sample.Sample.{Sample}
+use Rattle.scalar_rule.specs.declared.sample.Start.{Start}
+use Rattle.scalar_rule.proofs.Resuming.{serial-serial, epoch-serial}
+use Rattle.glass_main.specs.ManyBanks.{PlannedBanks, openings_from, banks_opened_by, banks_resumed_by, starts_at, banks_at, banks_bytes}
+use Rattle.glass_main.specs.ResumeLaws.{AreBankPlans, AreBeginnings, banks_rows, banks_spins, BanksGoOnFrom}
+use Rattle.glass_main.proofs.AddingUp.{rows-split}
+use Rattle.glass_main.proofs.ReadRuns.{accepted-banks, saved-banks-read}
+use Rattle.glass_main.proofs.StoppedRuns.{rows-same}
+
+-- ---- states at one epoch
+
+-- those of the samples of each bank
+unfoldable AreAt : ℕ → List Plan → List (ℕ → Sample) → Type 0
+AreAt c [] [] = Unit {0}
+AreAt c (plan ∷ plans) (start ∷ starts) = ((b : ℕ) → b < 64 → (start b).epoch ≡ c) × AreAt c plans starts
+AreAt _ _ _ = ⊥
+
+opened-at : (g : ℕ) (plans : List Plan) (start : Start) → AreAt 0 plans (openings_from g plans start)
+unfolding AreAt openings_from
+opened-at g [] start = tt
+opened-at g (plan ∷ plans) start = ((λ b small. refl), opened-at (g + 1) plans start)
+
+banks-at : (c : ℕ) (plans : List Plan) (starts : List (ℕ → Sample)) → AreBanks c plans starts → AreAt c plans starts
+unfolding AreAt AreBanks part
+banks-at c [] [] are = tt
+banks-at c [] (start ∷ starts) are = absurd are
+banks-at c (plan ∷ plans) [] are = absurd are
+banks-at c (plan ∷ plans) (start ∷ starts) are =
+    let epoch : (b : ℕ) → b < 64 → are.0.stand.epoch ≡ (start b).epoch = λ b small. ap (λ (s : Sample). s.epoch) (are.0.stands b small) in
+    ((λ b small. sym (epoch b small) ∙ (epoch 0 (omega arith) ∙ are.1)), banks-at c plans starts are.2)
+
+-- a run begins at one epoch
+begin-at : (planned : PlannedBanks) (starts : List (ℕ → Sample)) → AreBankPlans planned.plans → AreBeginnings planned starts → (c : ℕ) × AreAt c planned.plans starts
+begin-at planned starts plans begin = elim begin [
+  | inl is ↦ (0, subst (AreAt 0 planned.plans) (sym is) (opened-at 0 planned.plans planned.orders.start))
+  | inr read ↦ let e = accepted-banks planned read.0 read.1 starts plans read.2 read.3 in (e.epoch, banks-at e.epoch planned.plans starts e.states_are)
+]
+
+first-at : (c : ℕ) (plans : List Plan) (starts : List (ℕ → Sample)) → 0 < length plans → AreAt c plans starts → starts_at starts ≡ c
+unfolding AreAt starts_at
+first-at c [] starts some at = absurd (omega arith)
+first-at c (plan ∷ plans) [] some at = absurd at
+first-at c (plan ∷ plans) (start ∷ starts) some at = at.0 0 (omega arith)
+
+-- ---- what goes on from epoch e
+
+module _ (c e : ℕ) (upto : c ≤ e) where
+  later-at : (plans : List Plan) (starts later : List (ℕ → Sample)) → AreAt c plans starts → AreSameBanks later (banks_at plans starts e) → AreAt e plans later
+  unfolding AreAt AreSameBanks banks_at
+  later-at [] [] [] at same = tt
+  later-at [] [] (l ∷ ls) at same = absurd same
+  later-at [] (s ∷ ss) later at same = absurd at
+  later-at (p ∷ ps) [] later at same = absurd at
+  later-at (p ∷ ps) (s ∷ ss) [] at same = absurd same
+  later-at (p ∷ ps) (s ∷ ss) (l ∷ ls) at same = (
+    (λ b small. ap (λ (x : Sample). x.epoch) (same.0 b small) ∙ epoch-serial p (s b) e (omega (arith, at.0 b small, upto))),
+    later-at ps ss ls at.1 same.1,
+  )
+
+  -- what is had of a sample's state at a later epoch is had from both
+  sample-later : {A : Type 0} (none : A) (give : Sample → Plan → A) (f : ℕ) → e ≤ f → (plans : List Plan) (starts later : List (ℕ → Sample)) (b : ℕ) → AreAt c plans starts → AreSameBanks later (banks_at plans starts e)
+      → of_sample none (λ x m. give (serial x.plan (x.start m) f) x.plan) (banks_with plans starts) b ≡ of_sample none (λ x m. give (serial x.plan (x.start m) f) x.plan) (banks_with plans later) b
+  unfolding of_sample banks_with AreAt AreSameBanks banks_at
+  sample-later none give f past [] starts later b at same = refl
+  sample-later none give f past (p ∷ ps) [] later b at same = absurd at
+  sample-later none give f past (p ∷ ps) (s ∷ ss) [] b at same = absurd same
+  sample-later none give f past (p ∷ ps) (s ∷ ss) (l ∷ ls) b at same =
+      let G : Bank → ℕ → _ = λ x m. give (serial x.plan (x.start m) f) x.plan in
+      let one : Bank = record { plan = p; start = s } in
+      let two : Bank = record { plan = p; start = l } in
+      elim (cases_lt b 64) [
+        | inl below ↦ of-first none G one (banks_with ps ss) b below
+            ∙ ap (λ x. give x p) (sym (ap (λ x. serial p x f) (same.0 b below) ∙ serial-serial p (s b) e f (omega (arith, at.0 b below, upto)) past))
+            ∙ sym (of-first none G two (banks_with ps ls) b below)
+        | inr over ↦ of-next none G one (banks_with ps ss) b over ∙ sample-later none give f past ps ss ls (b - 64) at.1 same.1
+            ∙ sym (of-next none G two (banks_with ps ls) b over)
+      ]
+
+  bytes-later : (f : ℕ) → e ≤ f → (plans : List Plan) (starts later : List (ℕ → Sample)) → AreAt c plans starts → AreSameBanks later (banks_at plans starts e)
+      → encodings plans (banks_at plans starts f) ≡ encodings plans (banks_at plans later f)
+  unfolding encodings AreAt AreSameBanks banks_at
+  bytes-later f past [] starts later at same = refl
+  bytes-later f past (p ∷ ps) [] later at same = absurd at
+  bytes-later f past (p ∷ ps) (s ∷ ss) [] at same = absurd same
+  bytes-later f past (p ∷ ps) (s ∷ ss) (l ∷ ls) at same =
+      ap₂ (λ u v. u ++ v)
+      (encoding-same p (λ b. serial p (s b) f) (λ b. serial p (l b) f)
+      (λ b below. sym (ap (λ x. serial p x f) (same.0 b below) ∙ serial-serial p (s b) e f (omega (arith, at.0 b below, upto)) past)))
+      (bytes-later f past ps ss ls at.1 same.1)
+
+-- ---- all together
+
+pub saved-banks-go-on : (planned : PlannedBanks) (starts : List (ℕ → Sample)) (e until : ℕ) → AreBankPlans planned.plans → AreBeginnings planned starts → starts_at starts ≤ e → e ≤ until
+    → AreBanks e planned.plans (banks_at planned.plans starts e) → BanksGoOnFrom planned starts e until
+unfolding banks_encoding
+saved-banks-go-on planned starts e until plans begin upto within fit =
+    let ps = planned.plans in
+    let o = planned.orders in
+    let some : 0 < length ps = omega (arith, plans.several) in
+    let begun = begin-at planned starts plans begin in
+    let c = begun.0 in
+    let at = begun.1 in
+    let first = first-at c ps starts some at in
+    let before : c ≤ e = omega (arith, upto, first) in
+    let r = saved-banks-read planned e until (banks_at ps starts e) plans fit within in
+    let later = r.starts in
+    let from = first-at e ps later some (later-at c e before ps starts later at r.same) in
+    let m = banks_measured (banks_with ps starts) in
+    let n = banks_measured (banks_with ps later) in
+    let rest : rows_in_order m o.samples o.every e until ≡ rows_in_order n o.samples o.every e until =
+    rows-same m n o.samples o.every e until (λ b f since on small. sample-later c e before [] (λ s p. epoch_records p s) f since ps starts later b at r.same) in
+    record {
+      later = later;
+      read = r.read;
+      from = from;
+      rows = rows-split m o.samples o.every (starts_at starts) e until upto within
+          ∙ ap (λ v. rows_in_order m o.samples o.every (starts_at starts) e ++ v) (rest ∙ ap (λ k. rows_in_order n o.samples o.every k until) (sym from));
+      spins = λ plan. spins-same plan o.samples (banks_slots (banks_with ps starts) until) (banks_slots (banks_with ps later) until)
+          (λ b small. sample-later c e before [] (λ s p. s.slots) until within ps starts later b at r.same);
+      checkpoint = ap (λ bytes. sealed (banks_header (length ps) ++ bytes)) (bytes-later c e before until within ps starts later at r.same);
+    }
