@@ -40,18 +40,21 @@ pub fn sweep_and_count(replica: &mut Replica, plan: &Plan, slot: u32) -> Planes<
         (spins_of plan.now.size b replica.new.planes) }
     ensures within { (b : ℕ) → b < 64 → number result.words b ≤ bond_count plan.now.size }
 {
-    sweep_replica(replica, plan, slot).total()
+    let mut tally = Tally::none();
+    sweep_replica(replica, plan, slot, &mut tally);
+    tally.total()
 }
 
-// The same, not yet in planes: the bonds of all sites of colour 1.
-fn sweep_replica(replica: &mut Replica, plan: &Plan, slot: u32) -> Tally
+// The same, not yet in planes: the bonds of all sites of colour 1, in a tally that had none, which isn't copied.
+fn sweep_replica(replica: &mut Replica, plan: &Plan, slot: u32, tally: &mut Tally)
     requires replica { FitsReplica plan.now.size replica.old }
     requires slot { slot < slots_of plan.now }
+    requires none { (b : ℕ) → b < 64 → tallied tally.old.rows b ≡ 0 }
     ensures swept { (b : ℕ) → b < 64 → part_copy plan.now.size b replica.new
         ≡ with_configuration (part_copy plan.now.size b replica.old)
         (model.sweep (dynamics_of plan.now b slot) (configuration_of (part_copy plan.now.size b replica.old))) }
     ensures fits { FitsReplica plan.now.size replica.new }
-    ensures counted { (b : ℕ) → b < 64 → tallied result.rows b
+    ensures counted { (b : ℕ) → b < 64 → tallied tally.new.rows b
         ≡ unsatisfied_from plan.now.size (bonds_of plan.now.couplings b)
         (spins_of plan.now.size b replica.new.planes) 1 (plan.now.size * half_plane plan.now.size) }
     ensures lawful { IsLawfulSize plan.now.size }
@@ -63,43 +66,51 @@ fn sweep_replica(replica: &mut Replica, plan: &Plan, slot: u32) -> Tally
         couplings: plan.couplings(),
         rule: &rule,
     };
-    sweep_colours(planes, &dynamics, size)
+    sweep_colours(planes, &dynamics, size, tally);
 }
 
 // The same, of a list of planes. The room for the draws is cleared in each sweep, so a small lattice
 // takes less of it.
-fn sweep_colours(planes: &mut [Plane], dynamics: &Dynamics, size: usize) -> Tally
+fn sweep_colours(planes: &mut [Plane], dynamics: &Dynamics, size: usize, tally: &mut Tally)
+    requires none { (b : ℕ) → b < 64 → tallied tally.old.rows b ≡ 0 }
     requires size { size ≡ dynamics.now.couplings.now.size }
     requires lawful { IsLawfulSize dynamics.now.couplings.now.size }
     requires count { length planes.old ≡ 2 * dynamics.now.couplings.now.size }
     requires planes { All (FitsPlane dynamics.now.couplings.now.size) planes.old }
     ensures swept { SweepsColours dynamics.now.couplings.now dynamics.now.rule.now planes.old planes.new }
-    ensures counted { (b : ℕ) → b < 64 → tallied result.rows b
+    ensures counted { (b : ℕ) → b < 64 → tallied tally.new.rows b
         ≡ unsatisfied_from dynamics.now.couplings.now.size (bonds_of dynamics.now.couplings.now b)
         (spins_of dynamics.now.couplings.now.size b planes.new) 1 (dynamics.now.couplings.now.size * half_plane dynamics.now.couplings.now.size) }
 {
     if is_small(size) {
-        sweep_both(planes, dynamics, &mut [0u32; SMALL_DRAWS], size)
+        sweep_both(planes, dynamics, &mut [0u32; SMALL_DRAWS], size, tally);
     } else {
-        sweep_both(planes, dynamics, &mut [0u32; PLANE_DRAWS], size)
+        sweep_both(planes, dynamics, &mut [0u32; PLANE_DRAWS], size, tally);
     }
 }
 
 // Colour 0, then colour 1.
-fn sweep_both(planes: &mut [Plane], dynamics: &Dynamics, draws: &mut [u32], size: usize) -> Tally
+fn sweep_both(
+    planes: &mut [Plane],
+    dynamics: &Dynamics,
+    draws: &mut [u32],
+    size: usize,
+    tally: &mut Tally,
+)
+    requires none { (b : ℕ) → b < 64 → tallied tally.old.rows b ≡ 0 }
     requires size { size ≡ dynamics.now.couplings.now.size }
     requires lawful { IsLawfulSize dynamics.now.couplings.now.size }
     requires room { half_plane dynamics.now.couplings.now.size ≤ length draws.old }
     requires count { length planes.old ≡ 2 * dynamics.now.couplings.now.size }
     requires planes { All (FitsPlane dynamics.now.couplings.now.size) planes.old }
     ensures swept { SweepsColours dynamics.now.couplings.now dynamics.now.rule.now planes.old planes.new }
-    ensures counted { (b : ℕ) → b < 64 → tallied result.rows b
+    ensures counted { (b : ℕ) → b < 64 → tallied tally.new.rows b
         ≡ unsatisfied_from dynamics.now.couplings.now.size (bonds_of dynamics.now.couplings.now b)
         (spins_of dynamics.now.couplings.now.size b planes.new) 1 (dynamics.now.couplings.now.size * half_plane dynamics.now.couplings.now.size) }
 {
     let (first, second) = planes.split_at_mut(size);
     sweep_first(first, second, dynamics, draws);
-    sweep_second(second, first, dynamics, draws)
+    sweep_second(second, first, dynamics, draws, tally);
 }
 
 // The planes of colour 0.
@@ -128,20 +139,20 @@ fn sweep_second(
     first: &[Plane],
     dynamics: &Dynamics,
     draws: &mut [u32],
-) -> Tally
+    tally: &mut Tally,
+)
+    requires none { (b : ℕ) → b < 64 → tallied tally.old.rows b ≡ 0 }
     requires lawful { IsLawfulSize dynamics.now.couplings.now.size }
     requires room { half_plane dynamics.now.couplings.now.size ≤ length draws.old }
     requires counts { (length second.old ≡ dynamics.now.couplings.now.size) × (length first.now ≡ dynamics.now.couplings.now.size) }
     requires seconds { All (FitsPlane dynamics.now.couplings.now.size) second.old }
     requires firsts { All (FitsPlane dynamics.now.couplings.now.size) first.now }
     ensures swept { Changed (SweepsPlane dynamics.now.couplings.now first.now dynamics.now.rule.now 1) dynamics.now.couplings.now.size second.old second.new }
-    ensures counted { (b : ℕ) → b < 64 → tallied result.rows b
+    ensures counted { (b : ℕ) → b < 64 → tallied tally.new.rows b
         ≡ planes_count dynamics.now.couplings.now first.now 1 second.new b dynamics.now.couplings.now.size }
 {
-    let mut tally = Tally::none();
     'planes: for z in 0..dynamics.couplings.size() {
         let plane = &mut second[z as usize];
         sweep_plane_counted(&mut tally.rows, plane, first, dynamics, draws, z);
     }
-    tally
 }

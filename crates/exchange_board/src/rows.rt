@@ -115,10 +115,20 @@ pub(crate) fn fill_page(
     ensures { is_wanted ≡ true → (b : ℕ) → b < 64 → record_at page.new b ≡ model.record_of plan.now b (part_slot plan.now.size b duo.now) }
 {
     if is_wanted {
-        let measured = measure(duo, sums, plan);
-        'samples: for b in 0..64u32 {
-            page[b as usize] = record_of(duo, &measured, plan, b);
-        }
+        make_page(page, duo, sums, plan);
+    }
+}
+
+// The same, where they are wanted. Out of line, since its room is cleared when it is called.
+#[inline(never)]
+fn make_page(page: &mut [Record; 64], duo: &Duo, sums: &Sums, plan: &Plan)
+    requires duo { FitsDuo plan.now.size duo.now }
+    requires sums { AreSums plan.now duo.now sums.now }
+    ensures { (b : ℕ) → b < 64 → record_at page.new b ≡ model.record_of plan.now b (part_slot plan.now.size b duo.now) }
+{
+    let measured = measure(duo, sums, plan);
+    'samples: for b in 0..64u32 {
+        page[b as usize] = record_of(duo, &measured, plan, b);
     }
 }
 

@@ -14,7 +14,7 @@ pub planes-init : goal.planes-init
 planes-init c = record {
   changed = changed-none _ c.args.second.now;
   fit = c.requires.seconds;
-  counted = λ b h. c.none-tally.ensures b ∙ sym (planes-none c.args.dynamics.now.couplings.now c.args.first.now 1 c.args.second.now b);
+  counted = λ b h. c.requires.none b h ∙ sym (planes-none c.args.dynamics.now.couplings.now c.args.first.now 1 c.args.second.now b);
 }
 
 pub sweep_plane_counted-requires-clause-room : goal.sweep_plane_counted-requires-clause-room

@@ -3,7 +3,7 @@ use Rattle.std.proofs.Common.{◌≡◌, ℕ, ◌<◌, length}
 use Rattle.scalar_rule.specs.Epoch.{record_of}
 use Rattle.plane_sweep.specs.Packed.{part_slot}
 use Rattle.exchange_board.specs.Content.{record_at}
-use Rattle.exchange_board.proofs.rows.fill_page.Given as goal
+use Rattle.exchange_board.proofs.rows.make_page.Given as goal
 
 abbrev pub invariant-samples : goal.invariant-samples
 invariant-samples l = record {
