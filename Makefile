@@ -1,5 +1,7 @@
 # make            builds the program as ./glass, for this processor
-# make CPU=x86-64 builds it for each processor of the kind; others are x86-64-v2 and x86-64-v3
+# make PROCESSOR=x86-64
+#                 builds it for each processor of the kind, make PROCESSOR=x86-64-v2 for nearly all of the last fifteen
+#                 years; make clean, then make, builds it for this one again
 # make run        builds it and runs the study of examples/ising_4
 # make install    puts the program, the tools and the manual page below PREFIX, which is /usr/local
 # make uninstall  takes them away from there
@@ -26,8 +28,8 @@ PACKAGE := $(wildcard tools/glass_analysis/*.py)
 all: glass
 
 # Where a processor is named the program is built anew, since the one that is there may be for another.
-glass: $(SOURCES) crates.txt tools/build $(if $(CPU),always)
-	@tools/build $(if $(CPU),--cpu $(CPU))
+glass: $(SOURCES) crates.txt tools/build $(if $(PROCESSOR),always)
+	@tools/build $(if $(PROCESSOR),--cpu $(PROCESSOR))
 
 run: glass
 	@examples/ising_4/study

@@ -16,7 +16,7 @@ once, with its part lost, at SIGTERM or a second Ctrl-C. Start it again, there o
 
 status  0 done (for `status`: all are) · 75 stopped, start again · 74 its time was too short for one part
         73 another driver has the folder · 70 the program died by a signal · 65 a part is damaged, and can't be
-        made again from a checkpoint · 2 to 11 those of `glass`, with its line (for a changed run file 3)
+        made again from a checkpoint · 2 to 11 and 127 those of `glass`, with its line (for a changed run file 3)
 """
 import sys
 

@@ -36,13 +36,13 @@ def banks_report(banks, samples, every, spins, e):
     return text
 
 
-def states_at(bank, e):
-    """The states of a bank at epoch e, each made once."""
-    return lru_cache(maxsize=None)(lambda b: serial(bank.plan, bank.start(b), e))
+def banks_states(banks, e):
+    """The states of each bank at epoch e, each made once."""
+    return [lru_cache(maxsize=None)(lambda b, bank=bank: serial(bank.plan, bank.start(b), e)) for bank in banks]
 
 
 def banks_checkpoint(banks, e):
-    return banks_encoding([bank.plan for bank in banks], [states_at(bank, e) for bank in banks])
+    return banks_encoding([bank.plan for bank in banks], banks_states(banks, e))
 
 
 banks_kind = b"GLASSCK3"

@@ -6,7 +6,7 @@ use Rattle.std.proofs.lemmas.Bool.Decides.{nat_tests}
 use Rattle.std.proofs.lemmas.List.{drop-drop}
 use Rattle.std.proofs.lemmas.List.Elements.{All-get_or}
 use Rattle.spin_model.proofs.Tables.{length-table}
-use Rattle.exchange_board.proofs.RowPlaces.{quotient-upto}
+use Rattle.scalar_rule.proofs.RecordedEpochs.{quotient-upto, recorded-more}
 use Rattle.run_plan.specs.declared.run_file.Orders.{Orders}
 use Rattle.scalar_rule.specs.Plan.{slots_of}
 use Rattle.scalar_rule.specs.Records.{is_recorded, records_at, in_order, measured_from}
@@ -19,7 +19,7 @@ use Rattle.glass_engine.specs.KeptBanks.{HaveSamples}
 use Rattle.glass_engine.specs.Runs.{DoneView}
 use Rattle.glass_engine.proofs.BankLaws.{of-first, of-next}
 use Rattle.spin_model.proofs.Joined.{window-first}
-use Rattle.glass_engine.proofs.Pieces.{records_if, count_if, count-front, drop-front, piece-records_at, recorded-more}
+use Rattle.glass_engine.proofs.Pieces.{records_if, count_if, count-front, drop-front, piece-records_at}
 
 -- ---- the bank of a sample, and its bit there
 

@@ -25,7 +25,7 @@ use Rattle.exchange_board.specs.Stops.{IsStop}
 use Rattle.exchange_board.specs.Views.{RaggedEndedView}
 use Rattle.exchange_board.proofs.Cells.{floor-deep}
 use Rattle.exchange_board.proofs.Origins.{place-short, done-reach}
-use Rattle.exchange_board.proofs.RowPlaces.{quotient-upto}
+use Rattle.scalar_rule.proofs.RecordedEpochs.{quotient-upto}
 use Rattle.exchange_board.proofs.Starting.{begun-at, begun-done}
 use Rattle.glass_engine.specs.Report.{uneven_report, rows_in_order, all_rest, all_spins, sample_spins}
 use Rattle.glass_engine.specs.RecordPieces.{measured, stopped_report, tail_of}

@@ -33,7 +33,7 @@ use Rattle.exchange_board.specs.Views.{Stage, RaggedEndedView}
 use Rattle.scalar_rule.proofs.LevelRuns.{all_ready-serial, level-records}
 use Rattle.exchange_board.proofs.Machines.{no-dead-end}
 use Rattle.exchange_board.proofs.Cells.{floor-deep}
-use Rattle.exchange_board.proofs.RowPlaces.{quotient-upto}
+use Rattle.scalar_rule.proofs.RecordedEpochs.{quotient-upto}
 use Rattle.exchange_board.proofs.Starting.{begun-ruled}
 use Rattle.glass_engine.specs.Laws.{stand_at, IsWhole, IsSerial}
 use Rattle.glass_engine.specs.Runs.{RunView, starts, IsEnd}

@@ -41,7 +41,10 @@ banks_report (bank ∷ banks) orders e =
     ++ end_line e
     ++ (if orders.spins then all_spins bank.plan orders.samples (banks_slots (bank ∷ banks) e) else [])
 
--- the states of all banks at epoch e, as a checkpoint
+-- the states of each bank at epoch e
+abbrev pub banks_states : List Bank → ℕ → List (ℕ → Sample)
+banks_states banks e = map (λ (bank : Bank) (b : ℕ). serial bank.plan (bank.start b) e) banks
+
+-- and as a checkpoint
 abbrev pub banks_checkpoint : List Bank → ℕ → List ℕ
-banks_checkpoint banks e =
-    banks_encoding (map (λ (bank : Bank). bank.plan) banks) (map (λ (bank : Bank) (b : ℕ). serial bank.plan (bank.start b) e) banks)
+banks_checkpoint banks e = banks_encoding (map (λ (bank : Bank). bank.plan) banks) (banks_states banks e)

@@ -70,9 +70,9 @@ opening-founded planned = record {
   pairs = λ b small. length-table _ (pairs_of planned.plan);
 }
 
-read-founded : (planned : Planned) (bytes : List ℕ) (from : Beginning) → IsEncodingOf planned bytes from → IsFounded planned.plan from
+read-founded : (planned : Planned) (until : ℕ) (bytes : List ℕ) (from : Beginning) → IsEncodingOf planned until bytes from → IsFounded planned.plan from
 unfolding part
-read-founded planned bytes (Level start) (are, is) =
+read-founded planned until bytes (Level start) (are, within, is) =
     let plan = planned.plan in
     let same = are.stands in
     let first : are.stand.epoch ≡ (start 0).epoch = ap (λ (s : Sample). s.epoch) (same 0 (omega arith)) in
@@ -82,11 +82,11 @@ read-founded planned bytes (Level start) (are, is) =
       slots = λ b small. ap (λ (s : Sample). length s.slots) (sym (same b small)) ∙ (length-map are.stand.slots (part_slot plan.size b) ∙ are.fits.slots);
       pairs = λ b small. ap (λ (s : Sample). length s.pairs) (sym (same b small)) ∙ (length-map are.stand.pairs part_pair ∙ are.fits.pairs);
     }
-read-founded planned bytes (Uneven stand) are = are.0.places
+read-founded planned until bytes (Uneven stand) are = are.0.places
 
 founded : (planned : Planned) (from : Beginning) → IsLawfulPlan planned.plan → AreLawfulOrders planned.orders → IsBeginning planned from → IsFounded planned.plan from
 founded planned from lawful orders (inl opened) = subst (IsFounded planned.plan) (sym opened) (opening-founded planned)
-founded planned from lawful orders (inr (until, bytes, are, is)) = read-founded planned bytes from (accepted planned until bytes from lawful orders are is)
+founded planned from lawful orders (inr (until, bytes, are, is)) = read-founded planned until bytes from (accepted planned until bytes from lawful orders are is)
 
 -- by the rule, slot by slot, from wherever a run begins
 rows-uneven : (plan : Plan) (samples every e : ℕ) (from : Beginning) → samples ≤ 64 → IsFounded plan from

@@ -1,5 +1,5 @@
 -- A run of several banks as it is opened, and what it prints and saves.
-use Rattle.std.proofs.Common.{arith, ◌≡◌, ◌≢◌, ℕ, ◌-◌, ◌*◌, ◌<◌, ◌≤◌, min, List, [], ◌∷◌, length, map, get_or, Option, Some, None, Result, Ok, Err, refl, sym, ap, ap₂, ◌∙◌, subst}
+use Rattle.std.proofs.Common.{arith, ◌≡◌, ◌≢◌, ℕ, ◌-◌, ◌*◌, ◌<◌, ◌≤◌, min, List, [], ◌∷◌, length, map, get_or, Option, Some, None, Result, Ok, Err, refl, sym, ap, ◌∙◌, subst}
 use Rattle.std.specs.Prelude.{All}
 use Rattle.std.proofs.lemmas.List.{length-map, get_or-map}
 use Rattle.std.proofs.lemmas.List.Elements.{All-nil, All-cons, All-head, All-tail}
@@ -148,15 +148,9 @@ with-plans (p ∷ ps) [] stands all = absurd all
 with-plans (p ∷ ps) (s ∷ ss) [] all = absurd all
 with-plans (p ∷ ps) (s ∷ ss) (x ∷ xs) all = ap (λ l. p ∷ l) (with-plans ps ss xs all.1)
 
-with-states : (plans : List Plan) (starts : List (ℕ → Sample)) (e : ℕ) → map {B = ℕ → Sample} (λ (x : Bank) (b : ℕ). serial x.plan (x.start b) e) (banks_with plans starts) ≡ banks_at plans starts e
-unfolding banks_with banks_at
-with-states [] starts e = refl
-with-states (p ∷ ps) [] e = refl
-with-states (p ∷ ps) (s ∷ ss) e = ap (λ l. (λ b. serial p (s b) e) ∷ l) (with-states ps ss e)
-
 saved-states : (plans : List Plan) (starts : List (ℕ → Sample)) (stands : List Stand) (e : ℕ) → BanksStand plans starts stands
     → banks_checkpoint (banks_with plans starts) e ≡ banks_encoding plans (banks_at plans starts e)
-saved-states plans starts stands e all = ap₂ banks_encoding (with-plans plans starts stands all) (with-states plans starts e)
+saved-states plans starts stands e all = ap (λ ps. banks_encoding ps (banks_at plans starts e)) (with-plans plans starts stands all)
 
 -- the first of a list, and the rest
 unfoldable first-or : {X : Type 0} → X → List X → X
@@ -191,7 +185,7 @@ bank-ends plan stand start orders until kind d fits stands end =
 all-end : (epoch : ℕ) (plans : List Plan) (stands : List Stand) (starts : List (ℕ → Sample)) (orders : Orders) (until : ℕ) (kind : SaveKind) (dones : List DoneView) → BanksFit epoch plans stands
     → BanksStand plans starts stands → runs_of dones ≡ bank_runs plans stands orders until kind → All (λ (d : DoneView). IsEnd d.run d.ended) dones
     → AreBanks until plans (banks_at plans starts until)
-unfolding BanksFit BanksStand bank_runs AreBanks banks_at first-or rest-of
+unfolding BanksFit BanksStand bank_runs AreBanks banks_with first-or rest-of
 all-end epoch [] [] [] orders until kind dones fit stand are ends = tt
 all-end epoch [] [] (s ∷ ss) orders until kind dones fit stand are ends = absurd stand
 all-end epoch [] (x ∷ xs) starts orders until kind dones fit stand are ends = absurd fit

@@ -1,26 +1,28 @@
 -- A run of several banks that goes on from what another one saved: both are one run.
-use Rattle.std.proofs.Common.{arith, ◌≡◌, ◌⊎◌, inl, inr, ℕ, zero, suc, ◌+◌, ◌-◌, ◌*◌, ◌<◌, ◌≤◌, List, [], ◌∷◌, ◌++◌, length, refl, sym, ap, ap₂, ◌∙◌, subst}
+use Rattle.std.proofs.Common.{arith, ◌≡◌, ◌⊎◌, inl, inr, ℕ, zero, suc, ◌+◌, ◌-◌, ◌*◌, ◌<◌, ◌≤◌, cond, List, [], ◌∷◌, ◌++◌, length, refl, sym, ap, ap₂, ◌∙◌, subst}
 use Rattle.std.proofs.lemmas.Bool.{cases_lt}
 use Rattle.glass_engine.specs.BankLaws.{banks_with}
-use Rattle.glass_engine.specs.Banks.{Bank, of_sample, banks_measured, banks_slots}
+use Rattle.glass_engine.specs.Banks.{Bank, of_sample, banks_measured, banks_slots, banks_report}
 use Rattle.glass_engine.specs.Report.{rows_in_order, all_spins}
 use Rattle.glass_engine.proofs.BankLaws.{of-first, of-next}
 use Rattle.glass_engine.proofs.Reporting.{spins-same}
 use Rattle.plane_sweep.specs.Packed.{part}
+use Rattle.report_text.specs.Lines.{header_line, end_line}
 use Rattle.run_checkpoint.specs.BankEncoding.{banks_header, banks_encoding, banks_bytes as encodings, AreBanks}
-use Rattle.run_checkpoint.specs.Encoding.{encoding, sealed}
+use Rattle.run_checkpoint.specs.Encoding.{sealed}
 use Rattle.run_checkpoint.specs.Laws.{AreSameBanks}
 use Rattle.run_checkpoint.proofs.LevelClauses.{encoding-same}
+use Rattle.run_plan.specs.declared.run_file.Orders.{Orders}
 use Rattle.scalar_rule.specs.Epoch.{epoch_records}
 use Rattle.scalar_rule.specs.Plan.{Plan}
 use Rattle.scalar_rule.specs.Serial.{serial}
 use Rattle.scalar_rule.specs.declared.sample.Sample.{Sample}
 use Rattle.scalar_rule.specs.declared.sample.Start.{Start}
 use Rattle.scalar_rule.proofs.Resuming.{serial-serial, epoch-serial}
-use Rattle.glass_main.specs.ManyBanks.{PlannedBanks, openings_from, banks_opened_by, banks_resumed_by, starts_at, banks_at, banks_bytes}
+use Rattle.glass_main.specs.ManyBanks.{PlannedBanks, openings_from, starts_at, banks_at}
 use Rattle.glass_main.specs.ResumeLaws.{AreBankPlans, AreBeginnings, banks_rows, banks_spins, BanksGoOnFrom}
 use Rattle.glass_main.proofs.AddingUp.{rows-split}
-use Rattle.glass_main.proofs.ReadRuns.{accepted-banks, saved-banks-read}
+use Rattle.glass_main.proofs.ReadRuns.{saved-banks-read}
 use Rattle.glass_main.proofs.StoppedRuns.{rows-same}
 
 -- ---- states at one epoch
@@ -46,10 +48,10 @@ banks-at c (plan ∷ plans) (start ∷ starts) are =
     ((λ b small. sym (epoch b small) ∙ (epoch 0 (omega arith) ∙ are.1)), banks-at c plans starts are.2)
 
 -- a run begins at one epoch
-begin-at : (planned : PlannedBanks) (starts : List (ℕ → Sample)) → AreBankPlans planned.plans → AreBeginnings planned starts → (c : ℕ) × AreAt c planned.plans starts
-begin-at planned starts plans begin = elim begin [
+begin-at : (planned : PlannedBanks) (starts : List (ℕ → Sample)) → AreBeginnings planned starts → (c : ℕ) × AreAt c planned.plans starts
+begin-at planned starts begin = elim begin [
   | inl is ↦ (0, subst (AreAt 0 planned.plans) (sym is) (opened-at 0 planned.plans planned.orders.start))
-  | inr read ↦ let e = accepted-banks planned read.0 read.1 starts plans read.2 read.3 in (e.epoch, banks-at e.epoch planned.plans starts e.states_are)
+  | inr held ↦ (held.0, banks-at held.0 planned.plans starts held.1)
 ]
 
 first-at : (c : ℕ) (plans : List Plan) (starts : List (ℕ → Sample)) → 0 < length plans → AreAt c plans starts → starts_at starts ≡ c
@@ -58,11 +60,16 @@ first-at c [] starts some at = absurd (omega arith)
 first-at c (plan ∷ plans) [] some at = absurd at
 first-at c (plan ∷ plans) (start ∷ starts) some at = at.0 0 (omega arith)
 
+-- the first of a list of plans
+unfoldable plan-or : Plan → List Plan → Plan
+plan-or none [] = none
+plan-or none (plan ∷ plans) = plan
+
 -- ---- what goes on from epoch e
 
 module _ (c e : ℕ) (upto : c ≤ e) where
   later-at : (plans : List Plan) (starts later : List (ℕ → Sample)) → AreAt c plans starts → AreSameBanks later (banks_at plans starts e) → AreAt e plans later
-  unfolding AreAt AreSameBanks banks_at
+  unfolding AreAt AreSameBanks banks_with
   later-at [] [] [] at same = tt
   later-at [] [] (l ∷ ls) at same = absurd same
   later-at [] (s ∷ ss) later at same = absurd at
@@ -76,7 +83,7 @@ module _ (c e : ℕ) (upto : c ≤ e) where
   -- what is had of a sample's state at a later epoch is had from both
   sample-later : {A : Type 0} (none : A) (give : Sample → Plan → A) (f : ℕ) → e ≤ f → (plans : List Plan) (starts later : List (ℕ → Sample)) (b : ℕ) → AreAt c plans starts → AreSameBanks later (banks_at plans starts e)
       → of_sample none (λ x m. give (serial x.plan (x.start m) f) x.plan) (banks_with plans starts) b ≡ of_sample none (λ x m. give (serial x.plan (x.start m) f) x.plan) (banks_with plans later) b
-  unfolding of_sample banks_with AreAt AreSameBanks banks_at
+  unfolding of_sample banks_with AreAt AreSameBanks
   sample-later none give f past [] starts later b at same = refl
   sample-later none give f past (p ∷ ps) [] later b at same = absurd at
   sample-later none give f past (p ∷ ps) (s ∷ ss) [] b at same = absurd same
@@ -94,7 +101,7 @@ module _ (c e : ℕ) (upto : c ≤ e) where
 
   bytes-later : (f : ℕ) → e ≤ f → (plans : List Plan) (starts later : List (ℕ → Sample)) → AreAt c plans starts → AreSameBanks later (banks_at plans starts e)
       → encodings plans (banks_at plans starts f) ≡ encodings plans (banks_at plans later f)
-  unfolding encodings AreAt AreSameBanks banks_at
+  unfolding encodings AreAt AreSameBanks banks_with
   bytes-later f past [] starts later at same = refl
   bytes-later f past (p ∷ ps) [] later at same = absurd at
   bytes-later f past (p ∷ ps) (s ∷ ss) [] at same = absurd same
@@ -104,7 +111,37 @@ module _ (c e : ℕ) (upto : c ≤ e) where
       (λ b below. sym (ap (λ x. serial p x f) (same.0 b below) ∙ serial-serial p (s b) e f (omega (arith, at.0 b below, upto)) past)))
       (bytes-later f past ps ss ls at.1 same.1)
 
+-- states that agree with states that fit do so too
+banks-agree : (epoch : ℕ) (plans : List Plan) (states others : List (ℕ → Sample)) → AreBanks epoch plans states → AreSameBanks others states → AreBanks epoch plans others
+unfolding AreBanks AreSameBanks
+banks-agree epoch [] [] [] are same = tt
+banks-agree epoch [] [] (o ∷ os) are same = absurd same
+banks-agree epoch [] (s ∷ ss) others are same = absurd are
+banks-agree epoch (p ∷ ps) [] others are same = absurd are
+banks-agree epoch (p ∷ ps) (s ∷ ss) [] are same = absurd same
+banks-agree epoch (p ∷ ps) (s ∷ ss) (o ∷ os) are same = (
+  record { stand = are.0.stand; fits = are.0.fits; stands = λ b small. are.0.stands b small ∙ sym (same.0 b small) },
+  ap (λ (x : Sample). x.epoch) (same.0 0 (omega arith)) ∙ are.1,
+  banks-agree epoch ps ss os are.2 same.1,
+)
+
 -- ---- all together
+
+-- the report in its parts
+text-parts : (o : Orders) (until c : ℕ) (plan : Plan) (more plans : List Plan) (starts : List (ℕ → Sample)) → plans ≡ plan ∷ more → AreAt c plans starts
+    → banks_report (banks_with plans starts) o until
+    ≡ header_line plan o.samples (starts_at starts) until
+    ++ rows_in_order (banks_measured (banks_with plans starts)) o.samples o.every (starts_at starts) until
+    ++ end_line until
+    ++ cond o.spins (all_spins plan o.samples (banks_slots (banks_with plans starts) until)) []
+unfolding banks_report banks_with starts_at AreAt plan-or
+text-parts o until c plan more [] starts is at = absurd (omega (arith, ap length is))
+text-parts o until c plan more (p ∷ ps) [] is at = absurd at
+text-parts o until c plan more (p ∷ ps) (s ∷ ss) is at =
+    let first : p ≡ plan = ap (plan-or plan) is in
+    let bs = banks_with (p ∷ ps) (s ∷ ss) in
+    let rows = rows_in_order (banks_measured bs) o.samples o.every (s 0).epoch until in
+    ap (λ x. header_line x o.samples (s 0).epoch until ++ rows ++ end_line until ++ cond o.spins (all_spins x o.samples (banks_slots bs until)) []) first
 
 pub saved-banks-go-on : (planned : PlannedBanks) (starts : List (ℕ → Sample)) (e until : ℕ) → AreBankPlans planned.plans → AreBeginnings planned starts → starts_at starts ≤ e → e ≤ until
     → AreBanks e planned.plans (banks_at planned.plans starts e) → BanksGoOnFrom planned starts e until
@@ -113,7 +150,7 @@ saved-banks-go-on planned starts e until plans begin upto within fit =
     let ps = planned.plans in
     let o = planned.orders in
     let some : 0 < length ps = omega (arith, plans.several) in
-    let begun = begin-at planned starts plans begin in
+    let begun = begin-at planned starts begin in
     let c = begun.0 in
     let at = begun.1 in
     let first = first-at c ps starts some at in
@@ -125,13 +162,18 @@ saved-banks-go-on planned starts e until plans begin upto within fit =
     let n = banks_measured (banks_with ps later) in
     let rest : rows_in_order m o.samples o.every e until ≡ rows_in_order n o.samples o.every e until =
     rows-same m n o.samples o.every e until (λ b f since on small. sample-later c e before [] (λ s p. epoch_records p s) f since ps starts later b at r.same) in
+    let rows : banks_rows planned starts until ≡ banks_rows planned starts e ++ banks_rows planned later until =
+    rows-split m o.samples o.every (starts_at starts) e until upto within
+    ∙ ap (λ v. rows_in_order m o.samples o.every (starts_at starts) e ++ v) (rest ∙ ap (λ k. rows_in_order n o.samples o.every k until) (sym from)) in
+    let spins : (plan : Plan) → banks_spins plan planned starts until ≡ banks_spins plan planned later until =
+    λ plan. ap (λ z. cond o.spins z []) (spins-same plan o.samples (banks_slots (banks_with ps starts) until) (banks_slots (banks_with ps later) until)
+    (λ b small. sample-later c e before [] (λ s p. s.slots) until within ps starts later b at r.same)) in
     record {
       later = later;
       read = r.read;
-      from = from;
-      rows = rows-split m o.samples o.every (starts_at starts) e until upto within
-          ∙ ap (λ v. rows_in_order m o.samples o.every (starts_at starts) e ++ v) (rest ∙ ap (λ k. rows_in_order n o.samples o.every k until) (sym from));
-      spins = λ plan. spins-same plan o.samples (banks_slots (banks_with ps starts) until) (banks_slots (banks_with ps later) until)
-          (λ b small. sample-later c e before [] (λ s p. s.slots) until within ps starts later b at r.same);
+      fit = banks-agree e ps (banks_at ps starts e) later fit r.same;
+      same = r.same;
+      report = λ plan more is. text-parts o until c plan more ps starts is at
+          ∙ ap₂ (λ u v. header_line plan o.samples (starts_at starts) until ++ u ++ end_line until ++ v) rows (spins plan);
       checkpoint = ap (λ bytes. sealed (banks_header (length ps) ++ bytes)) (bytes-later c e before until within ps starts later at r.same);
     }

@@ -71,6 +71,8 @@ saved-run-goes-on planned from e until lawful orders begins upto within fit =
     record {
       later = r.start;
       read = r.read;
+      at = first;
+      same = r.same;
       adds_up = add-up planned until from (Level r.start ∷ []) lawful orders begins (omega (arith, upto, within)) ((since, same), late, tt);
     }
 

@@ -48,15 +48,16 @@ level-other plan until bytes stand lawful encoded =
 by-kind : (planned : Planned) (until : ℕ) (bytes : List ℕ) (kind : Bool) → is_uneven bytes ≡ kind → IsLawfulPlan planned.plan → IsBytes bytes
     → None ≡ cond kind (uneven_refusal planned.plan planned.orders.samples planned.orders.every until bytes) (level_refusal planned.plan until bytes)
     → IsAnyEncoded planned.plan planned.orders.samples planned.orders.every until bytes (cond kind (uneven_in planned.plan bytes) (level_stand (stand_in planned.plan bytes)))
-    → IsEncodingOf planned bytes (cond kind (Uneven (uneven_in planned.plan bytes)) (Level (λ b. part planned.plan.size b (stand_in planned.plan bytes))))
+    → IsEncodingOf planned until bytes (cond kind (Uneven (uneven_in planned.plan bytes)) (Level (λ b. part planned.plan.size b (stand_in planned.plan bytes))))
+unfolding part
 by-kind planned until bytes true kind lawful are none (inl level) = absurd (true≢false (sym kind ∙ level-other planned.plan until bytes level.stand lawful level.encoded))
-by-kind planned until bytes true kind lawful are none (inr uneven) = (uneven.fits, uneven.bytes_are)
+by-kind planned until bytes true kind lawful are none (inr uneven) = (uneven.fits, uneven.in_time, uneven.bytes_are)
 by-kind planned until bytes false kind lawful are none any =
     let e = none-is planned.plan until bytes lawful are none in
-    (record { stand = stand_in planned.plan bytes; fits = e.fits; stands = λ b small. refl }, e.bytes_are)
+    (record { stand = stand_in planned.plan bytes; fits = e.fits; stands = λ b small. refl }, e.in_time, e.bytes_are)
 
 pub accepted : (planned : Planned) (until : ℕ) (bytes : List ℕ) (from : Beginning) → IsLawfulPlan planned.plan → AreLawfulOrders planned.orders → IsBytes bytes
-    → resumed_by planned until bytes ≡ Ok from → IsEncodingOf planned bytes from
+    → resumed_by planned until bytes ≡ Ok from → IsEncodingOf planned until bytes from
 unfolding resumed_by any_decoded any_refusal any_in
 accepted planned until bytes from lawful orders are is =
     let plan = planned.plan in
@@ -66,7 +67,7 @@ accepted planned until bytes from lawful orders are is =
     let read : any_decoded plan o.samples o.every until bytes ≡ Ok (any_in plan bytes) = ap (λ r. unless r (any_in plan bytes)) (sym h.0) in
     let found : IsAnyEncoded plan o.samples o.every until bytes (any_in plan bytes) =
     any-found plan o.samples o.every until bytes (Ok (any_in plan bytes)) lawful orders.some_samples orders.few_samples orders.some_every are read in
-    subst (IsEncodingOf planned bytes) h.1 (by-kind planned until bytes (is_uneven bytes) refl lawful are none.1 found)
+    subst (IsEncodingOf planned until bytes) h.1 (by-kind planned until bytes (is_uneven bytes) refl lawful are none.1 found)
 
 -- ---- what is saved is read
 

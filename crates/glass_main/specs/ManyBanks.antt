@@ -5,7 +5,7 @@ use Rattle.coupling_set.specs.BondsAsWords.{couplings_with, bank_of}
 use Rattle.coupling_set.specs.CouplingWords.{CouplingsView}
 use Rattle.glass_edges.specs.Refusals.{unless}
 use Rattle.glass_engine.specs.BankLaws.{banks_with}
-use Rattle.glass_engine.specs.Banks.{banks_report}
+use Rattle.glass_engine.specs.Banks.{banks_report, banks_states}
 use Rattle.run_checkpoint.specs.BankDecoding.{banks_refusal, banks_in}
 use Rattle.run_checkpoint.specs.BankEncoding.{bank_len, banks_parts, banks_encoding}
 use Rattle.run_checkpoint.specs.declared.refused.CheckpointRefused.{CheckpointRefused}
@@ -15,7 +15,6 @@ use Rattle.run_plan.specs.declared.run_file.Orders.{Orders}
 use Rattle.plane_sweep.specs.declared.stand.Stand.{Stand}
 use Rattle.scalar_rule.specs.Opening.{opening}
 use Rattle.scalar_rule.specs.Plan.{Plan}
-use Rattle.scalar_rule.specs.Serial.{serial}
 use Rattle.scalar_rule.specs.declared.sample.Sample.{Sample}
 use Rattle.scalar_rule.specs.declared.sample.Start.{Start}
 use Rattle.spin_model.specs.Couplings.{Bonds}
@@ -72,11 +71,9 @@ banks_amount_refusal (plan ∷ plans) orders from until = amount_refusal plan or
 abbrev pub banks_text : PlannedBanks → List (ℕ → Sample) → ℕ → List ℕ
 banks_text planned starts until = banks_report (banks_with planned.plans starts) planned.orders until
 
--- the states of each bank at an epoch, by the serial dynamics
-unfoldable pub banks_at : List Plan → List (ℕ → Sample) → ℕ → List (ℕ → Sample)
-banks_at [] starts e = []
-banks_at (plan ∷ plans) [] e = []
-banks_at (plan ∷ plans) (start ∷ starts) e = (λ b. serial plan (start b) e) ∷ banks_at plans starts e
+-- the states of each bank at an epoch, by the same dynamics
+abbrev pub banks_at : List Plan → List (ℕ → Sample) → ℕ → List (ℕ → Sample)
+banks_at plans starts e = banks_states (banks_with plans starts) e
 
 -- the one checkpoint of these states at the last epoch
 abbrev pub banks_bytes : PlannedBanks → List (ℕ → Sample) → ℕ → List ℕ

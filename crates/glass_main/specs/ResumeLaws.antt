@@ -1,8 +1,9 @@
 -- What holds of the checkpoints of states at one epoch, of 64 samples or of several banks of 64, from which runs go on.
-use Rattle.std.specs.Prelude.{◌≡◌, ◌⊎◌, ℕ, ◌<◌, ◌≤◌, List, [], ◌∷◌, ◌++◌, All, length, slice_index, Ok}
+use Rattle.std.specs.Prelude.{◌≡◌, ◌⊎◌, ℕ, ◌<◌, ◌≤◌, List, [], ◌∷◌, ◌++◌, if◌then◌else◌, All, length, slice_index, Ok}
 use Rattle.glass_engine.specs.BankLaws.{banks_with}
 use Rattle.glass_engine.specs.Banks.{banks_measured, banks_slots}
 use Rattle.glass_engine.specs.Report.{rows_in_order, all_spins}
+use Rattle.report_text.specs.Lines.{header_line, end_line}
 use Rattle.run_checkpoint.specs.BankEncoding.{banks_encoding, HaveOneShape, AreBanks}
 use Rattle.run_checkpoint.specs.Encoding.{encoding, AreBankStates}
 use Rattle.run_checkpoint.specs.Laws.{AreSameBanks}
@@ -10,7 +11,7 @@ use Rattle.run_plan.specs.RunFile.{AreLawfulOrders}
 use Rattle.scalar_rule.specs.Plan.{Plan, IsLawfulPlan}
 use Rattle.scalar_rule.specs.declared.sample.Sample.{Sample}
 use Rattle.glass_main.specs.Beginnings.{Beginning, Level, resumed_by, state_at, run_checkpoint}
-use Rattle.glass_main.specs.ManyBanks.{PlannedBanks, banks_opened_by, banks_resumed_by, starts_at, banks_at, banks_bytes}
+use Rattle.glass_main.specs.ManyBanks.{PlannedBanks, banks_opened_by, banks_resumed_by, starts_at, banks_text, banks_at, banks_bytes}
 use Rattle.glass_main.specs.StopLaws.{IsBeginning, reached_by, AddUp}
 use Rattle.glass_main.specs.declared.planned.Planned.{Planned}
 
@@ -28,11 +29,13 @@ abbrev pub SavedRunsAreRead : Type 0
 SavedRunsAreRead = (planned : Planned) (until : ℕ) (states : ℕ → Sample) → IsLawfulPlan planned.plan → AreBankStates planned.plan states → (states 0).epoch ≤ until
     → IsReadAs planned until (encoding planned.plan states) states
 
--- the next run goes on from what a run to epoch e saved: its report and that of the run before add up to that of one run, whose
--- checkpoint is its own
+-- the next run goes on from what a run to epoch e saved, the states there; its report and that of the run before add up to that
+-- of one run, whose checkpoint is the next run's
 pub record GoesOnFrom (planned : Planned) (from : Beginning) (e until : ℕ) : Type 0 where
   pub later : ℕ → Sample
   pub read : resumed_by planned until (run_checkpoint planned from e) ≡ Ok (Level later)
+  pub at : (later 0).epoch ≡ e
+  pub same : (b : ℕ) → b < 64 → later b ≡ state_at planned.plan from e b
   pub adds_up : AddUp planned until from (Level later ∷ [])
 
 -- a run to an epoch, whose states there fit, and the next one
@@ -76,27 +79,31 @@ SavedBanksAreRead = (planned : PlannedBanks) (epoch until : ℕ) (states : List 
 
 -- ---- runs of several banks that go on from one another
 
--- what such a run can begin with: its opening states, or what the bytes of a checkpoint are
+-- what such a run can begin with: its opening states, or states at one epoch that fit, as those are that a checkpoint holds
 abbrev pub AreBeginnings : PlannedBanks → List (ℕ → Sample) → Type 0
-AreBeginnings planned starts =
-    (starts ≡ banks_opened_by planned) ⊎ ((until : ℕ) × (bytes : List ℕ) × ((i : ℕ) → slice_index bytes i < 256) × (banks_resumed_by planned until bytes ≡ Ok starts))
+AreBeginnings planned starts = (starts ≡ banks_opened_by planned) ⊎ ((c : ℕ) × AreBanks c planned.plans starts)
 
 -- the rows that it prints of the epochs below e
 abbrev pub banks_rows : PlannedBanks → List (ℕ → Sample) → ℕ → List ℕ
 banks_rows planned starts e = rows_in_order (banks_measured (banks_with planned.plans starts)) planned.orders.samples planned.orders.every (starts_at starts) e
 
--- the spins that it prints at epoch e, of so many slots and so great a lattice as a plan has
+-- the spins that it prints at epoch e, where they are ordered, of so many slots and so great a lattice as a plan has
 abbrev pub banks_spins : Plan → PlannedBanks → List (ℕ → Sample) → ℕ → List ℕ
-banks_spins plan planned starts e = all_spins plan planned.orders.samples (banks_slots (banks_with planned.plans starts) e)
+banks_spins plan planned starts e =
+    if planned.orders.spins then all_spins plan planned.orders.samples (banks_slots (banks_with planned.plans starts) e) else []
 
--- the next run goes on from what a run to epoch e saved: the rows of both, one after the other, are those of one run, whose spins
--- and checkpoint are those of the next
+-- the next run goes on from what a run to epoch e saved, the states there, which fit; the report of one run is: its header, the
+-- rows of both, one after the other, and the end and the spins of the next; and its checkpoint is the next run's
 pub record BanksGoOnFrom (planned : PlannedBanks) (starts : List (ℕ → Sample)) (e until : ℕ) : Type 0 where
   pub later : List (ℕ → Sample)
   pub read : banks_resumed_by planned until (banks_bytes planned starts e) ≡ Ok later
-  pub from : starts_at later ≡ e
-  pub rows : banks_rows planned starts until ≡ banks_rows planned starts e ++ banks_rows planned later until
-  pub spins : (plan : Plan) → banks_spins plan planned starts until ≡ banks_spins plan planned later until
+  pub fit : AreBanks e planned.plans later
+  pub same : AreSameBanks later (banks_at planned.plans starts e)
+  pub report : (plan : Plan) (more : List Plan) → planned.plans ≡ plan ∷ more → banks_text planned starts until
+      ≡ header_line plan planned.orders.samples (starts_at starts) until
+      ++ (banks_rows planned starts e ++ banks_rows planned later until)
+      ++ end_line until
+      ++ banks_spins plan planned later until
   pub checkpoint : banks_bytes planned starts until ≡ banks_bytes planned later until
 
 -- a run of several banks to an epoch, whose states there fit, and the next one

@@ -15,17 +15,20 @@ use Rattle.glass_main.specs.declared.planned.Planned.{Planned}
 
 -- ---- checkpoints
 
--- bytes of a checkpoint are the encoding of what they are read as: of states of the 64 samples at one epoch, or of a packed state
--- that fits and the records that it keeps ahead
-abbrev pub IsEncodingOf : Planned → List ℕ → Beginning → Type 0
-IsEncodingOf planned bytes (Level start) = AreBankStates planned.plan start × (bytes ≡ encoding planned.plan start)
-IsEncodingOf planned bytes (Uneven stand) =
-    RaggedStandFits planned.plan planned.orders.samples planned.orders.every stand × (bytes ≡ stopped_checkpoint planned stand)
+-- bytes of a checkpoint are the encoding of what they are read as, which is in time: of states of the 64 samples at one epoch, or
+-- of a packed state that fits and the records that it keeps ahead
+abbrev pub IsEncodingOf : Planned → ℕ → List ℕ → Beginning → Type 0
+IsEncodingOf planned until bytes (Level start) =
+    AreBankStates planned.plan start × ((start 0).epoch ≤ until) × (bytes ≡ encoding planned.plan start)
+IsEncodingOf planned until bytes (Uneven stand) =
+    RaggedStandFits planned.plan planned.orders.samples planned.orders.every stand
+    × (deepest_of (positions_of stand) ≤ until)
+    × (bytes ≡ stopped_checkpoint planned stand)
 
 -- bytes that a run goes on from are the encoding of what it goes on from
 abbrev pub AcceptedCheckpointsAreEncodings : Type 0
 AcceptedCheckpointsAreEncodings = (planned : Planned) (until : ℕ) (bytes : List ℕ) (from : Beginning) → IsLawfulPlan planned.plan → AreLawfulOrders planned.orders
-    → ((i : ℕ) → slice_index bytes i < 256) → resumed_by planned until bytes ≡ Ok from → IsEncodingOf planned bytes from
+    → ((i : ℕ) → slice_index bytes i < 256) → resumed_by planned until bytes ≡ Ok from → IsEncodingOf planned until bytes from
 
 -- what a run saved that stopped is what the next one goes on from
 abbrev pub SavedStopsAreRead : Type 0

@@ -24,3 +24,4 @@ pub mod InStep
 pub mod Cells
 pub mod LevelRuns
 pub mod ReachedRuns
+pub mod RecordedEpochs

@@ -1,13 +1,13 @@
 -- What holds of the dynamics of a disorder sample under every plan.
-use Rattle.std.specs.Prelude.{◌≡◌, ℕ, ◌+◌, ◌*◌, ◌%◌, ◌<◌, ◌≤◌, Bool, true, false, List, [], ◌++◌, length}
-use Rattle.spin_model.specs.Steps.{table}
+use Rattle.std.specs.Prelude.{◌≡◌, ℕ, ◌+◌, ◌-◌, ◌*◌, ◌%◌, ◌<◌, ◌≤◌, Bool, true, false, List, [], ◌++◌, length}
+use Rattle.spin_model.specs.Steps.{table, count_below}
 use Rattle.spin_model.specs.Couplings.{Bonds}
 use Rattle.spin_model.specs.Lattice.{IsLawfulSize}
 use Rattle.scalar_rule.specs.Sums.{unsatisfied}
 use Rattle.scalar_rule.specs.Plan.{Plan, slots_of, pairs_of}
 use Rattle.scalar_rule.specs.Epoch.{slot_at, pair_at, swept_slot}
 use Rattle.scalar_rule.specs.Serial.{serial}
-use Rattle.scalar_rule.specs.Records.{is_recorded, records_until}
+use Rattle.scalar_rule.specs.Records.{is_recorded, recorded_epochs, records_until}
 use Rattle.scalar_rule.specs.Ragged.{Position, UnevenState, position_at, ready, arrived, generators, all_ready}
 use Rattle.scalar_rule.specs.Positions.{sum_below, done, rank, content, position_in, floor_of, deepest_of, HasSameTurns, AreInStep, pending_count, pending_record, uneven_record, uneven_records}
 use Rattle.scalar_rule.specs.Shape.{Fits}
@@ -28,6 +28,10 @@ RecordsGoOn = (plan : Plan) (start : ℕ → Sample) (samples every c e : ℕ) �
     → ((b : ℕ) → b < samples → (start b).epoch ≡ (start 0).epoch)
     → records_until plan start samples every c ++ records_until plan (λ b. serial plan (start b) c) samples every e
     ≡ records_until plan start samples every e
+
+-- the number of recorded epochs is how many of the epochs are recorded
+abbrev pub RecordedEpochsAreCounted : Type 0
+RecordedEpochsAreCounted = (every from to : ℕ) → 1 ≤ every → from ≤ to → count_below (λ k. is_recorded every (from + k)) (to - from) ≡ recorded_epochs every from to
 
 -- two states at one epoch have equal generator words in every slot and pair
 pub record HaveSameWords (plan : Plan) (s t : Sample) : Type 0 where

@@ -1,6 +1,6 @@
 //! What holds of the definitions: each law is the contract of a function with an empty body.
 
-ghost use Rattle.scalar_rule.specs.Laws.{EnergiesHaveOneParity, ResumingGoesOn, RecordsGoOn, WordsStaySame, LevelStartIsSerial, LevelStartWaits, LevelGeneratorsAreSerial, LevelEndIsSerial, LevelRecordsAreSerial, ReachedStateGoesOn, ReachedStateWaits, ReachedGeneratorsGoOn, ReachedEndIsSame, ReachedRecordsGoOn, StepsAreShort, PendingRecordsAreFew, CompletedSlotsRest};
+ghost use Rattle.scalar_rule.specs.Laws.{EnergiesHaveOneParity, ResumingGoesOn, RecordsGoOn, RecordedEpochsAreCounted, WordsStaySame, LevelStartIsSerial, LevelStartWaits, LevelGeneratorsAreSerial, LevelEndIsSerial, LevelRecordsAreSerial, ReachedStateGoesOn, ReachedStateWaits, ReachedGeneratorsGoOn, ReachedEndIsSame, ReachedRecordsGoOn, StepsAreShort, PendingRecordsAreFew, CompletedSlotsRest};
 
 /// All configurations of one disorder sample have an equal number of unsatisfied bonds modulo 2, so
 /// the gap between two of them is even.
@@ -17,6 +17,11 @@ pub fn resuming_goes_on()
 /// the whole run.
 pub fn records_go_on()
     ensures { RecordsGoOn }
+{}
+
+/// The number of recorded epochs from one on and below another is how many of these are recorded.
+pub fn recorded_epochs_are_counted()
+    ensures { RecordedEpochsAreCounted }
 {}
 
 /// All samples of a bank that begin with equal generator words keep equal words: the generators

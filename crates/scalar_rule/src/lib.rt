@@ -21,8 +21,8 @@ pub use laws::{
     completed_slots_rest, energies_have_one_parity, level_end_is_serial,
     level_generators_are_serial, level_records_are_serial, level_start_is_serial,
     level_start_waits, pending_records_are_few, reached_end_is_same, reached_generators_go_on,
-    reached_records_go_on, reached_state_goes_on, reached_state_waits, records_go_on,
-    resuming_goes_on, steps_are_short, words_stay_same,
+    reached_records_go_on, reached_state_goes_on, reached_state_waits, recorded_epochs_are_counted,
+    records_go_on, resuming_goes_on, steps_are_short, words_stay_same,
 };
 pub use plain::{PlainOut, plain_run};
 pub use plain_copy::PlainCopy;
