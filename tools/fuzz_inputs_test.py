@@ -134,15 +134,15 @@ def banks_text(last_spins):
     return ("\n".join(lines) + "\n").encode()
 
 
-def banks(checks):
-    """Two banks: the plan's digest, the report, the checkpoint, and what is refused of it."""
-    write(TWO_BANKS)
-    message = b"GLASSPL2\0\0\0\2" + 2 * bytes.fromhex(BANK_PLAN)
-    checks.same("plan of two banks", expected_runs.checked("run.toml").text[-65:-1].decode(),
-                hashlib.sha256(message).hexdigest())
-    planned = input_judge.planned("run.toml")
-    at1 = rule.epoch(planned.plan, rule.opening(planned.plan, "up", 0, 0))
-    first, later = (encoded(BANK_PLAN, s, 4) for s in (at1, rule.epoch(planned.plan, at1)))
+def bank_at_1_and_2():
+    """The checkpoints at epochs 1 and 2 of a bank whose samples are all alike."""
+    plan = input_judge.planned("run.toml").plan
+    at1 = rule.epoch(plan, rule.opening(plan, "up", 0, 0))
+    return [encoded(BANK_PLAN, s, 4) for s in (at1, rule.epoch(plan, at1))]
+
+
+def saved_banks(checks, first, later):
+    """The report and the checkpoint of a run of two banks, and what is seen of a wrong one."""
     stored, verdict = both(first, first), expected_runs.ran("run.toml", None, 1)
     checks.same("length of two banks", len(stored), BANKS_LENGTH)
     checks.same("report of two banks", verdict.text, banks_text("f" * 16))
@@ -152,7 +152,11 @@ def banks(checks):
     wrong = input_growth.sealed_in_all(changed(stored, 12 + 5144 + 371, 254), 4, 1)
     checks.same("a wrong spin in bank 1", expected_runs.wrong_in_saved(wrong, verdict.run, (0, 63, 64)),
                 "sample 64 is not that of the rule")
-    of_bank1 = 12 + len(first)
+
+
+def refused_banks(checks, first, later):
+    """Each refusal of a checkpoint of two banks."""
+    stored, of_bank1 = both(first, first), 12 + len(first)
     for bytes_, line in ((stored[:43], "the checkpoint is too short: 43 bytes"), (first, "the checkpoint is of another kind"),
                          (stored[:11] + b"\3" + stored[12:], "the checkpoint has 3 banks, not 2"),
                          (stored[:-1], "the checkpoint has 10331 bytes, not 10332"),
@@ -164,11 +168,19 @@ def banks(checks):
                          (stored[:56] + b"M" + stored[57:], "the checkpoint is damaged")):
         write({"base": bytes_})
         checks.same(line, expected_runs.ran("run.toml", "base", 2).line.decode()[:7 + len(line)], f"glass: {line}")
-    rng = random.Random(5)
+
+
+def changed_banks(checks, first):
+    """Whatever is changed of a checkpoint of two banks, it is read or refused as a checkpoint."""
+    rng, stored = random.Random(5), both(first, first)
     for k in range(200):
         write({"base": input_growth.grown_bytes(rng, "base", stored, [first, stored], 4, 1)})
         verdict = expected_runs.ran("run.toml", "base", 1)
         checks.same(f"a changed checkpoint of two banks, {k}", verdict.status, 6 if verdict.line else 0)
+
+
+def other_runs_of_banks(checks, stored):
+    """A stop with two banks, a run of one bank from their checkpoint, and a run with couplings of 65 samples from a file."""
     write({"base": stored})
     refused = b"glass: this command needs at most 64 samples, not 65\n"
     checks.same("a stop", expected_runs.stopped("run.toml")[:2], (3, refused))
@@ -178,6 +190,19 @@ def banks(checks):
            "j.bin": couplings.file_bytes(4, [bytes(192)] * 64 + [bytes([1]) * 192])})
     checks.same("bytes of 65 samples", os.path.getsize("j.bin"), 1608)
     checks.same("sample 64 of a file", expected_runs.ran("run.toml", None, 1).text, banks_text("5a5aa5a55a5aa5a5"))
+
+
+def banks(checks):
+    """Two banks: the plan's digest, the report, the checkpoint, and what is refused of it."""
+    write(TWO_BANKS)
+    message = b"GLASSPL2\0\0\0\2" + 2 * bytes.fromhex(BANK_PLAN)
+    checks.same("plan of two banks", expected_runs.checked("run.toml").text[-65:-1].decode(),
+                hashlib.sha256(message).hexdigest())
+    first, later = bank_at_1_and_2()
+    saved_banks(checks, first, later)
+    refused_banks(checks, first, later)
+    changed_banks(checks, first)
+    other_runs_of_banks(checks, both(first, first))
 
 
 def reports(checks):
