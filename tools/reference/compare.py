@@ -169,6 +169,36 @@ def chosen_runs():
                  seed=source.randrange(2 ** 63), signs=None, start=start, sample=sample)
 
 
+def uneven_agrees(name, plan, base, states, after):
+    """Holds what the definitions say from a base to the states of the run at one epoch, and to their slots after a sweep."""
+    until, n = len(states) - 1, slots_of(plan)
+    for t in range(n):
+        first = position_at(base, t)
+        for e in range(first.epoch, until + 1):
+            if e > first.epoch or not first.waits:
+                same(f"{name}: rest {e} {t}", ready(plan, base, e, t), states[e].slots[t])
+            if e < until:
+                same(f"{name}: waits {e} {t}", arrived(plan, base, e, t), after[e][t])
+    for k in range(n - 1):
+        for e in range(position_at(base, k).epoch, until + 1):
+            same(f"{name}: generators {e} {k}", generators(plan, base, k, e), states[e].pairs[k])
+
+
+def work_on(own, at, t):
+    """Sweeps slot t, and exchanges it where its partner waits for it; `at` has the positions of all slots."""
+    e = at[t].epoch
+    own.work(t)
+    k = t if t % 2 == e % 2 else t - 1
+    partner = k + 1 if t == k else k
+    if k < 0 or k + 1 >= len(at):
+        at[t] = Position(e + 1, False)
+    elif at[partner] == Position(e, True):
+        own.exchange(k)
+        at[t] = at[partner] = Position(e + 1, False)
+    else:
+        at[t] = Position(e, True)
+
+
 def uneven_runs():
     """States reached by events in any order, and what the definitions say from them."""
     source = rng.Random(7)
@@ -180,21 +210,9 @@ def uneven_runs():
         states.append(epoch(plan, states[-1]))
     after = [swept_slots(plan, s) for s in states]
     n = slots_of(plan)
-
-    def check(name, base):
-        for t in range(n):
-            first = position_at(base, t)
-            for e in range(first.epoch, until + 1):
-                if e > first.epoch or not first.waits:
-                    same(f"{name}: rest {e} {t}", ready(plan, base, e, t), states[e].slots[t])
-                if e < until:
-                    same(f"{name}: waits {e} {t}", arrived(plan, base, e, t), after[e][t])
-        for k in range(n - 1):
-            for e in range(position_at(base, k).epoch, until + 1):
-                same(f"{name}: generators {e} {k}", generators(plan, base, k, e), states[e].pairs[k])
-
     for c in (0, 2):
-        check(f"level at {c}", UnevenState(9, (Position(c, False),) * n, states[c].slots, states[c].pairs))
+        base = UnevenState(9, (Position(c, False),) * n, states[c].slots, states[c].pairs)
+        uneven_agrees(f"level at {c}", plan, base, states, after)
     for trial in range(12):
         own = Tempering(4, "metropolis", rows, swaps, 1, 99, 9, "random", 9)
         at = [Position(0, False)] * n
@@ -204,23 +222,12 @@ def uneven_runs():
                 base = UnevenState(9, tuple(at), tuple(own.slot_state(t) for t in range(n)),
                                    tuple(own.pair_state(k) for k in range(n - 1)))
                 spread = sorted(p.epoch + (1 if p.waits else 0) for p in at)
-                check(f"after {event} events {at} {spread}", base)
+                uneven_agrees(f"after {event} events {at} {spread}", plan, base, states, after)
             free = [t for t in range(n) if not at[t].waits and at[t].epoch < until]
             if not free:
                 break
             t = source.choice(free) if trial % 2 else (min if trial % 4 else max)(free, key=lambda t: (-at[t].epoch, t))
-            e = at[t].epoch
-            own.work(t)
-            k = t if t % 2 == e % 2 else t - 1
-            if k < 0 or k + 1 >= n:
-                at[t] = Position(e + 1, False)
-                continue
-            p = k + 1 if t == k else k
-            if at[p] == Position(e, True):
-                own.exchange(k)
-                at[t] = at[p] = Position(e + 1, False)
-            else:
-                at[t] = Position(e, True)
+            work_on(own, at, t)
 
 
 def grid_report(own, samples, every, epochs):
