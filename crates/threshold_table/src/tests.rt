@@ -59,52 +59,50 @@ fn repeated(alloc: Global, piece: &[u8], times: usize) -> Result<Vec<u8>, AllocE
     Ok(text)
 }
 
-#[test]
-fn rule_tables_are_refused_by_their_first_fault(rt: HostRuntime) {
-    let number = |at, field| TableRefused::Number { at, field };
-    let fields = |at, found| TableRefused::Fields {
-        at,
-        found,
-        wanted: 3,
-    };
-    let too_great = |value| TableRefused::TooGreat {
+fn wrong_number(at: u64, field: u64) -> TableRefused {
+    TableRefused::Number { at, field }
+}
+
+fn wrong_fields(at: u64, found: u64, wanted: u64) -> TableRefused {
+    TableRefused::Fields { at, found, wanted }
+}
+
+// Of the first field of all.
+fn too_great(value: u64) -> TableRefused {
+    TableRefused::TooGreat {
         at: 0,
         field: 0,
         value,
-    };
+    }
+}
+
+fn wrong_records(found: u64, wanted: u64) -> TableRefused {
+    TableRefused::Records { found, wanted }
+}
+
+#[test]
+fn rule_tables_are_refused_by_their_first_fault(rt: HostRuntime) {
     for (text, refused) in [
         (b"\"0\",0,0".as_slice(), TableRefused::Csv),
         (b"0,\t0,0", TableRefused::Csv),
         (b"0,0,\x80", TableRefused::Csv),
         (b"0,0,\xef\xbb\xbf0", TableRefused::Csv),
         (b"x,0\n\0", TableRefused::Csv),
-        (b"1,,3", number(0, 1)),
-        (b"1,2,", number(0, 2)),
-        (b"00000000001,0,0", number(0, 0)),
-        (b"1 2,0,0", number(0, 0)),
-        (b"-1,0,0", number(0, 0)),
-        (b"1.5,0,0", number(0, 0)),
+        (b"1,,3", wrong_number(0, 1)),
+        (b"1,2,", wrong_number(0, 2)),
+        (b"00000000001,0,0", wrong_number(0, 0)),
+        (b"1 2,0,0", wrong_number(0, 0)),
+        (b"-1,0,0", wrong_number(0, 0)),
+        (b"1.5,0,0", wrong_number(0, 0)),
         (b"4294967297,0,0", too_great(4294967297)),
         (b"9999999999,x,0", too_great(9999999999)),
-        (b"0,0", fields(0, 2)),
-        (b"0,0,0,0", fields(0, 4)),
-        (b"0,0,0\nx,0", fields(1, 2)),
-        (b"0,0,x\n0,0", number(0, 2)),
-        (b"0,0,0\n \n", fields(1, 1)),
-        (
-            b"",
-            TableRefused::Records {
-                found: 0,
-                wanted: 1,
-            },
-        ),
-        (
-            b"\r\n\n",
-            TableRefused::Records {
-                found: 0,
-                wanted: 1,
-            },
-        ),
+        (b"0,0", wrong_fields(0, 2, 3)),
+        (b"0,0,0,0", wrong_fields(0, 4, 3)),
+        (b"0,0,0\nx,0", wrong_fields(1, 2, 3)),
+        (b"0,0,x\n0,0", wrong_number(0, 2)),
+        (b"0,0,0\n \n", wrong_fields(1, 1, 3)),
+        (b"", wrong_records(0, 1)),
+        (b"\r\n\n", wrong_records(0, 1)),
     ] {
         told_rule(&rt, text, RuleKind::Metropolis, Some(refused));
     }
@@ -112,25 +110,10 @@ fn rule_tables_are_refused_by_their_first_fault(rt: HostRuntime) {
 
 #[test]
 fn heat_bath_has_seven_fields(rt: HostRuntime) {
-    let wanted = 7;
     for (text, refused) in [
         (b"0,0,0,0,0,0,0".as_slice(), None),
-        (
-            b"0,0,0,0,0,0",
-            Some(TableRefused::Fields {
-                at: 0,
-                found: 6,
-                wanted,
-            }),
-        ),
-        (
-            b"0,0,0,0,0,0,0,0",
-            Some(TableRefused::Fields {
-                at: 0,
-                found: 8,
-                wanted,
-            }),
-        ),
+        (b"0,0,0,0,0,0", Some(wrong_fields(0, 6, 7))),
+        (b"0,0,0,0,0,0,0,0", Some(wrong_fields(0, 8, 7))),
     ] {
         told_rule(&rt, text, RuleKind::Heat, refused);
     }
@@ -138,15 +121,10 @@ fn heat_bath_has_seven_fields(rt: HostRuntime) {
 
 #[test]
 fn a_rule_table_has_1_to_32_records(rt: HostRuntime) -> Result<(), Fail> {
-    let wanted = 32;
     for (times, end, refused) in [
         (32, b"\n".as_slice(), None),
-        (33, b"\n", Some(TableRefused::Records { found: 33, wanted })),
-        (
-            33,
-            b"x,0,0",
-            Some(TableRefused::Number { at: 33, field: 0 }),
-        ),
+        (33, b"\n", Some(wrong_records(33, 32))),
+        (33, b"x,0,0", Some(wrong_number(33, 0))),
     ] {
         let mut text = repeated(rt.alloc(), b"1,2,3\n", times)?;
         text.extend_from_slice(end)?;
@@ -160,38 +138,13 @@ fn a_swap_table_has_a_record_per_pair(rt: HostRuntime) {
     for (text, slots, refused) in [
         (b"".as_slice(), 1, None),
         (b"\n\r", 1, None),
-        (
-            b"1",
-            1,
-            Some(TableRefused::Records {
-                found: 1,
-                wanted: 0,
-            }),
-        ),
+        (b"1", 1, Some(wrong_records(1, 0))),
         (b"1,2\n3\n", 3, None),
-        (
-            b"1,2\n3\n",
-            2,
-            Some(TableRefused::Records {
-                found: 2,
-                wanted: 1,
-            }),
-        ),
-        (
-            b"",
-            2,
-            Some(TableRefused::Records {
-                found: 0,
-                wanted: 1,
-            }),
-        ),
-        (b" ", 2, Some(TableRefused::Number { at: 0, field: 0 })),
+        (b"1,2\n3\n", 2, Some(wrong_records(2, 1))),
+        (b"", 2, Some(wrong_records(0, 1))),
+        (b" ", 2, Some(wrong_number(0, 0))),
         (b" \n\t", 1, Some(TableRefused::Csv)),
-        (
-            b"0\n1,,2",
-            1,
-            Some(TableRefused::Number { at: 1, field: 1 }),
-        ),
+        (b"0\n1,,2", 1, Some(wrong_number(1, 1))),
     ] {
         told_swap(&rt, text, slots, refused);
     }
@@ -199,17 +152,7 @@ fn a_swap_table_has_a_record_per_pair(rt: HostRuntime) {
 
 #[test]
 fn a_swap_record_has_at_most_4096_fields(rt: HostRuntime) -> Result<(), Fail> {
-    for (commas, refused) in [
-        (4095, None),
-        (
-            4096,
-            Some(TableRefused::Fields {
-                at: 0,
-                found: 4097,
-                wanted: 4096,
-            }),
-        ),
-    ] {
+    for (commas, refused) in [(4095, None), (4096, Some(wrong_fields(0, 4097, 4096)))] {
         let mut text = repeated(rt.alloc(), b"7,", commas)?;
         text.push(b'8')?;
         told_swap(&rt, text.as_slice(), 2, refused);
