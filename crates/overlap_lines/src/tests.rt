@@ -179,21 +179,8 @@ fn lines_at_size_6_equal_sums_over_plain_lists(rt: HostRuntime) -> Result<(), Fa
     Ok(())
 }
 
-#[test]
-fn samples_come_before_slots(rt: HostRuntime) -> Result<(), Fail> {
-    let alloc = rt.alloc();
-    let lattice = Lattice::of(4)?;
-    let row = RuleRow { values: [0; 7] };
-    let rules = RuleTable::from_rows(alloc, RuleKind::Heat, &[row, row])?;
-    let swaps = SwapTable::from_rows(alloc, &[[0]])?;
-    let couplings = Couplings::plus(alloc, lattice)?;
-    let plan = Plan::new(lattice, rules, swaps, couplings, 1, 7);
-    let base = Stand::opening(alloc, &plan, Start::Up)?;
-    let mut out = MemorySink::new(alloc, 2000, 300, Vec::new(alloc))?;
-    write_lines(&base, &plan, 2, &mut out)?;
-    assert_eq!(rt;
-        out.taken(),
-        b"lines 1 size=4 slots=2 samples=2 epoch=0
+// Of two samples in two slots with all spins +1: each term is, of 192 bonds and of 64 sites a line.
+const LINES_OF_ALL_UP: &str = "lines 1 size=4 slots=2 samples=2 epoch=0
 link,0,0,192
 line,0,0,0,1,64
 line,0,0,0,2,64
@@ -223,8 +210,20 @@ line,1,1,1,2,64
 line,1,1,2,1,64
 line,1,1,2,2,64
 end
-"
-            .as_slice()
-    );
+";
+
+#[test]
+fn samples_come_before_slots(rt: HostRuntime) -> Result<(), Fail> {
+    let alloc = rt.alloc();
+    let lattice = Lattice::of(4)?;
+    let row = RuleRow { values: [0; 7] };
+    let rules = RuleTable::from_rows(alloc, RuleKind::Heat, &[row, row])?;
+    let swaps = SwapTable::from_rows(alloc, &[[0]])?;
+    let couplings = Couplings::plus(alloc, lattice)?;
+    let plan = Plan::new(lattice, rules, swaps, couplings, 1, 7);
+    let base = Stand::opening(alloc, &plan, Start::Up)?;
+    let mut out = MemorySink::new(alloc, 2000, 300, Vec::new(alloc))?;
+    write_lines(&base, &plan, 2, &mut out)?;
+    assert_eq!(rt; out.taken(), LINES_OF_ALL_UP.as_bytes());
     Ok(())
 }
