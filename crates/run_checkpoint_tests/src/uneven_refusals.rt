@@ -7,7 +7,7 @@ use crate::kinds::{Kind, LAST};
 use crate::known::{ONE_SLOT, TWO_SLOTS, UNEVEN_DIGEST, level_of_two, one_waits};
 use crate::plans::two_slots;
 use run_checkpoint::CheckpointRefused::{
-    Digest, Late, Length, Magic, Orders, OtherPlan, Pending, Places, Replicas, Shape, Short,
+    self, Digest, Late, Length, Magic, Orders, OtherPlan, Pending, Places, Replicas, Shape, Short,
 };
 use std::test::Fail;
 
@@ -180,6 +180,42 @@ fn refusals_of_slots_at_different_epochs(rt: HostRuntime) -> Result<(), Fail> {
     )
 }
 
+// The epoch and the phase of two slots, the records, the last epoch wanted, and what is told.
+type Due = (
+    [(u64, u8); 2],
+    &'static [[u8; 14]],
+    u64,
+    Option<CheckpointRefused>,
+);
+
+const DUE_CASES: [Due; 4] = [
+    ([(LAST, 0), (LAST, 0)], &[], LAST, None),
+    (
+        [(LAST, 2), (LAST, 0)],
+        &[[7; 14]],
+        LAST,
+        Some(Late {
+            epoch: LAST + 1,
+            until: LAST,
+        }),
+    ),
+    (
+        [(LAST, 2), (LAST, 0)],
+        &[],
+        LAST,
+        Some(Pending {
+            found: 0,
+            wanted: 1,
+        }),
+    ),
+    (
+        [(1, 0), (2, 0)],
+        &[[7; 14]],
+        1,
+        Some(Late { epoch: 2, until: 1 }),
+    ),
+];
+
 #[test]
 fn records_that_are_due_and_the_greatest_epochs(rt: HostRuntime) -> Result<(), Fail> {
     let alloc = rt.alloc();
@@ -189,38 +225,7 @@ fn records_that_are_due_and_the_greatest_epochs(rt: HostRuntime) -> Result<(), F
         samples: 1,
         every: 1,
     };
-    let one = [[7u8; 14]];
-    for (first, second, records, until, told) in [
-        ((LAST, 0), (LAST, 0), [].as_slice(), LAST, None),
-        (
-            (LAST, 2),
-            (LAST, 0),
-            one.as_slice(),
-            LAST,
-            Some(Late {
-                epoch: LAST + 1,
-                until: LAST,
-            }),
-        ),
-        (
-            (LAST, 2),
-            (LAST, 0),
-            [].as_slice(),
-            LAST,
-            Some(Pending {
-                found: 0,
-                wanted: 1,
-            }),
-        ),
-        (
-            (1, 0),
-            (2, 0),
-            one.as_slice(),
-            1,
-            Some(Late { epoch: 2, until: 1 }),
-        ),
-    ] {
-        let places = [first, second];
+    for (places, records, until, told) in DUE_CASES {
         let file = uneven_file(alloc, level.as_slice(), 1, 1, places.as_slice(), records)?;
         assert_eq!(rt; kind.told(alloc, &plan, until, file.as_slice()), told);
     }
