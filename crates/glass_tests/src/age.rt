@@ -55,6 +55,16 @@ fn one_to_thirty_two_times_are_lawful(rt: HostRuntime) -> Result<(), Fail> {
 }
 
 #[test]
+fn aging_times_must_rise(rt: HostRuntime) -> Result<(), Fail> {
+    let lines = [
+        "age run.toml 0 2 1 1",
+        "age run.toml 0 2 1 0",
+        "age run.toml 0 3 0 2 1",
+    ];
+    are_no_commands(&rt, lines.as_slice(), &mut against(&rt)?)
+}
+
+#[test]
 fn bad_words_of_age(rt: HostRuntime) -> Result<(), Fail> {
     let lines = [
         "age",
@@ -64,9 +74,6 @@ fn bad_words_of_age(rt: HostRuntime) -> Result<(), Fail> {
         "age run.toml 0 1",
         "age run.toml 0 1 0 1",
         "age run.toml 0 2 0",
-        "age run.toml 0 2 1 1",
-        "age run.toml 0 2 1 0",
-        "age run.toml 0 3 0 2 1",
         "age run.toml 1000001 1 0",
         "age run.toml 0 1 1000001",
         "age run.toml 0 1 -1",

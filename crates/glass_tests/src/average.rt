@@ -92,11 +92,16 @@ fn report_cut_at_a_line_end(rt: HostRuntime) -> Result<(), Fail> {
 }
 
 #[test]
+fn zero_blocks_refused(rt: HostRuntime) -> Result<(), Fail> {
+    let lines = ["average report.txt 0"];
+    are_no_commands(&rt, lines.as_slice(), &mut two_slots(&rt)?)
+}
+
+#[test]
 fn bad_words_of_average(rt: HostRuntime) -> Result<(), Fail> {
     let lines = [
         "average",
         "average report.txt",
-        "average report.txt 0",
         "average report.txt 257",
         "average report.txt 1 1",
         "average report.txt one",

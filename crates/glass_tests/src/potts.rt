@@ -60,14 +60,19 @@ fn potts_prints_up_to_64_samples(rt: HostRuntime) -> Result<(), Fail> {
 }
 
 #[test]
+fn potts_65_samples_refused(rt: HostRuntime) -> Result<(), Fail> {
+    let lines = ["potts 4 1 7 65 plus zero 0 0 0 0 0 0"];
+    are_no_commands(&rt, lines.as_slice(), &mut empty(&rt))
+}
+
+#[test]
 fn bad_words_of_potts(rt: HostRuntime) -> Result<(), Fail> {
     let lines = [
         // no word, eleven words, thirteen
         "potts",
         "potts 4 1 7 1 plus zero 0 0 0 0 0",
         "potts 4 1 7 1 plus zero 0 0 0 0 0 0 0",
-        // 65 samples, and none
-        "potts 4 1 7 65 plus zero 0 0 0 0 0 0",
+        // no sample
         "potts 4 1 7 0 plus zero 0 0 0 0 0 0",
         // a size that is odd, too small, too great
         "potts 5 1 7 1 plus zero 0 0 0 0 0 0",
