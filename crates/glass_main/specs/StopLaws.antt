@@ -6,8 +6,7 @@ use Rattle.run_checkpoint.specs.Encoding.{encoding, AreBankStates}
 use Rattle.run_plan.specs.RunFile.{AreLawfulOrders}
 use Rattle.scalar_rule.specs.Plan.{Plan, IsLawfulPlan}
 use Rattle.scalar_rule.specs.Positions.{deepest_of}
-use Rattle.scalar_rule.specs.declared.sample.Sample.{Sample}
-use Rattle.plane_sweep.specs.Uneven.{positions_of, uneven_part, RaggedStandFits}
+use Rattle.plane_sweep.specs.Uneven.{positions_of, RaggedStandFits}
 use Rattle.plane_sweep.specs.declared.uneven.RaggedStand.{RaggedStand}
 use Rattle.glass_main.specs.Beginnings.{Beginning, Level, Uneven, opened_by, begins_at, resumed_by, run_text, state_at, run_checkpoint}
 use Rattle.glass_main.specs.Stops.{Reaches, rows_to, spins_at, stopped_checkpoint}
