@@ -51,8 +51,8 @@ pub fn saved_banks_are_read()
     ensures { SavedBanksAreRead }
 {}
 
-/// What a run of 2 to 4 banks saved at an epoch, whose states there fit, is what the next run goes on from,
-/// and the rows, the spins and the checkpoint of both are those of one run.
+/// What a run of 2 to 4 banks saved at an epoch, whose states there fit, is what the next run goes on from.
+/// The report of one run has the rows of both and the end and the spins of the next, whose checkpoint is its.
 pub fn saved_banks_go_on()
     ensures { SavedBanksGoOn }
 {}
