@@ -1,6 +1,6 @@
 -- A board with no slot in work, taken apart.
-use Rattle.std.proofs.Common.{arith, ◌≡◌, ◌≢◌, inl, inr, ℕ, ◌+◌, ◌<◌, ◌≤◌, true, List, [], length, map, get_or, set, All, Option, Some, None, refl, sym, ap, ap₂, ◌∙◌, subst}
-use Rattle.std.specs.Prelude.{is_some, ◌==◌}
+use Rattle.std.proofs.Common.{arith, ◌≡◌, ◌≢◌, inl, inr, ℕ, ◌+◌, ◌<◌, ◌≤◌, true, List, [], length, map, get_or, set, All, Option, Some, None, Global, refl, sym, ap, ap₂, ◌∙◌, subst}
+use Rattle.std.specs.Prelude.{is_some, ◌==◌, Box}
 use Rattle.std.specs.Arc.{arc_value}
 use Rattle.std.proofs.lemmas.Bool.{cases_lt, false≢true}
 use Rattle.std.proofs.lemmas.List.{length-map, get_or-map, get_or_default, get_or-set_other}
@@ -19,7 +19,7 @@ use Rattle.plane_sweep.specs.declared.replica.Duo.{Duo}
 use Rattle.plane_sweep.specs.declared.stand.PairWheels.{PairWheels}
 use Rattle.plane_sweep.specs.declared.stand.Stand.{Stand}
 use Rattle.exchange_board.specs.declared.origin.Origin.{Origin}
-use Rattle.exchange_board.specs.declared.board.Home.{Home}
+use Rattle.exchange_board.specs.declared.home.Home.{Home}
 use Rattle.exchange_board.specs.declared.board.Slot.{Slot}
 use Rattle.exchange_board.specs.declared.board.Board.TheInside as board
 use Rattle.exchange_board.specs.Views.{Stage, EndedView}
@@ -35,16 +35,16 @@ use Rattle.std.proofs.lemmas.Option.{same_Some}
 use Rattle.plane_sweep.proofs.Empties.{no_duo}
 use Rattle.scalar_rule.proofs.UnevenReached.{phase-waits}
 
-home-or : (h : Option Home) → phase_of h ≢ 1 → is_some h ≡ true
+home-or : (h : Option (Box Home Global)) → phase_of h ≢ 1 → is_some h ≡ true
 home-or None h = absurd (h refl)
 home-or (Some m) h = refl
 
-is-home : (h : Option Home) → is_some h ≡ true → (m : Home) × (h ≡ Some m)
+is-home : (h : Option (Box Home Global)) → is_some h ≡ true → (m : Box Home Global) × (h ≡ Some m)
 is-home None h = absurd (false≢true h)
 is-home (Some m) h = (m, refl)
 
-phase-told : (h : Option Home) (m : Home) → h ≡ Some m → (phase_of h == 2) ≡ is_some m.totals
-phase-told h m is = ap (λ x. phase_of x == 2) is ∙ phase-waits (is_some m.totals)
+phase-told : (h : Option (Box Home Global)) (m : Box Home Global) → h ≡ Some m → (phase_of h == 2) ≡ is_some m.value.totals
+phase-told h m is = ap (λ x. phase_of x == 2) is ∙ phase-waits (is_some m.value.totals)
 
 -- no slot in work: all are at home
 pub all-home : (b : board.Inside) → KeepsBoard b → NoneOut (places_of b) → (t : ℕ) (d : Slot) → t < length b.slots → is_some (get_or b.slots t d).home ≡ true
@@ -71,7 +71,7 @@ moved-content b duos keeps none_out moved t d h =
     let m = is-home s.home (all-home b keeps none_out t none in_slots) in
     let home = taken-home b t s m.0 keeps in_slots read m.1 in
     let at = place-read b t s in_slots read in
-    let duo_is : get_or duos t d ≡ m.0.duo = moved.each t none d m.0 in_slots m.1 in
+    let duo_is : get_or duos t d ≡ m.0.value.duo = moved.each t none d m.0 in_slots m.1 in
     let F : Duo → Type 0 = λ x. FitsDuo (plan_of o).size x in
     record {
       fits = subst F (sym duo_is) home.fits;
@@ -151,15 +151,15 @@ end-is b duos keeps ended moved =
     }
 
 -- one more slot is moved
-pub moved-more : (first slots : List Slot) (duos : List Duo) (t : ℕ) (s now : Slot) (h : Home) → t < length slots → t < length duos → length slots ≡ length first → s ≡ get_or slots t s → s.home ≡ Some h
+pub moved-more : (first slots : List Slot) (duos : List Duo) (t : ℕ) (s now : Slot) (h : Box Home Global) → t < length slots → t < length duos → length slots ≡ length first → s ≡ get_or slots t s → s.home ≡ Some h
     → ((k : ℕ) (d : Slot) → t ≤ k → get_or slots k d ≡ get_or first k d)
-    → ((k : ℕ) (d : Slot) (e : Duo) (m : Home) → k < t → (get_or first k d).home ≡ Some m → get_or duos k e ≡ m.duo)
-    → (k : ℕ) (d : Slot) (e : Duo) (m : Home) → k < t + 1 → (get_or first k d).home ≡ Some m → get_or (set duos t h.duo) k e ≡ m.duo
+    → ((k : ℕ) (d : Slot) (e : Duo) (m : Box Home Global) → k < t → (get_or first k d).home ≡ Some m → get_or duos k e ≡ m.value.duo)
+    → (k : ℕ) (d : Slot) (e : Duo) (m : Box Home Global) → k < t + 1 → (get_or first k d).home ≡ Some m → get_or (set duos t h.value.duo) k e ≡ m.value.duo
 moved-more first slots duos t s now h in_slots in_duos long read is rest done k d e m below there = elim (cases_lt k t) [
-  | inl less ↦ get_or-set_other duos t k h.duo e (λ z. omega arith) ∙ done k d e m less there
+  | inl less ↦ get_or-set_other duos t k h.value.duo e (λ z. omega arith) ∙ done k d e m less there
   | inr more ↦
       let here : k ≡ t = omega arith in
       let first_is : get_or first k d ≡ s = ap (λ i. get_or first i d) here ∙ (sym (rest t d (omega arith)) ∙ (get_or_default slots t d s in_slots ∙ sym read)) in
       let same : h ≡ m = same_Some _ _ (sym is ∙ (ap (λ (x : Slot). x.home) (sym first_is) ∙ there)) in
-      set-here duos t k h.duo e here in_duos ∙ ap (λ (x : Home). x.duo) same
+      set-here duos t k h.value.duo e here in_duos ∙ ap (λ (x : Box Home Global). x.value.duo) same
 ]

@@ -1,8 +1,8 @@
 -- One slot, or two partners, at a new place: the board keeps the rule.
-use Rattle.std.proofs.Common.{arith, ◌≡◌, inl, inr, ℕ, ◌+◌, ◌*◌, ◌<◌, ◌≤◌, Bool, false, cond, List, length, get_or, set, Option, Some, None, refl, sym, ap, ap₂, ◌∙◌, subst}
-use Rattle.std.specs.Prelude.{is_some, ◌==◌, IfSome}
+use Rattle.std.proofs.Common.{arith, ◌≡◌, inl, inr, ℕ, ◌+◌, ◌*◌, ◌<◌, ◌≤◌, Bool, false, cond, List, length, get_or, set, Option, Some, None, Global, refl, sym, ap, ap₂, ◌∙◌, subst}
+use Rattle.std.specs.Prelude.{is_some, ◌==◌, IfSome, Box}
 use Rattle.std.specs.Arc.{arc_value}
-use Rattle.std.proofs.lemmas.Bool.{ne_eqb}
+use Rattle.std.proofs.lemmas.Bool.{ne_eqb, false≢true}
 use Rattle.std.proofs.lemmas.Bool.Decides.{eqb_tells}
 use Rattle.std.proofs.lemmas.List.{map-set, length-map, length-set, get_or-set_other, get_or-map}
 use Rattle.scalar_rule.specs.Ragged.{ready, generators}
@@ -13,11 +13,10 @@ use Rattle.scalar_rule.proofs.Extremes.{sum-one}
 use Rattle.plane_sweep.specs.Packed.{part_slot, part_pair, FitsDuo, PermutesAt}
 use Rattle.exchange_board.specs.declared.origin.Origin.{Origin}
 use Rattle.exchange_board.specs.declared.totals.Totals.{Totals}
-use Rattle.exchange_board.specs.declared.board.Home.{Home}
+use Rattle.exchange_board.specs.declared.home.Home.{Home}
 use Rattle.exchange_board.specs.declared.board.Slot.{Slot}
 use Rattle.exchange_board.specs.declared.board.Board.TheInside as board
-use Rattle.exchange_board.specs.declared.job.Job.TheInside as job
-use Rattle.exchange_board.specs.JobKeeps.{KeepsJob}
+use Rattle.exchange_board.specs.JobKeeps.{RestsAt}
 use Rattle.exchange_board.specs.Views.{Stage, BoardView, place_at, ready_at}
 use Rattle.exchange_board.specs.Content.{plan_of, slots_in, starts, started, taken_before, pair_in, KeepsRows}
 use Rattle.exchange_board.specs.Machine.{Ruled, epochs, phases, numbers, begun, taken}
@@ -61,11 +60,11 @@ pub place-read : (b : board.Inside) (t : ℕ) (s : Slot) → t < length b.slots 
 place-read b t s h read = get_or-map place_of b.slots t s (ready_at 0) h ∙ ap place_of (sym read)
 
 -- the home of a slot that was read
-pub taken-home : (b : board.Inside) (t : ℕ) (s : Slot) (h : Home) → KeepsBoard b → t < length b.slots → s ≡ get_or b.slots t s → s.home ≡ Some h → AtHome (arc_value b.origin) t s.epoch h
+pub taken-home : (b : board.Inside) (t : ℕ) (s : Slot) (h : Box Home Global) → KeepsBoard b → t < length b.slots → s ≡ get_or b.slots t s → s.home ≡ Some h → AtHome (arc_value b.origin) t s.epoch h.value
 taken-home b t s h keeps known read some =
     let o : Origin = arc_value b.origin in
     let kept : KeepsSlot o t s = subst (λ (d : Slot). KeepsSlot o t d) (sym read) (keeps.homes t s known) in
-    subst (λ (d : Option Home). IfSome d (AtHome o t s.epoch)) some kept
+    subst (λ (d : Option (Box Home Global)). IfSome d (λ z. AtHome o t s.epoch z.value)) some kept
 
 -- the labels of slots at their places, where one slot keeps its labels at its new place
 pub labels-one : (o : Origin) (E P E' P' : ℕ → ℕ) (t e p i : ℕ) → OneMoved t e p E P E' P'
@@ -193,45 +192,37 @@ option-tells None h = refl
 option-tells (Some z) h = absurd (omega arith)
 
 -- the home of a slot at rest
-pub ready-home : (h : Option Home) → phase_of h ≡ 0 → (m : Home) × (h ≡ Some m) × (is_some m.totals ≡ false)
+pub ready-home : (h : Option (Box Home Global)) → phase_of h ≡ 0 → (m : Box Home Global) × (h ≡ Some m) × (is_some m.value.totals ≡ false)
 ready-home None h = absurd (omega arith)
-ready-home (Some m) h = (m, refl, option-tells m.totals h)
+ready-home (Some m) h = (m, refl, option-tells m.value.totals h)
 
--- a slot at rest has a home with its content
-pub record IsRested (o : Origin) (t e : ℕ) (h : Home) : Type 0 where
-  pub same : arc_value h.share ≡ o
-  pub fits : FitsDuo (plan_of o).size h.duo
-  pub right : (i : ℕ) → i < 64 → part_slot (plan_of o).size i h.duo ≡ ready (plan_of o) (starts o i) e t
+none-told : (x : Option Totals) → is_some x ≡ false → x ≡ None
+none-told None h = refl
+none-told (Some z) h = absurd (false≢true (sym h))
 
-pub rested : (b : board.Inside) (t : ℕ) (s : Slot) (h : Home) → KeepsBoard b → t < length b.slots → s ≡ get_or b.slots t s → phases (places_of b) t ≡ 0 → s.home ≡ Some h
-    → IsRested (arc_value b.origin) t s.epoch h
+-- the content that a slot at rest is handed out with
+pub rested : (b : board.Inside) (t : ℕ) (s : Slot) (h : Box Home Global) → KeepsBoard b → t < length b.slots → s ≡ get_or b.slots t s → phases (places_of b) t ≡ 0 → s.home ≡ Some h
+    → RestsAt t s.epoch h.value
 rested b t s h keeps known read is_ready some =
     let o : Origin = arc_value b.origin in
     let phase : phase_of s.home ≡ 0 = sym (ap (λ (p : Stage). p.phase) (place-read b t s known read)) ∙ is_ready in
     let m = ready-home s.home phase in
     let same : m.0 ≡ h = same_Some _ _ (sym m.1 ∙ some) in
-    let none : is_some h.totals ≡ false = ap (λ (z : Home). is_some z.totals) (sym same) ∙ m.2 in
+    let none : is_some h.value.totals ≡ false = ap (λ (z : Box Home Global). is_some z.value.totals) (sym same) ∙ m.2 in
     let home = taken-home b t s h keeps known read some in
-    record { same = home.same; fits = home.fits; right = λ i small. home.right i small ∙ ap (rule_content o i t s.epoch) none }
-
--- the job that a slot at rest becomes
-pub job-made : (b : board.Inside) (t : ℕ) (s : Slot) (h : Home) → KeepsBoard b → t < length b.slots → s ≡ get_or b.slots t s → phases (places_of b) t ≡ 0 → s.home ≡ Some h
-    → (let j : job.Inside = record { slot = t; epoch = s.epoch; share = h.share; duo = h.duo; page = h.page } in KeepsJob j)
-job-made b t s h keeps known read is_ready some =
-    let o : Origin = arc_value b.origin in
-    let r = rested b t s h keeps known read is_ready some in
     let in_range : t < slots_in o = omega (arith, known, keeps.slots_long) in
     let at : epochs (places_of b) t ≡ s.epoch = ap (λ (p : Stage). p.epoch) (place-read b t s known read) in
     let later : started o t ≤ 4 * s.epoch + 1 = omega (arith, keeps.ruled.since t in_range) in
     let K : Origin → Type 0 = λ x. t < slots_in x in
     let E : Origin → Type 0 = λ x. 1 ≤ x.window.every in
     let L : Origin → Type 0 = λ x. started x t ≤ 4 * s.epoch + 1 in
-    let F : Origin → Type 0 = λ x. FitsDuo (plan_of x).size h.duo in
-    let R : Origin → Type 0 = λ x. (i : ℕ) → i < 64 → part_slot (plan_of x).size i h.duo ≡ ready (plan_of x) (starts x i) s.epoch t in
+    let F : Origin → Type 0 = λ x. FitsDuo (plan_of x).size h.value.duo in
+    let R : Origin → Type 0 = λ x. (i : ℕ) → i < 64 → part_slot (plan_of x).size i h.value.duo ≡ ready (plan_of x) (starts x i) s.epoch t in
     record {
-      known = subst K (sym r.same) in_range;
-      every = subst E (sym r.same) keeps.lawful.base.some_every;
-      later = subst L (sym r.same) later;
-      fits = subst F (sym r.same) r.fits;
-      right = subst R (sym r.same) r.right;
+      known = subst K (sym home.same) in_range;
+      every = subst E (sym home.same) keeps.lawful.base.some_every;
+      later = subst L (sym home.same) later;
+      fits = subst F (sym home.same) home.fits;
+      right = subst R (sym home.same) (λ i small. home.right i small ∙ ap (rule_content o i t s.epoch) none);
+      unsummed = none-told h.value.totals none;
     }

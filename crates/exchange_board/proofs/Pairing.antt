@@ -1,33 +1,38 @@
 -- Two partners: their hand-out, and their exchange away from the board.
-use Rattle.std.proofs.Common.{arith, ◌≡◌, inl, inr, ℕ, ◌+◌, ◌-◌, ◌*◌, ◌<◌, true, false, List, [], length, get_or, set, Option, Some, None, Global, refl, sym, ap, ap₂, ◌∙◌, subst}
-use Rattle.std.specs.Prelude.{IfNone, Box}
+use Rattle.std.proofs.Common.{arith, ◌≡◌, inl, inr, ℕ, ◌+◌, ◌-◌, ◌*◌, ◌<◌, ◌≤◌, true, false, List, [], length, get_or, set, Option, Some, None, refl, sym, ap, ap₂, ◌∙◌, subst}
+use Rattle.std.specs.Prelude.{IfNone, IfSome}
 use Rattle.std.specs.Arc.{arc_value}
+use Rattle.std.specs.Box.{with_value}
 use Rattle.std.proofs.lemmas.Bool.{false≢true, not_from_false}
 use Rattle.std.proofs.lemmas.List.{length-set, get_or-set_other, get_or_default, set_comm}
 use Rattle.scalar_rule.specs.Epoch.{has_turn, has_partner, partner}
+use Rattle.scalar_rule.specs.Plan.{Plan, pairs_of}
 use Rattle.scalar_rule.specs.Positions.{sum_below}
-use Rattle.scalar_rule.specs.Ragged.{generators}
+use Rattle.scalar_rule.specs.Ragged.{arrived, generators}
 use Rattle.scalar_rule.specs.declared.sample.Record.{Record}
 use Rattle.scalar_rule.proofs.Extremes.{sum-one}
-use Rattle.scalar_rule.proofs.SlotPartners.{sides, low-partner, high-partner, back}
-use Rattle.plane_sweep.specs.Packed.{part_pair, ArePairGenerators}
-use Rattle.plane_sweep.specs.declared.replica.Duo.{Duo}
+use Rattle.scalar_rule.proofs.SlotPartners.{sides, low-partner, high-partner, partner-low, partner-high, high-side, back}
+use Rattle.plane_sweep.specs.Packed.{part_slot, part_pair, FitsDuo, ArePairGenerators}
 use Rattle.plane_sweep.specs.declared.stand.PairWheels.{PairWheels}
 use Rattle.exchange_board.specs.declared.origin.Origin.{Origin}
 use Rattle.exchange_board.specs.declared.totals.Totals.{Totals}
+use Rattle.exchange_board.specs.declared.home.Home.{Home}
 use Rattle.exchange_board.specs.declared.board.Board.TheInside as board
-use Rattle.exchange_board.specs.declared.job.Swept.TheInside as swept
+use Rattle.exchange_board.specs.declared.job.Job.TheInside as job
 use Rattle.exchange_board.specs.declared.pair.PairJob.TheInside as pair_job
 use Rattle.exchange_board.specs.declared.pair.PairSwept.TheInside as pair_swept
 use Rattle.exchange_board.specs.Totals.{AreTotals}
 use Rattle.exchange_board.specs.Views.{Stage, BoardView, JobView, place_at, ready_at, out_at, placed}
-use Rattle.exchange_board.specs.Content.{plan_of, slots_in, starts, taken_before}
+use Rattle.exchange_board.specs.Content.{plan_of, slots_in, starts, started, taken_before}
 use Rattle.exchange_board.specs.Machine.{epochs, phases, numbers, begun, taken}
-use Rattle.exchange_board.specs.JobKeeps.{swept_view, KeepsSwept}
-use Rattle.exchange_board.specs.PairKeeps.{TakesPartner, ArePartners, KeepsPair, IsPairExchange, AreRecords, KeepsSweptPair}
+use Rattle.exchange_board.specs.Meeting.{CanMeet, KeepsPage}
+use Rattle.exchange_board.specs.JobKeeps.{job_view, RestsAt, IsSweptAt, AreRecords, KeepsJob}
+use Rattle.exchange_board.specs.PairKeeps.{before, TakesPartner, ArePartners, KeepsPair, IsPairExchange, KeepsSweptPair}
 use Rattle.exchange_board.specs.Answers.{Takes, TakesPair}
 use Rattle.exchange_board.specs.BoardKeeps.{places_of, board_view, KeepsBoard}
 use Rattle.exchange_board.proofs.Keeping.{one-set, places-long}
+use Rattle.exchange_board.proofs.Arriving.{some-totals}
+use Rattle.exchange_board.proofs.Settling.{can-meet}
 
 -- what holds where there is no value, from what held there
 pub none-then : (x : Option ℕ) (P Q : Type 0) → (P → Q) → IfNone x P → IfNone x Q
@@ -67,24 +72,33 @@ high-first n j m same known has is epoch turn = elim (sides j.slot j.epoch) [
 ]
 
 -- two partners in work, with a copy of their pair's generators
-pub pair-made : (b : board.Inside) (v : BoardView) (j : pair_job.Inside) → KeepsBoard b → board_view b ≡ v → ArePartners j.low j.high → j.low.origin ≡ v.origin
-    → j.high.slot < length v.places → place_at v.places j.low.slot ≡ out_at j.low.epoch → j.wheels ≡ get_or b.pairs j.low.slot j.wheels → KeepsPair j
-pair-made b v j keeps is partners origin known out copied =
+pub pair-made : (b : board.Inside) (v : BoardView) (l h : job.Inside) (wheels : PairWheels) → KeepsBoard b → board_view b ≡ v → KeepsJob l → KeepsJob h → ArePartners (job_view l) (job_view h)
+    → (job_view l).origin ≡ v.origin → h.slot < length v.places → place_at v.places l.slot ≡ out_at l.epoch → wheels ≡ get_or b.pairs l.slot wheels
+    → (let j : pair_job.Inside = record { slot = l.slot; epoch = l.epoch; low = with_value l.home (record l.home.value { wheels = wheels }); high = h.home } in KeepsPair j)
+pair-made b v l h wheels keeps is low_rests high_rests partners origin known out copied =
     let o : Origin = arc_value b.origin in
     let ps : List Stage = places_of b in
-    let k : ℕ = j.low.slot in
+    let k : ℕ = l.slot in
     let none : PairWheels = record { first = []; second = [] } in
-    let known_here : j.high.slot < length ps = rw (← is) at known in
-    let out_here : place_at ps k ≡ out_at j.low.epoch = rw (← is) at out in
-    let epoch : epochs ps k ≡ j.low.epoch = ap (λ (p : Stage). p.epoch) out_here in
-    let same : o ≡ j.low.origin = ap (λ (x : BoardView). x.origin) is ∙ sym origin in
+    let known_here : h.slot < length ps = rw (← is) at known in
+    let out_here : place_at ps k ≡ out_at l.epoch = rw (← is) at out in
+    let epoch : epochs ps k ≡ l.epoch = ap (λ (p : Stage). p.epoch) out_here in
+    let same : o ≡ arc_value l.home.value.share = ap (λ (x : BoardView). x.origin) is ∙ sym origin in
     let more : k + 1 < slots_in o = let z = places-long b keeps in let y = partners.next in omega arith in
     let in_range : k < length b.pairs = let z = keeps.pairs_long in omega arith in
-    let here : (i : ℕ) → part_pair j.wheels ≡ generators (plan_of o) (starts o i) k j.low.epoch = λ i.
-    ap part_pair (copied ∙ get_or_default b.pairs k j.wheels none in_range) ∙ (keeps.pairs k i more ∙ ap (generators (plan_of o) (starts o i) k) epoch) in
-    let G : Origin → Type 0 = λ x. (i : ℕ) → part_pair j.wheels ≡ generators (plan_of x) (starts x i) k j.low.epoch in
+    let here : (i : ℕ) → part_pair wheels ≡ generators (plan_of o) (starts o i) k l.epoch = λ i.
+    ap part_pair (copied ∙ get_or_default b.pairs k wheels none in_range) ∙ (keeps.pairs k i more ∙ ap (generators (plan_of o) (starts o i) k) epoch) in
+    let G : Origin → Type 0 = λ x. (i : ℕ) → part_pair wheels ≡ generators (plan_of x) (starts x i) k l.epoch in
     let F : PairWheels → Type 0 = λ w. ArePairGenerators w in
-    record { partners = partners; generators_are = subst G same here; fits = subst F (sym copied) (keeps.pairs_fit k j.wheels in_range) }
+    record {
+      turn = partners.turn;
+      same = partners.same;
+      low_rests = record { known = low_rests.known; every = low_rests.every; later = low_rests.later; fits = low_rests.fits; right = low_rests.right; unsummed = low_rests.unsummed };
+      few = (let z = keeps.lawful.plan.rules.few in omega arith);
+      high_rests = subst (λ n. RestsAt n l.epoch h.home.value) partners.next (subst (λ e. RestsAt h.slot e h.home.value) partners.epoch high_rests);
+      generators_are = subst G same here;
+      fits = subst F (sym copied) (keeps.pairs_fit k wheels in_range);
+    }
 
 -- how many hand-outs a board may have behind it
 abbrev taken_in : Origin → ℕ
@@ -153,55 +167,87 @@ takes-pair b c d j p first then =
           subst (TakesPair b d) (sym (same u (then.slot ∙ (l.pair_is ∙ sym l.partner_is)))) here
     ]
 
--- what a swept slot keeps is not about its page
-another-page : (s : swept.Inside) (page : Box (List Record) Global) → KeepsSwept s → KeepsSwept (record s { page = page })
-another-page s page k = record { known = k.known; every = k.every; later = k.later; fits = k.fits; right = k.right; sums = k.sums }
+-- the colder of two partners has one
+has-low : (n k e : ℕ) → has_turn k e ≡ true → k + 1 < n → has_partner n k e ≡ true
+has-low n k e turn more = elim (sides k e) [ inl l ↦ partner-low n k e l more | inr l ↦ absurd (false≢true (sym l.low ∙ turn)) ]
+
+has-high : (n k e : ℕ) → has_turn k e ≡ true → has_partner n (k + 1) e ≡ true
+has-high n k e turn = elim (sides k e) [
+  | inl l ↦ partner-high n (k + 1) e (high-side (k + 1) e (let z = l.parity in omega arith)) (omega arith)
+  | inr l ↦ absurd (false≢true (sym l.low ∙ turn))
+]
+
+-- two partners that were swept may be exchanged
+pub record CanTrade (plan : Plan) (k : ℕ) (cold hot : Home) : Type 0 where
+  pub pair : k < pairs_of plan
+  pub low : CanMeet plan cold
+  pub high : CanMeet plan hot
+
+pub can-trade : (plan : Plan) (k e : ℕ) (low high : Home) → plan ≡ plan_of (arc_value low.share) → has_turn k e ≡ true → arc_value high.share ≡ arc_value low.share → IsSweptAt k e low → IsSweptAt (k + 1) e high
+    → CanTrade plan k low high
+can-trade plan k e low high plan_is turn same first second =
+    let o : Origin = arc_value low.share in
+    let S : Origin → Type 0 = λ x. k + 1 < slots_in x in
+    let more : k + 1 < slots_in o = subst S same second.known in
+    let has_high : has_partner (slots_in (arc_value high.share)) (k + 1) e ≡ true = has-high (slots_in (arc_value high.share)) k e turn in
+    let C : Plan → Type 0 = λ p. CanTrade p k low high in
+    let H : Origin → Type 0 = λ x. CanMeet (plan_of x) high in
+    let here : CanTrade (plan_of o) k low high = record {
+      pair = let z = more in omega arith;
+      low = can-meet (plan_of o) low first.fits (first.summed (has-low (slots_in o) k e turn more)) first.totals;
+      high = subst H same (can-meet (plan_of (arc_value high.share)) high second.fits (second.summed has_high) second.totals);
+    } in
+    subst C (sym plan_is) here
+
+-- what was swept, as it is told from what it is after the exchange
+swept-before : (t e : ℕ) (old new : Home) (totals : Totals) → IsSweptAt t e old → KeepsPage old new → old.totals ≡ Some totals → IsSweptAt t e (before new old.duo totals)
+swept-before t e old new totals swept kept is =
+    let share : arc_value new.share ≡ arc_value old.share = ap arc_value kept.share in
+    let K : Origin → Type 0 = λ x. t < slots_in x in
+    let E : Origin → Type 0 = λ x. 1 ≤ x.window.every in
+    let L : Origin → Type 0 = λ x. started x t ≤ 4 * e + 1 in
+    let F : Origin → Type 0 = λ x. FitsDuo (plan_of x).size old.duo in
+    let R : Origin → Type 0 = λ x. (b : ℕ) → b < 64 → part_slot (plan_of x).size b old.duo ≡ arrived (plan_of x) (starts x b) e t in
+    let T : Origin → Type 0 = λ x. AreTotals (plan_of x) old.duo totals in
+    let A : Origin → Type 0 = λ x. AreRecords x e old.duo old.page in
+    let B : List Record → Type 0 = λ page. AreRecords (arc_value new.share) e old.duo page in
+    record {
+      known = subst K (sym share) swept.known;
+      every = subst E (sym share) swept.every;
+      later = subst L (sym share) swept.later;
+      fits = subst F (sym share) swept.fits;
+      right = subst R (sym share) swept.right;
+      totals = subst T (sym share) (subst (λ y. IfSome y (AreTotals (plan_of (arc_value old.share)) old.duo)) is swept.totals);
+      summed = λ has. refl;
+      records = subst B (sym kept.page) (subst A (sym share) swept.records);
+    }
 
 -- two partners after their sweeps and their exchange
-pub swept-pair : (l h : swept.Inside) (v w : JobView) (was now : PairWheels) (totals : Totals) (cold hot : Duo) (cold_page hot_page : Box (List Record) Global)
-    → KeepsSwept l → KeepsSwept h → swept_view l ≡ v → swept_view h ≡ w → ArePartners v w
-    → ((i : ℕ) → part_pair was ≡ generators (plan_of v.origin) (starts v.origin i) v.slot v.epoch)
-    → AreTotals (plan_of v.origin) l.duo totals → IsPairExchange (plan_of v.origin) l.slot l.duo h.duo cold hot was now
-    → AreRecords v.origin l.epoch l.duo cold_page.value → AreRecords v.origin l.epoch h.duo hot_page.value
-    → (let j : pair_swept.Inside = record {
-      slot = l.slot;
-      epoch = l.epoch;
-      low = record { share = l.share; duo = cold; page = cold_page };
-      high = record { share = h.share; duo = hot; page = hot_page };
-      wheels = now;
-    } in KeepsSweptPair j)
-swept-pair l h v w was now totals cold hot cold_page hot_page keeps_l keeps_h l_is h_is partners right counted traded cold_right hot_right =
-    let o : Origin = arc_value l.share in
-    let back_to : v.origin ≡ o = ap (λ (x : JobView). x.origin) (sym l_is) in
-    let slot : v.slot ≡ l.slot = ap (λ (x : JobView). x.slot) (sym l_is) in
-    let epoch : v.epoch ≡ l.epoch = ap (λ (x : JobView). x.epoch) (sym l_is) in
-    let high_slot : h.slot ≡ l.slot + 1 = ap (λ (x : JobView). x.slot) h_is ∙ (partners.next ∙ ap (λ n. n + 1) slot) in
-    let high_epoch : h.epoch ≡ l.epoch = ap (λ (x : JobView). x.epoch) h_is ∙ (partners.epoch ∙ epoch) in
-    let same : arc_value h.share ≡ o = ap (λ (x : JobView). x.origin) h_is ∙ (partners.same ∙ back_to) in
-    let turned : has_turn l.slot l.epoch ≡ true = ap₂ has_turn (sym slot) (sym epoch) ∙ partners.turn in
-    let made : ℕ → ℕ → swept.Inside = λ s e. record { slot = s; epoch = e; share = h.share; duo = h.duo; sums = h.sums; page = h.page } in
-    let high : KeepsSwept (made (l.slot + 1) l.epoch) = subst KeepsSwept (ap₂ made high_slot high_epoch) keeps_h in
-    let G : Origin → ℕ → ℕ → Type 0 = λ x s e. (i : ℕ) → part_pair was ≡ generators (plan_of x) (starts x i) s e in
-    let g1 : G o v.slot v.epoch = subst (λ (x : Origin). G x v.slot v.epoch) back_to right in
-    let g2 : G o l.slot v.epoch = subst (λ s. G o s v.epoch) slot g1 in
-    let T : Origin → Type 0 = λ x. AreTotals (plan_of x) l.duo totals in
-    let X : Origin → Type 0 = λ x. IsPairExchange (plan_of x) l.slot l.duo h.duo cold hot was now in
-    let R : Origin → Type 0 = λ x. AreRecords x l.epoch l.duo cold_page.value in
-    let S : Origin → Type 0 = λ x. AreRecords x l.epoch h.duo hot_page.value in
+pub swept-pair : (j : pair_swept.Inside) (low high : Home) → has_turn j.slot j.epoch ≡ true → arc_value high.share ≡ arc_value low.share → IsSweptAt j.slot j.epoch low → IsSweptAt (j.slot + 1) j.epoch high
+    → ((i : ℕ) → part_pair low.wheels ≡ generators (plan_of (arc_value low.share)) (starts (arc_value low.share) i) j.slot j.epoch)
+    → CanTrade (plan_of (arc_value low.share)) j.slot low high
+    → IsPairExchange (plan_of (arc_value low.share)) j.slot low.duo high.duo j.low.value.duo j.high.value.duo low.wheels j.low.value.wheels
+    → KeepsPage low j.low.value → KeepsPage high j.high.value → KeepsSweptPair j
+swept-pair j low high turn same first second right can traded low_kept high_kept =
+    let o : Origin = arc_value low.share in
+    let low_share : arc_value j.low.value.share ≡ o = ap arc_value low_kept.share in
+    let high_share : arc_value j.high.value.share ≡ arc_value high.share = ap arc_value high_kept.share in
+    let low_totals = some-totals low.totals can.low.waits in
+    let high_totals = some-totals high.totals can.high.waits in
+    let G : Origin → Type 0 = λ x. (i : ℕ) → part_pair low.wheels ≡ generators (plan_of x) (starts x i) j.slot j.epoch in
+    let X : Origin → Type 0 = λ x. IsPairExchange (plan_of x) j.slot low.duo high.duo j.low.value.duo j.high.value.duo low.wheels j.low.value.wheels in
     record {
-      cold = l.duo;
-      cold_sums = l.sums;
-      cold_totals = totals;
-      hot = h.duo;
-      hot_sums = h.sums;
-      was = was;
-      turn = turned;
-      same = same;
-      low_swept = another-page l cold_page keeps_l;
-      high_swept = another-page (made (l.slot + 1) l.epoch) hot_page high;
-      totals = subst T back_to counted;
-      generators_are = subst (λ e. G o l.slot e) epoch g2;
-      traded = subst X back_to traded;
-      low_records = subst R back_to cold_right;
-      high_records = subst S back_to hot_right;
+      cold = low.duo;
+      cold_totals = low_totals.0;
+      hot = high.duo;
+      hot_totals = high_totals.0;
+      was = low.wheels;
+      turn = turn;
+      same = high_share ∙ (same ∙ sym low_share);
+      low_swept = swept-before j.slot j.epoch low j.low.value low_totals.0 first low_kept low_totals.1;
+      high_swept = swept-before (j.slot + 1) j.epoch high j.high.value high_totals.0 second high_kept high_totals.1;
+      generators_are = subst G (sym low_share) right;
+      traded = subst X (sym low_share) traded;
+      low_spent = low_kept.spent;
+      high_spent = high_kept.spent;
     }

@@ -1,6 +1,7 @@
 -- What the exchange of a pair keeps.
-use Rattle.std.proofs.Common.{arith, ◌≡◌, inl, inr, ◌⊎◌, ℕ, ◌+◌, ◌-◌, ◌*◌, ◌<◌, ◌≤◌, ◌≢◌, Bool, true, false, not, cond, List, [], length, map, get_or, set, All, Option, Some, None, refl, sym, ap, ap₂, ◌∙◌, subst}
-use Rattle.std.specs.Prelude.{IfSome, IsSomeAnd, is_some, ◌==◌}
+use Rattle.std.proofs.Common.{arith, ◌≡◌, inl, inr, ◌⊎◌, ℕ, ◌+◌, ◌-◌, ◌*◌, ◌<◌, ◌≤◌, ◌≢◌, Bool, true, false, not, cond, List, [], length, map, get_or, set, All, Option, Some, None, Global, refl, sym, ap, ap₂, ◌∙◌, subst}
+use Rattle.std.specs.Prelude.{IfSome, IsSomeAnd, is_some, ◌==◌, Box}
+use Rattle.std.specs.Box.{with_value}
 use Rattle.std.specs.Arc.{arc_value}
 use Rattle.std.proofs.lemmas.Bool.Decides.{eqb_tells}
 use Rattle.std.proofs.lemmas.List.{map-set, length-map, length-set, get_or-set_other, get_or_default}
@@ -15,11 +16,10 @@ use Rattle.scalar_rule.proofs.SlotPartners.{sides, low-partner, high-partner, Ba
 use Rattle.scalar_rule.proofs.UnevenContents.{generators-idle, generators-turned, ready-settled}
 use Rattle.scalar_rule.proofs.UnevenReached.{pair-known}
 use Rattle.plane_sweep.specs.Packed.{part_slot, part_pair, FitsDuo, ArePairGenerators, PermutesAt}
-use Rattle.plane_sweep.specs.declared.replica.Duo.{Duo}
 use Rattle.plane_sweep.specs.declared.stand.PairWheels.{PairWheels}
 use Rattle.exchange_board.specs.declared.origin.Origin.{Origin}
 use Rattle.exchange_board.specs.declared.totals.Totals.{Totals}
-use Rattle.exchange_board.specs.declared.board.Home.{Home}
+use Rattle.exchange_board.specs.declared.home.Home.{Home}
 use Rattle.exchange_board.specs.declared.board.Slot.{Slot}
 use Rattle.exchange_board.specs.declared.board.Board.TheInside as board
 use Rattle.exchange_board.specs.declared.job.Swept.TheInside as swept
@@ -27,7 +27,8 @@ use Rattle.exchange_board.specs.Views.{Stage, BoardView, JobView, place_at, read
 use Rattle.exchange_board.specs.Content.{plan_of, slots_in, starts, started, taken_before, pair_in, KeepsRows}
 use Rattle.exchange_board.specs.Machine.{Ruled, epochs, phases, numbers, begun, taken}
 use Rattle.exchange_board.specs.JobKeeps.{swept_view}
-use Rattle.exchange_board.specs.Meeting.{half, CanMeet, Met}
+use Rattle.exchange_board.specs.Totals.{AreTotals}
+use Rattle.exchange_board.specs.Meeting.{half, CanMeet, KeepsPage, Met}
 use Rattle.exchange_board.specs.BoardKeeps.{phase_of, place_of, places_of, board_view, rule_content, AtHome, KeepsSlot, content_at, KeepsBoard}
 use Rattle.exchange_board.proofs.Machines.{TwoMoved, settled-rule}
 use Rattle.exchange_board.proofs.RowPlaces.{set-here, Recorded, rows-written}
@@ -43,15 +44,15 @@ waits-told : (h : Option Totals) → waiting (is_some h) ≡ 2 → is_some h ≡
 waits-told None h = absurd (omega arith)
 waits-told (Some z) h = refl
 
-waiting-home : (h : Option Home) → phase_of h ≡ 2 → (m : Home) × (h ≡ Some m) × (is_some m.totals ≡ true)
+waiting-home : (h : Option (Box Home Global)) → phase_of h ≡ 2 → (m : Box Home Global) × (h ≡ Some m) × (is_some m.value.totals ≡ true)
 waiting-home None h = absurd (omega arith)
-waiting-home (Some m) h = (m, refl, waits-told m.totals h)
+waiting-home (Some m) h = (m, refl, waits-told m.value.totals h)
 
-pub some-and : (h : Option Home) (P : Home → Type 0) → IsSomeAnd h P → (z : Home) × (h ≡ Some z) × P z
+pub some-and : (h : Option (Box Home Global)) (P : Box Home Global → Type 0) → IsSomeAnd h P → (z : Box Home Global) × (h ≡ Some z) × P z
 some-and None P p = absurd p
 some-and (Some z) P p = (z, refl, p)
 
-pub and-some : (h : Option Home) (m : Home) (P : Home → Type 0) → h ≡ Some m → P m → IsSomeAnd h P
+pub and-some : (h : Option (Box Home Global)) (m : Box Home Global) (P : Box Home Global → Type 0) → h ≡ Some m → P m → IsSomeAnd h P
 and-some h m P is p = subst (λ x. IsSomeAnd x P) (sym is) p
 
 side-half : (plan : Plan) (b e t : ℕ) (pair : PlainPair) (own other : PlainSlot) → side plan b e t pair own other ≡ half plan b (pair_of t e) (has_turn t e) pair own other
@@ -118,12 +119,12 @@ finds-of b s v w u board_is swept_is has is place = record {
 
 -- the partner's home before the exchange
 pub record Mate (o : Origin) (u e : ℕ) (mate : Slot) : Type 0 where
-  pub m : Home
+  pub m : Box Home Global
   pub was : mate.home ≡ Some m
   pub epoch : mate.epoch ≡ e
-  pub same : arc_value m.share ≡ o
-  pub right : (i : ℕ) → i < 64 → part_slot (plan_of o).size i m.duo ≡ arrived (plan_of o) (starts o i) e u
-  pub can : CanMeet (plan_of o) m
+  pub same : arc_value m.value.share ≡ o
+  pub right : (i : ℕ) → i < 64 → part_slot (plan_of o).size i m.value.duo ≡ arrived (plan_of o) (starts o i) e u
+  pub can : CanMeet (plan_of o) m.value
 
 pub mate-of : (b : board.Inside) (u e : ℕ) (mate : Slot) → KeepsBoard b → u < length b.slots → place_at (places_of b) u ≡ arrived_at e → mate ≡ get_or b.slots u mate
     → Mate (arc_value b.origin) u e mate
@@ -144,12 +145,13 @@ mate-of b u e mate keeps known place read =
     }
 
 -- what the exchange of s with the slot mate does
-pub record Exchanged (plan : Plan) (s : swept.Inside) (k : ℕ) (mate y : Slot) (own : Duo) (low : Bool) (was now : PairWheels) : Type 0 where
+pub record Exchanged (plan : Plan) (s : swept.Inside) (k : ℕ) (mate y : Slot) (own : Home) (low : Bool) (was now : PairWheels) : Type 0 where
   pub epoch : y.epoch ≡ mate.epoch + 1
-  pub there : (m : Home) → mate.home ≡ Some m → IsSomeAnd y.home (Met plan k low was m s.duo)
-  pub own_is : (m : Home) → mate.home ≡ Some m → (b : ℕ) → b < 64 → part_slot plan.size b own ≡ half plan b k low (part_pair was) (part_slot plan.size b s.duo) (part_slot plan.size b m.duo)
+  pub there : (m : Box Home Global) → mate.home ≡ Some m → IsSomeAnd y.home (Met plan k low was m s.home.value.duo)
+  pub own_is : (m : Box Home Global) → mate.home ≡ Some m → (b : ℕ) → b < 64 → part_slot plan.size b own.duo ≡ half plan b k low (part_pair was) (part_slot plan.size b s.home.value.duo) (part_slot plan.size b m.value.duo)
   pub wheels : part_pair now ≡ drawn_pair (part_pair was)
-  pub own_fits : FitsDuo plan.size own
+  pub own_fits : FitsDuo plan.size own.duo
+  pub own_kept : KeepsPage s.home.value own
   pub wheels_fit : ArePairGenerators now
 
 -- partners at new places, the pair's generators and the records
@@ -165,11 +167,11 @@ two b u y t x ws rs = record {
   places = b.places;
 }
 
-abbrev pub swapped : swept.Inside → Duo → Slot
-swapped s own = record { epoch = s.epoch + 1; home = Some (record { share = s.share; duo = own; totals = None; page = s.page }) }
+abbrev pub swapped : swept.Inside → Home → Slot
+swapped s own = record { epoch = s.epoch + 1; home = Some (with_value s.home own) }
 
--- the partner's place afterwards
-met-place : (e : ℕ) (y : Slot) (z : Home) → y.home ≡ Some z → z.totals ≡ None → y.epoch ≡ e + 1 → place_of y ≡ ready_at (e + 1)
+-- a slot's place afterwards
+pub met-place : (e : ℕ) (y : Slot) (z : Box Home Global) → y.home ≡ Some z → z.value.totals ≡ None → y.epoch ≡ e + 1 → place_of y ≡ ready_at (e + 1)
 met-place e y z is rests epoch =
     let phase : phase_of y.home ≡ 0 = ap phase_of is ∙ ap (λ (h : Option Totals). waiting (is_some h)) rests in
     let make : ℕ → ℕ → Stage = λ i j. record { epoch = i; phase = j } in
@@ -181,11 +183,11 @@ all-set ws k w h fits all = λ j d below. elim (eqb_tells j k) [
   | inr a ↦ let P : PairWheels → Type 0 = λ x. ArePairGenerators x in subst P (sym (get_or-set_other ws k j w d a.1)) (all j d (rw length-set at below))
 ]
 
-pub settled-keeps : (b : board.Inside) (s : swept.Inside) (plan : Plan) (rs : List Record) (u k : ℕ) (was now : PairWheels) (mate y : Slot) (own : Duo) (low : Bool)
-    → Coming b s plan → Written b s plan rs → FindsPartner b s u
+pub settled-keeps : (b : board.Inside) (s : swept.Inside) (plan : Plan) (rs : List Record) (u k : ℕ) (was now : PairWheels) (mate y : Slot) (own : Home) (low : Bool)
+    → Coming b s → plan ≡ plan_of (arc_value b.origin) → Written b s rs → FindsPartner b s u
     → mate ≡ get_or b.slots u mate → low ≡ has_turn s.slot s.epoch → k ≡ cond low s.slot u → was ≡ get_or b.pairs k was → Exchanged plan s k mate y own low was now
     → KeepsBoard (two b u y s.slot (swapped s own) (set b.pairs k now) rs)
-settled-keeps b s plan rs u k was now mate y own low c written finds read low_is k_at was_is exchanged =
+settled-keeps b s plan rs u k was now mate y own low c plan_is written finds read low_is k_at was_is exchanged =
     let has = finds.has in
     let u_is = finds.is in
     let place = finds.place in
@@ -196,19 +198,20 @@ settled-keeps b s plan rs u k was now mate y own low c written finds read low_is
     let t : ℕ = s.slot in
     let e : ℕ = s.epoch in
     let new : Slot = swapped s own in
-    let f = known-of b s plan c in
+    let f = known-of b s c in
     let keeps = c.keeps in
     let X : Plan → Type 0 = λ q. Exchanged q s k mate y own low was now in
-    let x : Exchanged p s k mate y own low was now = subst X c.plan_is exchanged in
+    let x : Exchanged p s k mate y own low was now = subst X plan_is exchanged in
     let long : length ps ≡ slots_in o = places-long b keeps in
     let has_here : has_partner (slots_in o) t e ≡ true = subst (λ n. has_partner n t e ≡ true) long has in
     let has_there : has_partner (slots_in o) t (epochs ps t) ≡ true = subst (λ n. has_partner (slots_in o) t n ≡ true) (sym f.epoch) has_here in
     let bk : Back (slots_in o) t e u = subst (λ j. Back (slots_in o) t e j) (sym u_is) (back (slots_in o) t e f.in_range has_here) in
     let u_known : u < length b.slots = omega (arith, bk.known, keeps.slots_long) in
     let m = mate-of b u e mate keeps u_known place read in
-    let z = some-and y.home (Met p k low was m.m s.duo) (x.there m.m m.was) in
+    let z = some-and y.home (Met p k low was m.m s.home.value.duo) (x.there m.m m.was) in
     let y_epoch : y.epoch ≡ e + 1 = x.epoch ∙ ap (λ i. i + 1) m.epoch in
     let y_place : place_of y ≡ ready_at (e + 1) = met-place e y z.0 z.1 z.2.rests y_epoch in
+    let new_place : place_of new ≡ ready_at (e + 1) = met-place e new (with_value s.home own) refl x.own_kept.spent refl in
     let u_epoch : epochs ps u ≡ e = ap (λ (q : Stage). q.epoch) place in
     let u_phase : phases ps u ≡ 2 = ap (λ (q : Stage). q.phase) place in
     let u_since : started o u ≤ 4 * e + 2 = omega (arith, keeps.ruled.since u bk.known) in
@@ -226,27 +229,28 @@ settled-keeps b s plan rs u k was now mate y own low c written finds read low_is
     ready-settled p (starts o i) e u u_since bk.has ∙ ap (λ j. side p i e u (generators p (starts o i) (pair_of u e) e) (arrived p (starts o i) e u) (arrived p (starts o i) e j)) bk.partner_is in
     let qs : List Stage = set (set ps u (ready_at (e + 1))) t (ready_at (e + 1)) in
     let b' : board.Inside = two b u y t new (set b.pairs k now) rs in
-    let places : places_of b' ≡ qs = map-set place_of (set b.slots u y) t new ∙ ap (λ (l : List Stage). set l t (ready_at (e + 1))) (map-set place_of b.slots u y ∙ ap (λ (q : Stage). set ps u q) y_place) in
+    let places : places_of b' ≡ qs =
+    map-set place_of (set b.slots u y) t new ∙ ap₂ (λ (l : List Stage) (q : Stage). set l t q) (map-set place_of b.slots u y ∙ ap (λ (q : Stage). set ps u q) y_place) new_place in
     let E' : ℕ → ℕ = epochs qs in
     let P' : ℕ → ℕ = phases qs in
     let moved = two-set ps t u (e + 1) (rw long f.in_range) (rw long bk.known) in
     let moved_there : TwoMoved t u (epochs ps t + 1) (epochs ps) (phases ps) E' P' = subst (λ i. TwoMoved t u (i + 1) (epochs ps) (phases ps) E' P') (sym f.epoch) moved in
     let u_is_there : u ≡ partner t (epochs ps t) = subst (λ i. u ≡ partner t i) (sym f.epoch) u_is in
     let home_t : KeepsSlot o t new = record {
-      same = c.same;
+      same = ap arc_value x.own_kept.share ∙ c.same;
       fits = x.own_fits;
       right = λ i h. x.own_is m.m m.was i h ∙ (half-same p i k (pair_of t e) low (has_turn t e) _ _ _ _ _ _ k_is low_is (pair_t i) (f.right i h) (m.right i h)
-          ∙ (sym (side-half p i e t _ _ _) ∙ sym (ready_t i)));
-      totals = λ sums is. absurd (let w : None ≡ Some sums = is in cc);
+          ∙ (sym (side-half p i e t _ _ _) ∙ (sym (ready_t i) ∙ ap (rule_content o i t (e + 1)) (sym (ap is_some x.own_kept.spent)))));
+      totals = λ sums is. absurd (let w : None ≡ Some sums = sym x.own_kept.spent ∙ is in cc);
     } in
-    let home_z : AtHome o u y.epoch z.0 = record {
+    let home_z : AtHome o u y.epoch z.0.value = record {
       same = z.2.same ∙ m.same;
       fits = z.2.fits;
       right = λ i h. z.2.right i h ∙ (half-same p i k (pair_of u e) (not low) (has_turn u e) _ _ _ _ _ _ k_u low_u (pair_u i) (m.right i h) (f.right i h)
           ∙ (sym (side-half p i e u _ _ _) ∙ (sym (ready_u i) ∙ ap₂ (λ j a. rule_content o i u j a) (sym y_epoch) (sym (ap is_some z.2.rests)))));
       totals = λ sums is. absurd (let w : None ≡ Some sums = sym z.2.rests ∙ is in cc);
     } in
-    let home_u : KeepsSlot o u y = subst (λ (d : Option Home). IfSome d (AtHome o u y.epoch)) (sym z.1) home_z in
+    let home_u : KeepsSlot o u y = subst (λ (d : Option (Box Home Global)). IfSome d (λ w. AtHome o u y.epoch w.value)) (sym z.1) home_z in
     let R : List Stage → Type 0 = λ l. Ruled (slots_in o) o.window.until (started o) (epochs l) (phases l) in
     let W : List Stage → Type 0 = λ l. KeepsRows o (numbers l) rs in
     let K : List Stage → Type 0 = λ l. (j i : ℕ) → j + 1 < slots_in o → part_pair (pair_in (set b.pairs k now) j) ≡ generators p (starts o i) j (epochs l j) in
@@ -271,7 +275,7 @@ settled-keeps b s plan rs u k was now mate y own low c written finds read low_is
     let G : ℕ → PlainSlot = content_at o E' P' i in
     let at_t : G t ≡ ready p (starts o i) (e + 1) t = ap₂ (λ j a. rule_content o i t j (a == 2)) moved_t.0 moved_t.1 in
     let at_u : G u ≡ ready p (starts o i) (e + 1) u = ap₂ (λ j a. rule_content o i u j (a == 2)) moved_u.0 moved_u.1 in
-    let was_t = came-labels b s plan f i in
+    let was_t = came-labels b s f i in
     let was_t' : HaveSameLabels (F t) (arrived p (starts o i) e t) = record { first = sym was_t.first; second = sym was_t.second } in
     let was_u : HaveSameLabels (F u) (arrived p (starts o i) e u) = same-labels _ _ (ap₂ (λ j a. rule_content o i u j (a == 2)) u_epoch u_phase) in
     let rest : (j : ℕ) → j ≢ t → j ≢ u → HaveSameLabels (G j) (F j) = λ j nt nu. elim (moved j) [
@@ -310,7 +314,7 @@ settled-keeps b s plan rs u k was now mate y own low c written finds read low_is
       pairs_fit = all-set b.pairs k now k_in x.wheels_fit keeps.pairs_fit;
       labels = subst L (sym places) labels;
       taken = subst T (sym places) (omega (arith, taken_is, keeps.taken));
-      rows = subst W (sym places) (rows-written o t e _ b.records rs (numbers ps) (numbers qs) keeps.lawful.base.some_every f.in_range f.from written recorded_two (value-is b s plan c f) keeps.rows);
+      rows = subst W (sym places) (rows-written o t e _ b.records rs (numbers ps) (numbers qs) keeps.lawful.base.some_every f.in_range f.from written recorded_two (value-is b s c f) keeps.rows);
       duos = keeps.duos;
       pending = keeps.pending;
       stops = keeps.stops;
@@ -320,32 +324,38 @@ pub partner-known : (n t e u : ℕ) → t < n → has_partner n t e ≡ true →
 partner-known n t e u known has is = subst (λ j. j < n) (sym is) (back n t e known has).known
 
 -- the view after a settlement
-pub settled-view : (b : board.Inside) (s : swept.Inside) (plan : Plan) (u k : ℕ) (was now : PairWheels) (mate y : Slot) (own : Duo) (low : Bool) → Coming b s plan → FindsPartner b s u
+pub settled-view : (b : board.Inside) (s : swept.Inside) (plan : Plan) (u k : ℕ) (was now : PairWheels) (mate y : Slot) (own : Home) (low : Bool) → Coming b s → FindsPartner b s u
     → mate ≡ get_or b.slots u mate → Exchanged plan s k mate y own low was now
     → map place_of (set (set b.slots u y) s.slot (swapped s own)) ≡ set (set (places_of b) u (ready_at (s.epoch + 1))) s.slot (ready_at (s.epoch + 1))
 settled-view b s plan u k was now mate y own low c finds read x =
     let e : ℕ = s.epoch in
     let known = partner-known (length (places_of b)) s.slot e u c.known finds.has finds.is in
     let m = mate-of b u e mate c.keeps (rw length-map at known) finds.place read in
-    let z = some-and y.home (Met plan k low was m.m s.duo) (x.there m.m m.was) in
+    let z = some-and y.home (Met plan k low was m.m s.home.value.duo) (x.there m.m m.was) in
     let y_place : place_of y ≡ ready_at (e + 1) = met-place e y z.0 z.1 z.2.rests (x.epoch ∙ ap (λ i. i + 1) m.epoch) in
-    map-set place_of (set b.slots u y) s.slot (swapped s own) ∙ ap (λ (l : List Stage). set l s.slot (ready_at (e + 1))) (map-set place_of b.slots u y ∙ ap (λ (q : Stage). set (places_of b) u q) y_place)
+    let own_place : place_of (swapped s own) ≡ ready_at (e + 1) = met-place e (swapped s own) (with_value s.home own) refl x.own_kept.spent refl in
+    map-set place_of (set b.slots u y) s.slot (swapped s own) ∙ ap₂ (λ (l : List Stage) (q : Stage). set l s.slot q) (map-set place_of b.slots u y ∙ ap (λ (q : Stage). set (places_of b) u q) y_place) own_place
+
+-- a content with its sums may be exchanged
+pub can-meet : (plan : Plan) (h : Home) → FitsDuo plan.size h.duo → is_some h.totals ≡ true → IfSome h.totals (AreTotals plan h.duo) → CanMeet plan h
+can-meet plan h fits waits counted = record { waits = waits; fits = fits; totals = λ sums is. subst (λ y. IfSome y (AreTotals plan h.duo)) is counted }
 
 -- what the exchange asks of the board
 pub record CanSettle (b : board.Inside) (s : swept.Inside) (plan : Plan) (mate : Slot) (was : PairWheels) (k : ℕ) : Type 0 where
   pub short : mate.epoch < 1000000000
   pub next : s.epoch < 1000000000
-  pub can : IsSomeAnd mate.home (CanMeet plan)
+  pub own : CanMeet plan s.home.value
+  pub can : IsSomeAnd mate.home (λ m. CanMeet plan m.value)
   pub wheels : ArePairGenerators was
   pub pair : k < pairs_of plan
 
-pub can-settle : (b : board.Inside) (s : swept.Inside) (plan : Plan) (u k : ℕ) (was : PairWheels) (mate : Slot) (low : Bool) → Coming b s plan → FindsPartner b s u
+pub can-settle : (b : board.Inside) (s : swept.Inside) (plan : Plan) (u k : ℕ) (was : PairWheels) (mate : Slot) (low : Bool) → Coming b s → plan ≡ plan_of (arc_value b.origin) → FindsPartner b s u
     → mate ≡ get_or b.slots u mate → low ≡ has_turn s.slot s.epoch → k ≡ cond low s.slot u → was ≡ get_or b.pairs k was → CanSettle b s plan mate was k
-can-settle b s plan u k was mate low c finds read low_is k_at was_is =
+can-settle b s plan u k was mate low c plan_is finds read low_is k_at was_is =
     let has = finds.has in
     let u_is = finds.is in
     let o : Origin = arc_value b.origin in
-    let f = known-of b s plan c in
+    let f = known-of b s c in
     let long : length (places_of b) ≡ slots_in o = places-long b c.keeps in
     let has_here : has_partner (slots_in o) s.slot s.epoch ≡ true = subst (λ n. has_partner n s.slot s.epoch ≡ true) long has in
     let bk : Back (slots_in o) s.slot s.epoch u = subst (λ j. Back (slots_in o) s.slot s.epoch j) (sym u_is) (back (slots_in o) s.slot s.epoch f.in_range has_here) in
@@ -353,14 +363,16 @@ can-settle b s plan u k was mate low c finds read low_is k_at was_is =
     let m = mate-of b u s.epoch mate c.keeps u_known finds.place read in
     let k_is : k ≡ pair_of s.slot s.epoch = k_at ∙ colder-pair s.slot u s.epoch low low_is u_is in
     let k_in : k < pairs_of (plan_of o) = let z = pair-known (slots_in o) s.slot s.epoch f.in_range has_here in omega arith in
-    let C : Plan → Type 0 = λ q. IsSomeAnd mate.home (CanMeet q) in
+    let C : Plan → Type 0 = λ q. IsSomeAnd mate.home (λ z. CanMeet q z.value) in
+    let M : Plan → Type 0 = λ q. CanMeet q s.home.value in
     let G : PairWheels → Type 0 = λ w. ArePairGenerators w in
     let K : Plan → Type 0 = λ q. k < pairs_of q in
     let until = c.keeps.lawful.until in let below = f.below in
     record {
       short = let e = m.epoch in omega arith;
       next = omega arith;
-      can = subst C (sym c.plan_is) (and-some mate.home m.m (CanMeet (plan_of o)) m.was m.can);
+      own = subst M (sym plan_is) (can-meet (plan_of o) s.home.value f.fits (f.summed has_here) f.totals);
+      can = subst C (sym plan_is) (and-some mate.home m.m (λ z. CanMeet (plan_of o) z.value) m.was m.can);
       wheels = subst G (sym was_is) (c.keeps.pairs_fit k was (omega (arith, c.keeps.pairs_long)));
-      pair = subst K (sym c.plan_is) k_in;
+      pair = subst K (sym plan_is) k_in;
     }

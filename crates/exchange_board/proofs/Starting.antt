@@ -1,6 +1,6 @@
 -- The slots of a board that begins.
-use Rattle.std.proofs.Common.{arith, ◌≡◌, inl, inr, ℕ, ◌+◌, ◌-◌, ◌*◌, ◌/◌, ◌%◌, ◌<◌, ◌≤◌, Bool, true, false, cond, List, [], ◌∷◌, ◌++◌, length, map, take, get_or, All, Option, refl, sym, ap, ap₂, ◌∙◌, subst}
-use Rattle.std.specs.Prelude.{IfSome, IsSomeAnd, is_some, ◌==◌}
+use Rattle.std.proofs.Common.{arith, ◌≡◌, inl, inr, ℕ, ◌+◌, ◌-◌, ◌*◌, ◌/◌, ◌%◌, ◌<◌, ◌≤◌, Bool, true, false, cond, List, [], ◌∷◌, ◌++◌, length, map, take, get_or, All, Option, Some, Global, refl, sym, ap, ap₂, ◌∙◌, subst}
+use Rattle.std.specs.Prelude.{IfSome, is_some, ◌==◌, Box}
 use Rattle.std.specs.Arc.{arc_value}
 use Rattle.std.proofs.Math.ListN.{get_or-map as get_or-map_of}
 use Rattle.std.proofs.lemmas.Bool.{cases_lt, eqb-false}
@@ -23,7 +23,7 @@ use Rattle.plane_sweep.specs.declared.uneven.Place.{Place}
 use Rattle.plane_sweep.specs.declared.uneven.RaggedStand.{RaggedStand}
 use Rattle.exchange_board.specs.declared.origin.Origin.{Origin}
 use Rattle.exchange_board.specs.declared.origin.Window.{Window}
-use Rattle.exchange_board.specs.declared.board.Home.{Home}
+use Rattle.exchange_board.specs.declared.home.Home.{Home}
 use Rattle.exchange_board.specs.declared.board.Slot.{Slot}
 use Rattle.exchange_board.specs.declared.board.Board.TheInside as board
 use Rattle.exchange_board.specs.Answers.{start_place}
@@ -34,7 +34,6 @@ use Rattle.exchange_board.specs.Opening.{Begins, AreFirst}
 use Rattle.exchange_board.specs.Views.{Stage, ready_at, arrived_at}
 use Rattle.exchange_board.specs.Views as views
 use Rattle.exchange_board.proofs.RowPlaces.{rows-same}
-use Rattle.exchange_board.proofs.Settling.{some-and}
 use Rattle.exchange_board.proofs.Origins.{done-reach}
 use Rattle.scalar_rule.proofs.UnevenReached.{bit-tells, phase-waits}
 use Rattle.plane_sweep.proofs.LevelStands.{position-at}
@@ -63,31 +62,29 @@ started-phase e true = refl
 started-phase e false = refl
 
 -- a slot at the place where it begins
-pub begun-place : (o : Origin) (s : Slot) (place : Place) (duo : Duo) → s.epoch ≡ place.epoch → IsSomeAnd s.home (Begins o place duo) → place_of s ≡ start_place place
-begun-place o s place duo epoch begins =
-    let h = some-and s.home (Begins o place duo) begins in
-    let phase : phase_of s.home ≡ cond place.arrived 2 0 = ap phase_of h.1 ∙ ap (λ (a : Bool). cond a 2 0) h.2.waits in
+pub begun-place : (o : Origin) (s : Slot) (place : Place) (duo : Duo) (h : Box Home Global) → s.epoch ≡ place.epoch → s.home ≡ Some h → Begins o place duo h.value → place_of s ≡ start_place place
+begun-place o s place duo h epoch home_is begins =
+    let phase : phase_of s.home ≡ cond place.arrived 2 0 = ap phase_of home_is ∙ ap (λ (a : Bool). cond a 2 0) begins.waits in
     let make : ℕ → ℕ → Stage = λ i j. record { epoch = i; phase = j } in
     ap₂ make epoch phase ∙ started-phase place.epoch place.arrived
 
-pub begun-slot : (o : Origin) (t : ℕ) (s : Slot) (place : Place) (duo : Duo) → IsLawfulOrigin o → t < slots_in o → place ≡ get_or o.base.places t place → duo ≡ get_or o.base.slots t duo
-    → s.epoch ≡ place.epoch → IsSomeAnd s.home (Begins o place duo) → KeepsSlot o t s
-begun-slot o t s place duo l known place_is duo_is epoch begins =
-    let h = some-and s.home (Begins o place duo) begins in
+pub begun-slot : (o : Origin) (t : ℕ) (s : Slot) (place : Place) (duo : Duo) (h : Box Home Global) → IsLawfulOrigin o → t < slots_in o → place ≡ get_or o.base.places t place → duo ≡ get_or o.base.slots t duo
+    → s.epoch ≡ place.epoch → s.home ≡ Some h → Begins o place duo h.value → KeepsSlot o t s
+begun-slot o t s place duo h l known place_is duo_is epoch home_is begins =
     let at : position_in (positions_in o) t ≡ position_of place =
     position-at o.base.places t (omega (arith, l.base.places)) ∙ ap position_of (sym (place_is ∙ get_or_default o.base.places t place _ (omega (arith, l.base.places)))) in
     let F : Duo → Type 0 = λ d. FitsDuo (plan_of o).size d in
     let fits : FitsDuo (plan_of o).size duo = subst F (sym duo_is) (l.base.each_slot t duo (omega (arith, l.base.slots))) in
     let slot : (i : ℕ) → slot_at (starts o i).slots t ≡ part_slot (plan_of o).size i duo = λ i. get_or-map (part_slot (plan_of o).size i) o.base.slots t duo _ (omega (arith, l.base.slots)) ∙ ap (part_slot (plan_of o).size i) (sym duo_is) in
-    let start : (i : ℕ) → rule_content o i t s.epoch (is_some h.0.totals) ≡ part_slot (plan_of o).size i duo = λ i.
-    ap₂ (λ e a. rule_content o i t e a) (epoch ∙ sym (ap (λ (p : Position). p.epoch) at)) (h.2.waits ∙ sym (ap (λ (p : Position). p.waits) at)) ∙ (content-start (plan_of o) (starts o i) t ∙ slot i) in
-    let home : AtHome o t s.epoch h.0 = record {
-      same = h.2.same;
-      fits = subst F (sym h.2.duo_is) fits;
-      right = λ i small. ap (part_slot (plan_of o).size i) h.2.duo_is ∙ sym (start i);
-      totals = h.2.totals;
+    let start : (i : ℕ) → rule_content o i t s.epoch (is_some h.value.totals) ≡ part_slot (plan_of o).size i duo = λ i.
+    ap₂ (λ e a. rule_content o i t e a) (epoch ∙ sym (ap (λ (p : Position). p.epoch) at)) (begins.waits ∙ sym (ap (λ (p : Position). p.waits) at)) ∙ (content-start (plan_of o) (starts o i) t ∙ slot i) in
+    let home : AtHome o t s.epoch h.value = record {
+      same = begins.same;
+      fits = subst F (sym begins.duo_is) fits;
+      right = λ i small. ap (part_slot (plan_of o).size i) begins.duo_is ∙ sym (start i);
+      totals = begins.totals;
     } in
-    subst (λ (d : Option Home). IfSome d (AtHome o t s.epoch)) (sym h.1) home
+    subst (λ (d : Option (Box Home Global)). IfSome d (λ w. AtHome o t s.epoch w.value)) (sym home_is) home
 
 -- what is moved out of a list whose rest is as it was
 pub moved-read : (contents base : List Duo) (t : ℕ) (x y : Duo) → x ≡ y → y ≡ get_or contents t y → ((k : ℕ) (d : Duo) → t ≤ k → get_or contents k d ≡ get_or base k d) → x ≡ get_or base t x

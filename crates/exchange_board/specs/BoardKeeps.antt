@@ -1,5 +1,6 @@
 -- What every board keeps.
-use Rattle.std.specs.Prelude.{◌≡◌, ℕ, ◌+◌, ◌*◌, ◌<◌, Bool, ◌==◌, if◌then◌else◌, List, [], length, map, slice_index_or, All, Option, Some, None, IfSome, is_some}
+use Rattle.std.specs.Prelude.{◌≡◌, ℕ, ◌+◌, ◌*◌, ◌<◌, Bool, ◌==◌, if◌then◌else◌, List, [], length, map, slice_index_or, All, Option, Some, None, IfSome, is_some, Box}
+use Rattle.std.specs.declared.alloc.Global.{Global}
 use Rattle.std.specs.Arc.{arc_value}
 use Rattle.scalar_rule.specs.Plan.{pairs_of}
 use Rattle.scalar_rule.specs.Ragged.{generators}
@@ -8,7 +9,7 @@ use Rattle.scalar_rule.specs.declared.sample.PlainSlot.{PlainSlot}
 use Rattle.plane_sweep.specs.Packed.{part_slot, part_pair, PermutesAt, FitsDuo, ArePairGenerators}
 use Rattle.exchange_board.specs.declared.origin.Origin.{Origin}
 use Rattle.exchange_board.specs.declared.totals.Totals.{Totals}
-use Rattle.exchange_board.specs.declared.board.Home.{Home}
+use Rattle.exchange_board.specs.declared.home.Home.{Home}
 use Rattle.exchange_board.specs.declared.board.Slot.{Slot}
 use Rattle.exchange_board.specs.declared.board.Board.TheInside as board
 use Rattle.exchange_board.specs.Totals.{AreTotals}
@@ -17,9 +18,9 @@ use Rattle.exchange_board.specs.Content.{plan_of, slots_in, starts, started, tak
 use Rattle.exchange_board.specs.Machine.{Ruled, epochs, phases, numbers, taken}
 
 -- a slot that is away is in work; one at home waits where it has its sums
-abbrev pub phase_of : Option Home → ℕ
+abbrev pub phase_of : Option (Box Home Global) → ℕ
 phase_of None = 1
-phase_of (Some h) = if is_some h.totals then 2 else 0
+phase_of (Some h) = if is_some h.value.totals then 2 else 0
 
 -- the position of a slot of the code, and of all slots
 abbrev pub place_of : Slot → Stage
@@ -45,7 +46,7 @@ pub record AtHome (o : Origin) (t e : ℕ) (h : Home) : Type 0 where
 
 -- slot t of the code, at its epoch: nothing is said of one in work
 abbrev pub KeepsSlot : Origin → ℕ → Slot → Type 0
-KeepsSlot o t s = IfSome s.home (AtHome o t s.epoch)
+KeepsSlot o t s = IfSome s.home (λ h. AtHome o t s.epoch h.value)
 
 -- the content of slot t in sample i at its place
 abbrev pub content_at : Origin → (ℕ → ℕ) → (ℕ → ℕ) → ℕ → ℕ → PlainSlot

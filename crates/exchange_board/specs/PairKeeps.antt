@@ -1,25 +1,20 @@
 -- What two partners in work keep, before their sweeps, and after these and the exchange.
-use Rattle.std.specs.Prelude.{◌≡◌, ℕ, ◌+◌, ◌<◌, true, List, length, slice_set}
+use Rattle.std.specs.Prelude.{◌≡◌, ℕ, ◌+◌, ◌<◌, true, Some, None, length, slice_set}
 use Rattle.std.specs.Arc.{arc_value}
-use Rattle.scalar_rule.specs.Epoch.{has_turn, has_partner, partner, pair_of, record_of}
+use Rattle.spin_model.specs.Limits.{most_slots}
+use Rattle.scalar_rule.specs.Epoch.{has_turn, has_partner, partner, pair_of}
 use Rattle.scalar_rule.specs.Exchange.{cold_side, hot_side, drawn_pair}
 use Rattle.scalar_rule.specs.Plan.{Plan}
 use Rattle.scalar_rule.specs.Ragged.{generators}
-use Rattle.scalar_rule.specs.Records.{is_recorded}
-use Rattle.scalar_rule.specs.declared.sample.Record.{Record}
 use Rattle.plane_sweep.specs.Packed.{part_slot, part_pair, FitsDuo, ArePairGenerators}
 use Rattle.plane_sweep.specs.declared.replica.Duo.{Duo}
 use Rattle.plane_sweep.specs.declared.stand.PairWheels.{PairWheels}
-use Rattle.exchange_board.specs.declared.job.Swept.TheInside as swept
-use Rattle.exchange_board.specs.declared.origin.Origin.{Origin}
+use Rattle.exchange_board.specs.declared.home.Home.{Home}
 use Rattle.exchange_board.specs.declared.pair.PairJob.TheInside as pair_job
 use Rattle.exchange_board.specs.declared.pair.PairSwept.TheInside as pair_swept
-use Rattle.exchange_board.specs.declared.pair.Traded.{Traded}
-use Rattle.exchange_board.specs.declared.totals.Sums.{Sums}
 use Rattle.exchange_board.specs.declared.totals.Totals.{Totals}
-use Rattle.exchange_board.specs.Content.{plan_of, starts, taken_before, record_at}
-use Rattle.exchange_board.specs.JobKeeps.{KeepsSwept}
-use Rattle.exchange_board.specs.Totals.{AreTotals}
+use Rattle.exchange_board.specs.Content.{plan_of, starts, taken_before}
+use Rattle.exchange_board.specs.JobKeeps.{RestsAt, IsSweptAt}
 use Rattle.exchange_board.specs.Machine.{taken}
 use Rattle.exchange_board.specs.Views.{BoardView, JobView, place_at, ready_at, out_at, placed}
 
@@ -42,25 +37,20 @@ pub record TakesPartner (b c : BoardView) (j p : JobView) : Type 0 where
 
 -- what contracts see of two partners: what they see of the colder one
 abbrev pub pair_view : pair_job.Inside → JobView
-pair_view j = j.low
+pair_view j = record { origin = arc_value j.low.value.share; slot = j.slot; epoch = j.epoch }
 
--- partners, and their pair's generators as far on as their epoch asks
+-- partners at rest, and with the colder one their pair's generators as far on as their epoch asks
 pub record KeepsPair (j : pair_job.Inside) : Type 0 where
-  pub partners : ArePartners j.low j.high
-  pub generators_are : (i : ℕ) → part_pair j.wheels ≡ generators (plan_of j.low.origin) (starts j.low.origin i) j.low.slot j.low.epoch
-  pub fits : ArePairGenerators j.wheels
+  pub turn : has_turn j.slot j.epoch ≡ true
+  pub few : j.slot + 1 < most_slots
+  pub same : arc_value j.high.value.share ≡ arc_value j.low.value.share
+  pub low_rests : RestsAt j.slot j.epoch j.low.value
+  pub high_rests : RestsAt (j.slot + 1) j.epoch j.high.value
+  pub generators_are : (i : ℕ) → part_pair j.low.value.wheels ≡ generators (plan_of (arc_value j.low.value.share)) (starts (arc_value j.low.value.share) i) j.slot j.epoch
+  pub fits : ArePairGenerators j.low.value.wheels
 
 abbrev pub swept_pair_view : pair_swept.Inside → JobView
-swept_pair_view j = record { origin = arc_value j.low.share; slot = j.slot; epoch = j.epoch }
-
--- a slot of the pair as it was swept, before the exchange
-abbrev pub before : pair_swept.Inside → ℕ → Traded → Duo → Sums → swept.Inside
-before j slot side duo sums = record { slot = slot; epoch = j.epoch; share = side.share; duo = duo; sums = sums; page = side.page }
-
--- the records of a slot with this content, where its epoch is recorded
-abbrev pub AreRecords : Origin → ℕ → Duo → List Record → Type 0
-AreRecords o epoch duo records = is_recorded o.window.every epoch ≡ true → (b : ℕ) → b < 64
-    → record_at records b ≡ record_of (plan_of o) b (part_slot (plan_of o).size b duo)
+swept_pair_view j = record { origin = arc_value j.low.value.share; slot = j.slot; epoch = j.epoch }
 
 -- the exchange of a pair, from the contents and generators before it to those after it
 pub record IsPairExchange (plan : Plan) (k : ℕ) (cold hot cold_after hot_after : Duo) (was now : PairWheels) : Type 0 where
@@ -71,20 +61,23 @@ pub record IsPairExchange (plan : Plan) (k : ℕ) (cold hot cold_after hot_after
   pub hot_fits : FitsDuo plan.size hot_after
   pub wheels_fit : ArePairGenerators now
 
--- two partners that were swept with these contents, whose exchange gave the pair's, and their records from before it
+-- a content before an exchange, from what it is after it: the page is as it was
+abbrev pub before : Home → Duo → Totals → Home
+before h duo totals = record h { duo = duo; totals = Some totals }
+
+-- two partners that were swept to these contents, whose exchange gave the pair's; their records are from before it, and their
+-- sums are spent
 pub record KeepsSweptPair (j : pair_swept.Inside) : Type 0 where
   pub cold : Duo
-  pub cold_sums : Sums
   pub cold_totals : Totals
   pub hot : Duo
-  pub hot_sums : Sums
+  pub hot_totals : Totals
   pub was : PairWheels
   pub turn : has_turn j.slot j.epoch ≡ true
-  pub same : arc_value j.high.share ≡ arc_value j.low.share
-  pub low_swept : KeepsSwept (before j j.slot j.low cold cold_sums)
-  pub high_swept : KeepsSwept (before j (j.slot + 1) j.high hot hot_sums)
-  pub totals : AreTotals (plan_of (arc_value j.low.share)) cold cold_totals
-  pub generators_are : (i : ℕ) → part_pair was ≡ generators (plan_of (arc_value j.low.share)) (starts (arc_value j.low.share) i) j.slot j.epoch
-  pub traded : IsPairExchange (plan_of (arc_value j.low.share)) j.slot cold hot j.low.duo j.high.duo was j.wheels
-  pub low_records : AreRecords (arc_value j.low.share) j.epoch cold j.low.page.value
-  pub high_records : AreRecords (arc_value j.low.share) j.epoch hot j.high.page.value
+  pub same : arc_value j.high.value.share ≡ arc_value j.low.value.share
+  pub low_swept : IsSweptAt j.slot j.epoch (before j.low.value cold cold_totals)
+  pub high_swept : IsSweptAt (j.slot + 1) j.epoch (before j.high.value hot hot_totals)
+  pub generators_are : (i : ℕ) → part_pair was ≡ generators (plan_of (arc_value j.low.value.share)) (starts (arc_value j.low.value.share) i) j.slot j.epoch
+  pub traded : IsPairExchange (plan_of (arc_value j.low.value.share)) j.slot cold hot j.low.value.duo j.high.value.duo was j.low.value.wheels
+  pub low_spent : j.low.value.totals ≡ None
+  pub high_spent : j.high.value.totals ≡ None

@@ -1,5 +1,6 @@
 -- What a board ends with: at its last epoch, and wherever no slot is in work.
-use Rattle.std.specs.Prelude.{◌≡◌, ℕ, ◌-◌, ◌+◌, ◌*◌, ◌/◌, ◌%◌, ◌<◌, ◌≤◌, true, ◌==◌, Some, List, length, take, slice_index_or}
+use Rattle.std.specs.Prelude.{◌≡◌, ℕ, ◌-◌, ◌+◌, ◌*◌, ◌/◌, ◌%◌, ◌<◌, ◌≤◌, true, ◌==◌, Some, List, length, take, slice_index_or, Box}
+use Rattle.std.specs.declared.alloc.Global.{Global}
 use Rattle.scalar_rule.specs.Ragged.{Position, all_ready}
 use Rattle.scalar_rule.specs.Laws.{IsReached}
 use Rattle.scalar_rule.specs.Positions.{position_in, done, rank, sum_below, floor_of, deepest_of, cell_epoch, is_pending, pending_before, pending_count, pending_record, uneven_records}
@@ -10,7 +11,7 @@ use Rattle.plane_sweep.specs.Uneven.{place_at, positions_of, uneven_part, Ragged
 use Rattle.plane_sweep.specs.declared.replica.Duo.{Duo}
 use Rattle.plane_sweep.specs.declared.uneven.Place.{Place}
 use Rattle.exchange_board.specs.declared.origin.Origin.{Origin}
-use Rattle.exchange_board.specs.declared.board.Home.{Home}
+use Rattle.exchange_board.specs.declared.home.Home.{Home}
 use Rattle.exchange_board.specs.declared.board.Slot.{Slot}
 use Rattle.exchange_board.specs.Content.{plan_of, slots_in, starts, taken_before, floor_in, rows_before, row_total, record_at, row_place, rule_record, KeepsRows}
 use Rattle.exchange_board.specs.Machine.{epochs, phases}
@@ -19,7 +20,7 @@ use Rattle.exchange_board.specs.Views.{Stage, EndedView, RaggedEndedView}
 -- the contents of slots that are at home, slot by slot
 pub record AreMoved (slots : List Slot) (duos : List Duo) : Type 0 where
   pub sized : length duos ≡ length slots
-  pub each : (t : ℕ) (d : Slot) (e : Duo) (h : Home) → t < length slots → (slice_index_or slots t d).home ≡ Some h → slice_index_or duos t e ≡ h.duo
+  pub each : (t : ℕ) (d : Slot) (e : Duo) (h : Box Home Global) → t < length slots → (slice_index_or slots t d).home ≡ Some h → slice_index_or duos t e ≡ h.value.duo
 
 -- the places of slots that are at home
 pub record AreStops (stages : List Stage) (places : List Place) : Type 0 where

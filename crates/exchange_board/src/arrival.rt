@@ -7,17 +7,14 @@ ghost use Rattle.scalar_rule.specs.Epoch.{has_partner, partner};
 ghost use Rattle.exchange_board.specs.Machine.{epochs, phases, met, after, IsPhased, IsBehind};
 ghost use Rattle.exchange_board.specs.Views.{place_at, out_at, ready_at, arrived_at, placed, progress};
 
-use crate::board::{Board, Home, Slot};
+use crate::board::{Board, Slot};
+use crate::home::Home;
 use crate::job::Swept;
-use crate::origin::Origin;
-use crate::pair::{PairSwept, Traded};
-use crate::rows::{Page, SlotEpoch, put_records, record_slot};
-use crate::totals::totals_of;
+use crate::pair::PairSwept;
+use crate::rows::{SlotEpoch, put_records};
 use crate::trading::{PlanPair, Side, meet};
-use plane_sweep::Duo;
 use scalar_rule::{Plan, has_partner, has_turn};
 use std::alloc::Global;
-use std::sync::Arc;
 
 /// What a hand-back has done.
 #[derive(Clone, Copy, Debug, PartialEq, Eq)]
@@ -53,18 +50,13 @@ pub(crate) fn partner_among(slots: u32, slot: u32, epoch: u64) -> Option<u32>
     }
 }
 
-// A slot at rest.
-fn at_rest(share: Arc<Origin, Global>, duo: Duo, page: Page, epoch: u64) -> Slot
-    ensures { result ≡ record { epoch = epoch; home = Some (record { share = share; duo = duo; totals = None; page = page }) } }
+// A slot at home.
+fn at_home(home: Box<Home, Global>, epoch: u64) -> Slot
+    ensures { result ≡ record { epoch = epoch; home = Some home } }
 {
     Slot {
         epoch,
-        home: Some(Home {
-            share,
-            duo,
-            totals: None,
-            page,
-        }),
+        home: Some(home),
     }
 }
 
@@ -87,7 +79,7 @@ impl Board {
         let epoch = swept.epoch();
         match self.partner_of(slot, epoch) {
             None => {
-                self.alone(plan, swept);
+                self.alone(swept);
                 Arrival::Alone
             }
             Some(other) => {
@@ -97,7 +89,7 @@ impl Board {
                         pair: if slot < other { slot } else { other },
                     }
                 } else {
-                    self.wait(plan, swept);
+                    self.wait(swept);
                     Arrival::Waiting
                 }
             }
@@ -119,24 +111,17 @@ impl Board {
             epoch,
             low,
             high,
-            wheels,
         } = swept;
-        let Traded { share, duo, page } = low;
-        put_records(
-            &mut self.records,
-            &page,
-            &self.origin,
-            SlotEpoch { slot, epoch },
-        );
-        *self.slots.at_mut(slot as usize) = at_rest(share, duo, page, epoch + 1);
-        let Traded { share, duo, page } = high;
+        let at = SlotEpoch { slot, epoch };
+        put_records(&mut self.records, &low.page, &self.origin, at);
         let next = SlotEpoch {
             slot: slot + 1,
             epoch,
         };
-        put_records(&mut self.records, &page, &self.origin, next);
-        *self.slots.at_mut(slot as usize + 1) = at_rest(share, duo, page, epoch + 1);
-        *self.pairs.at_mut(slot as usize) = wheels;
+        put_records(&mut self.records, &high.page, &self.origin, next);
+        *self.pairs.at_mut(slot as usize) = low.wheels.copy();
+        *self.slots.at_mut(slot as usize) = at_home(low, epoch + 1);
+        *self.slots.at_mut(slot as usize + 1) = at_home(high, epoch + 1);
     }
 
     // Whether a slot waits at an epoch.
@@ -163,8 +148,7 @@ impl Board {
         partner_among(self.slots.len() as u32, slot, epoch)
     }
 
-    fn alone(&mut self, plan: &Plan, swept: Swept)
-        requires plan { plan.now ≡ arc_value self.old.origin.plan }
+    fn alone(&mut self, swept: Swept)
         requires same { swept.origin ≡ self.old.origin }
         requires known { swept.slot < length self.old.places }
         requires out { place_at self.old.places swept.slot ≡ out_at swept.epoch }
@@ -174,18 +158,15 @@ impl Board {
         let Swept {
             slot,
             epoch,
-            share,
-            duo,
-            sums,
-            page,
+            mut home,
         } = swept;
         let at = SlotEpoch { slot, epoch };
-        record_slot(&mut self.records, &duo, &sums, plan, &self.origin, at);
-        *self.slots.at_mut(slot as usize) = at_rest(share, duo, page, epoch + 1);
+        put_records(&mut self.records, &home.page, &self.origin, at);
+        home.totals = None;
+        *self.slots.at_mut(slot as usize) = at_home(home, epoch + 1);
     }
 
-    fn wait(&mut self, plan: &Plan, swept: Swept)
-        requires plan { plan.now ≡ arc_value self.old.origin.plan }
+    fn wait(&mut self, swept: Swept)
         requires same { swept.origin ≡ self.old.origin }
         requires known { swept.slot < length self.old.places }
         requires out { place_at self.old.places swept.slot ≡ out_at swept.epoch }
@@ -193,26 +174,10 @@ impl Board {
         requires unmet { met self.old.places swept.slot swept.epoch ≡ false }
         ensures { self.new ≡ placed self.old (slice_set self.old.places swept.slot (arrived_at swept.epoch)) }
     {
-        let Swept {
-            slot,
-            epoch,
-            share,
-            duo,
-            sums,
-            page,
-        } = swept;
+        let Swept { slot, epoch, home } = swept;
         let at = SlotEpoch { slot, epoch };
-        record_slot(&mut self.records, &duo, &sums, plan, &self.origin, at);
-        let totals = totals_of(&duo, &sums, plan);
-        *self.slots.at_mut(slot as usize) = Slot {
-            epoch,
-            home: Some(Home {
-                share,
-                duo,
-                totals: Some(totals),
-                page,
-            }),
-        };
+        put_records(&mut self.records, &home.page, &self.origin, at);
+        *self.slots.at_mut(slot as usize) = at_home(home, epoch);
     }
 
     fn settle_pair(&mut self, plan: &Plan, swept: Swept, other: u32)
@@ -228,14 +193,10 @@ impl Board {
         let Swept {
             slot,
             epoch,
-            share,
-            mut duo,
-            sums,
-            page,
+            mut home,
         } = swept;
         let at = SlotEpoch { slot, epoch };
-        record_slot(&mut self.records, &duo, &sums, plan, &self.origin, at);
-        let totals = totals_of(&duo, &sums, plan);
+        put_records(&mut self.records, &home.page, &self.origin, at);
         let is_low = has_turn(slot, epoch);
         let pair = colder(slot, other, is_low);
         let wheels = self.pairs.at_mut(pair as usize);
@@ -244,7 +205,7 @@ impl Board {
             pair: PlanPair { plan, number: pair },
             is_low,
         };
-        meet(mate, &mut duo, &totals, wheels, &side);
-        *self.slots.at_mut(slot as usize) = at_rest(share, duo, page, epoch + 1);
+        meet(mate, &mut home, wheels, &side);
+        *self.slots.at_mut(slot as usize) = at_home(home, epoch + 1);
     }
 }

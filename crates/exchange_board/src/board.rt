@@ -9,12 +9,11 @@ ghost use Rattle.exchange_board.specs.Content.{slots_in, row_total, taken_before
 ghost use Rattle.exchange_board.specs.Machine.{taken, IsReady, NoneReady, NoneReadyBetween, NoneOut, AllEnded, IsPhased, numbers};
 
 use crate::arrival::partner_among;
+use crate::home::Home;
 use crate::job::Job;
 use crate::origin::Origin;
 use crate::pair::PairJob;
 use crate::room::Room;
-use crate::rows::Page;
-use crate::totals::Totals;
 use plain_list::Items;
 use plane_sweep::{Duo, PairWheels, Place};
 use scalar_rule::{Record, has_turn};
@@ -22,20 +21,11 @@ use std::alloc::Global;
 use std::marker::Model;
 use std::sync::Arc;
 
-/// A slot's content at home with a share of the origin, its sums where it waits for its partner, and its page.
-#[derive(Drop)]
-pub(crate) struct Home {
-    pub(crate) share: Arc<Origin, Global>,
-    pub(crate) duo: Duo,
-    pub(crate) totals: Option<Totals>,
-    pub(crate) page: Page,
-}
-
 /// A slot's epoch, and its content unless it is in work.
 #[derive(Drop)]
 pub(crate) struct Slot {
     pub(crate) epoch: u64,
-    pub(crate) home: Option<Home>,
+    pub(crate) home: Option<Box<Home, Global>>,
 }
 
 /// The slots of a run at their places, the generators of the pairs, the records, and the room that the
@@ -220,9 +210,7 @@ impl Board {
             Some(home) => Job {
                 slot,
                 epoch: place.epoch,
-                share: home.share,
-                duo: home.duo,
-                page: home.page,
+                home,
             },
             None => unreachable!(),
         }
@@ -347,13 +335,28 @@ impl Board {
         } else {
             (mate, job)
         };
-        let wheels = self.pairs.at(low.slot() as usize).copy();
-        PairJob { low, high, wheels }
+        let Job {
+            slot,
+            epoch,
+            home: mut low,
+        } = low;
+        let Job {
+            slot: _,
+            epoch: _,
+            home: high,
+        } = high;
+        low.wheels = self.pairs.at(slot as usize).copy();
+        PairJob {
+            slot,
+            epoch,
+            low,
+            high,
+        }
     }
 }
 
 /// The phase of a slot.
-pub(crate) fn phase(home: &Option<Home>) -> u64
+pub(crate) fn phase(home: &Option<Box<Home, Global>>) -> u64
     ensures value { result ≡ phase_of home.now }
     ensures small { result < 3 }
 {

@@ -10,7 +10,7 @@ ghost use Rattle.exchange_board.specs.Content.{slots_in, row_total, rule_record,
 ghost use Rattle.exchange_board.specs.Machine.{AllEnded, NoneOut};
 ghost use Rattle.exchange_board.specs.Stops.{AreMoved, AreStops, IsAhead, HasAhead, KeepsAhead, IsEnd, IsStop};
 
-use crate::board::{Board, Home, Slot, phase};
+use crate::board::{Board, Slot, phase};
 use crate::ended::{Ended, RaggedEnded};
 use crate::origin::Origin;
 use crate::room::Room;
@@ -31,14 +31,7 @@ fn emptied(slots: Items<Slot>, duos: Items<Duo>) -> Items<Duo>
     let mut duos = duos;
     'moves: for t in 0..slots.len() {
         match slots.at_mut(t).home.take() {
-            Some(
-                Home {
-                    share: _,
-                    duo,
-                    totals: _,
-                    page: _,
-                },
-            ) => *duos.at_mut(t) = duo,
+            Some(home) => *duos.at_mut(t) = Box::into_inner(home).duo,
             None => unreachable!(),
         }
     }

@@ -7,6 +7,7 @@ mod arrival;
 mod board;
 mod ended;
 mod ending;
+mod home;
 mod job;
 mod kept;
 mod laws;

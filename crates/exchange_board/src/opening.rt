@@ -12,14 +12,18 @@ ghost use Rattle.exchange_board.specs.Content.{positions_in, floor_in, started, 
 ghost use Rattle.exchange_board.specs.Kept.{kept_in, before_in, cells_in, IsFilled};
 ghost use Rattle.exchange_board.specs.Opening.{Begins, AreFirst};
 
-use crate::board::{Board, Home, Slot};
+use crate::board::{Board, Slot};
+use crate::home::Home;
 use crate::origin::{Origin, Window};
 use crate::room::Room;
-use crate::rows::{NO_RECORD, Page, rows_of};
+use crate::rows::{NO_RECORD, rows_of};
 use crate::totals::count_totals;
 use glass_edges::NoMemory;
 use plain_list::Items;
-use plane_sweep::{Duo, Place, RaggedStand, Replica, Stand, cell_at, deepest, has_record};
+use plane_sweep::{
+    Duo, PairWheels, Place, RaggedStand, Replica, Stand, cell_at, deepest, has_record,
+};
+use pr_generator::Wheel;
 use scalar_rule::{Plan, Record, recorded_epochs};
 use std::alloc::{AllocError, Global};
 use std::sync::Arc;
@@ -95,26 +99,31 @@ fn opening_records(alloc: Global, origin: &Origin) -> Result<Items<Record>, NoMe
     Ok(rows)
 }
 
-// A slot at the place where it begins.
-fn opened_slot(share: Arc<Origin, Global>, plan: &Plan, place: Place, duo: Duo, page: Page) -> Slot
+// The content of a slot at the place where it begins.
+fn opened_home(share: Arc<Origin, Global>, plan: &Plan, place: Place, duo: Duo) -> Home
     requires plan { plan.now ≡ arc_value (arc_value share).plan }
     requires duo { FitsDuo plan.now.size duo }
-    ensures epoch { result.epoch ≡ place.epoch }
-    ensures home { IsSomeAnd result.home (Begins (arc_value share) place duo) }
+    ensures { Begins (arc_value share) place duo result }
 {
     let totals = if place.arrived {
         Some(count_totals(&duo, plan))
     } else {
         None
     };
-    Slot {
-        epoch: place.epoch,
-        home: Some(Home {
-            share,
-            duo,
-            totals,
-            page,
-        }),
+    Home {
+        share,
+        duo,
+        totals,
+        page: [NO_RECORD; 64],
+        wheels: no_wheels(),
+    }
+}
+
+// Generators of zeros.
+fn no_wheels() -> PairWheels {
+    PairWheels {
+        first: Wheel::from_words(&[0; 61]),
+        second: Wheel::from_words(&[0; 61]),
     }
 }
 
@@ -160,8 +169,12 @@ fn opening_slots(
         let share = Arc::try_clone(origin)?;
         let duo = std::mem::replace(contents.at_mut(t), no_duo(alloc));
         let place = *origin.base.places.at(t);
-        let page = Box::new(alloc, [NO_RECORD; 64]).map_err(AllocError::from)?;
-        slots.push(opened_slot(share, &origin.plan, place, duo, page))?;
+        let content = opened_home(share, &origin.plan, place, duo);
+        let home = Box::new(alloc, content).map_err(AllocError::from)?;
+        slots.push(Slot {
+            epoch: place.epoch,
+            home: Some(home),
+        })?;
     }
     Ok(Items::of(slots))
 }

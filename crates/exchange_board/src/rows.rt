@@ -7,14 +7,13 @@ ghost use Rattle.scalar_rule.specs.Epoch as model;
 ghost use Rattle.scalar_rule.specs.Records as records_model;
 ghost use Rattle.exchange_board.specs.Content.{slots_in, floor_in, record_at, row_total, IsLawfulOrigin};
 ghost use Rattle.exchange_board.specs.Meeting.{AreRowsOf, RowsAfter, RecordsAfter};
-ghost use Rattle.exchange_board.specs.Totals.{AreSums};
+ghost use Rattle.exchange_board.specs.Totals.{AreTotals};
 
 use crate::origin::Origin;
-use crate::totals::{Sums, measure, record_of};
+use crate::totals::{Totals, measure, record_of};
 use plain_list::Items;
 use plane_sweep::Duo;
 use scalar_rule::{Plan, Record, is_recorded, recorded_epochs};
-use std::alloc::Global;
 
 /// A record of zeros.
 pub(crate) const NO_RECORD: Record = Record {
@@ -24,10 +23,6 @@ pub(crate) const NO_RECORD: Record = Record {
     first_replica: 0,
     second_replica: 0,
 };
-
-/// Room for the records of a slot at one epoch. It goes where the slot goes, so that nothing is copied but what
-/// goes to its row.
-pub(crate) type Page = Box<[Record; 64], Global>;
 
 /// Where the records of a slot at a recorded epoch go: `at` is the number of recorded epochs before it, times
 /// the samples.
@@ -77,56 +72,31 @@ pub(crate) struct SlotEpoch {
     pub(crate) epoch: u64,
 }
 
-/// Writes the records of a slot that is swept at an epoch, where it is recorded.
-pub(crate) fn record_slot(
-    records: &mut Items<Record>,
-    duo: &Duo,
-    sums: &Sums,
-    plan: &Plan,
-    origin: &Origin,
-    at: SlotEpoch,
-)
-    requires lawful { IsLawfulOrigin origin.now }
-    requires slot { at.slot < slots_in origin.now }
-    requires from { floor_in origin.now ≤ at.epoch }
-    requires below { at.epoch < origin.now.window.until }
-    requires duo { FitsDuo plan.now.size duo.now }
-    requires sums { AreSums plan.now duo.now sums.now }
-    requires sized { length records.old ≡ row_total origin.now }
-    ensures { RecordsAfter origin.now at.slot at.epoch (λ i. model.record_of plan.now i (part_slot plan.now.size i duo.now)) records.old records.new }
-{
-    if is_recorded(origin.window.every, at.epoch) {
-        let mut made = [NO_RECORD; 64];
-        fill_page(&mut made, duo, sums, plan, true);
-        put_records(records, &made, origin, at);
-    }
-}
-
 /// Writes the records of a slot in all samples, where they are wanted.
 pub(crate) fn fill_page(
     page: &mut [Record; 64],
     duo: &Duo,
-    sums: &Sums,
+    totals: &Totals,
     plan: &Plan,
     is_wanted: bool,
 )
     requires duo { FitsDuo plan.now.size duo.now }
-    requires sums { AreSums plan.now duo.now sums.now }
+    requires totals { AreTotals plan.now duo.now totals.now }
     ensures { is_wanted ≡ true → (b : ℕ) → b < 64 → record_at page.new b ≡ model.record_of plan.now b (part_slot plan.now.size b duo.now) }
 {
     if is_wanted {
-        make_page(page, duo, sums, plan);
+        make_page(page, duo, totals, plan);
     }
 }
 
 // The same, where they are wanted. Out of line, since its room is cleared when it is called.
 #[inline(never)]
-fn make_page(page: &mut [Record; 64], duo: &Duo, sums: &Sums, plan: &Plan)
+fn make_page(page: &mut [Record; 64], duo: &Duo, totals: &Totals, plan: &Plan)
     requires duo { FitsDuo plan.now.size duo.now }
-    requires sums { AreSums plan.now duo.now sums.now }
+    requires totals { AreTotals plan.now duo.now totals.now }
     ensures { (b : ℕ) → b < 64 → record_at page.new b ≡ model.record_of plan.now b (part_slot plan.now.size b duo.now) }
 {
-    let measured = measure(duo, sums, plan);
+    let measured = measure(duo, totals, plan);
     'samples: for b in 0..64u32 {
         page[b as usize] = record_of(duo, &measured, plan, b);
     }

@@ -1,7 +1,7 @@
 //! The sweeps of an epoch in all 64 samples, and the sums after them.
 
-ghost use Rattle.std.specs.Prelude.{◌≡◌, ℕ, ◌<◌, ◌≤◌, IfSome, slice_index};
-ghost use Rattle.exchange_board.specs.Totals.{AreSums, AreTotals, CountsAgreeing, Measures};
+ghost use Rattle.std.specs.Prelude.{◌≡◌, ℕ, ◌<◌, ◌≤◌, slice_index};
+ghost use Rattle.exchange_board.specs.Totals.{AreTotals, Measures};
 ghost use Rattle.multispin_word.specs.Planes.{number};
 ghost use Rattle.plane_sweep.specs.Packed.{part_copy, part_slot, FitsDuo};
 ghost use Rattle.scalar_rule.specs.Epoch as model;
@@ -23,22 +23,6 @@ pub struct Totals {
     pub second: Planes<20>,
 }
 
-/// What is summed of a slot after its sweeps: its totals, and the sites at which its replicas agree, 0
-/// to V for V sites, each where it was asked for.
-#[derive(Drop)]
-pub struct Sums {
-    pub totals: Option<Totals>,
-    pub agreeing: Option<Planes<20>>,
-}
-
-/// Which sums an epoch asks for. What is missing is counted when it is needed, so a slip here would
-/// cost time alone.
-#[derive(Clone, Copy)]
-pub(crate) struct Asked {
-    pub(crate) totals: bool,
-    pub(crate) agreeing: bool,
-}
-
 /// The totals of a slot, counted now.
 pub(crate) fn count_totals(duo: &Duo, plan: &Plan) -> Totals
     requires { FitsDuo plan.now.size duo.now }
@@ -48,85 +32,8 @@ pub(crate) fn count_totals(duo: &Duo, plan: &Plan) -> Totals
     Totals { first, second }
 }
 
-/// The totals of a slot: as they were summed, or else counted now.
-pub(crate) fn totals_of(duo: &Duo, sums: &Sums, plan: &Plan) -> Totals
-    requires duo { FitsDuo plan.now.size duo.now }
-    requires sums { AreSums plan.now duo.now sums.now }
-    ensures { AreTotals plan.now duo.now result }
-{
-    match &sums.totals {
-        Some(counted) => Totals {
-            first: Planes {
-                words: counted.first.words,
-            },
-            second: Planes {
-                words: counted.second.words,
-            },
-        },
-        None => count_totals(duo, plan),
-    }
-}
-
-/// The sites at which the replicas of a slot agree: as they were summed, or else counted now.
-pub(crate) fn agreeing_of(duo: &Duo, sums: &Sums, plan: &Plan) -> Planes<20>
-    requires duo { FitsDuo plan.now.size duo.now }
-    requires sums { AreSums plan.now duo.now sums.now }
-    ensures { CountsAgreeing plan.now.size duo.now result.words }
-{
-    let _ = plan.lattice();
-    match &sums.agreeing {
-        Some(counted) => Planes {
-            words: counted.words,
-        },
-        None => agreeing(&duo.first, &duo.second),
-    }
-}
-
-// The sites at which the replicas agree, where they are asked for.
-fn agreeing_if(is_asked: bool, duo: &Duo, plan: &Plan) -> Option<Planes<20>>
-    requires { FitsDuo plan.now.size duo.now }
-    ensures { IfSome result (λ sum. CountsAgreeing plan.now.size duo.now sum.words) }
-{
-    let _ = plan.lattice();
-    if is_asked {
-        Some(agreeing(&duo.first, &duo.second))
-    } else {
-        None
-    }
-}
-
-/// The sweeps of an epoch of both replicas of a slot, and the sums that are asked for.
-pub(crate) fn sweep_and_sum<R: Threads + Sync>(
-    rt: &R,
-    duo: &mut Duo,
-    plan: &Plan,
-    slot: u32,
-    pieces: u32,
-    asked: Asked,
-) -> Sums
-    requires duo { FitsDuo plan.now.size duo.old }
-    requires slot { slot < slots_of plan.now }
-    requires some_pieces { 1 ≤ pieces }
-    requires few_pieces { pieces ≤ 16 }
-    ensures swept { (b : ℕ) → b < 64 → part_slot plan.now.size b duo.new
-        ≡ model.swept_slot plan.now b slot (part_slot plan.now.size b duo.old) }
-    ensures fits { FitsDuo plan.now.size duo.new }
-    ensures sums { AreSums plan.now duo.new result }
-{
-    let totals = if asked.totals {
-        Some(sweep_and_total(rt, duo, plan, slot, pieces))
-    } else {
-        sweep_slot(rt, duo, plan, slot, pieces);
-        None
-    };
-    Sums {
-        totals,
-        agreeing: agreeing_if(asked.agreeing, duo, plan),
-    }
-}
-
-// The same with the totals alone.
-fn sweep_and_total<R: Threads + Sync>(
+/// The sweeps of an epoch of both replicas of a slot, and its totals after them.
+pub(crate) fn sweep_and_total<R: Threads + Sync>(
     rt: &R,
     duo: &mut Duo,
     plan: &Plan,
@@ -192,9 +99,15 @@ fn sweep_counting(duo: &mut Duo, plan: &Plan, slot: u32) -> Totals
     }
 }
 
-// The sweeps of an epoch of both replicas of a slot.
+/// The sweeps of an epoch of both replicas of a slot.
 #[tactic(auto, unfolding(scalar_rule::specs::Epoch::swept_slot))]
-fn sweep_slot<R: Threads + Sync>(rt: &R, duo: &mut Duo, plan: &Plan, slot: u32, pieces: u32)
+pub(crate) fn sweep_slot<R: Threads + Sync>(
+    rt: &R,
+    duo: &mut Duo,
+    plan: &Plan,
+    slot: u32,
+    pieces: u32,
+)
     requires duo { FitsDuo plan.now.size duo.old }
     requires slot { slot < slots_of plan.now }
     requires some_pieces { 1 ≤ pieces }
@@ -217,17 +130,16 @@ pub struct Measured {
 }
 
 /// The sums of a slot as numbers.
-pub(crate) fn measure(duo: &Duo, sums: &Sums, plan: &Plan) -> Measured
+pub(crate) fn measure(duo: &Duo, totals: &Totals, plan: &Plan) -> Measured
     requires duo { FitsDuo plan.now.size duo.now }
-    requires sums { AreSums plan.now duo.now sums.now }
+    requires totals { AreTotals plan.now duo.now totals.now }
     ensures { Measures plan.now duo.now result }
 {
-    let totals = totals_of(duo, sums, plan);
-    let agreeing = agreeing_of(duo, sums, plan);
+    let _ = plan.lattice();
     Measured {
         first: numbers(&totals.first),
         second: numbers(&totals.second),
-        agreeing: numbers(&agreeing),
+        agreeing: numbers(&agreeing(&duo.first, &duo.second)),
     }
 }
 

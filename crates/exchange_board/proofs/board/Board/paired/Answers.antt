@@ -1,6 +1,7 @@
 -- The colder slot is the low one, whichever of the two was handed out first.
 use Rattle.std.proofs.Common.{◌≡◌, ◌<◌, length, get_or, ◌∙◌, sym, ap₂, subst}
 use Rattle.scalar_rule.specs.Epoch.{has_turn}
+use Rattle.exchange_board.specs.JobKeeps.{job_view}
 use Rattle.exchange_board.specs.PairKeeps.{ArePartners}
 use Rattle.exchange_board.specs.Views.{JobView, BoardView, place_at, out_at}
 use Rattle.exchange_board.proofs.Pairing.{low-first, high-first, pair-made}
@@ -27,5 +28,10 @@ invariant_of-result c =
           let here : AreOut v (mate, job) = (first, c.requires.same.1, c.requires.known.0, rw c.requires.mate.1 c.requires.mate_out) in
           subst (AreOut v) (sym w.low-is) here
     ] in
-    let copied : c.copy-wheels.result ≡ get_or c.self.inside.pairs c.if-has_turn.low.0.slot c.copy-wheels.result = rw (c.copy-wheels.ensures, ← c.slot-2.ensures) c.at.ensures in
-    pair-made c.self.inside v _ c.self.invariant c.self.view_is out.0 out.1 out.2 out.3 copied
+    let low = c.low.inside in
+    let high = c.high.inside in
+    let first : AreOut v (c.if-has_turn.low.0, job_view high) = subst (λ (x : JobView). AreOut v (c.if-has_turn.low.0, x)) (sym c.high.view_is) out in
+    let both : AreOut v (job_view low, job_view high) = subst (λ (x : JobView). AreOut v (x, job_view high)) (sym c.low.view_is) first in
+    let copied : c.copy.result ≡ get_or c.self.inside.pairs low.slot c.copy.result = rw c.copy.ensures c.at.ensures in
+    rw c.deref_mut.ensures.value
+    (pair-made c.self.inside v low high c.copy.result c.self.invariant c.self.view_is c.low.invariant c.high.invariant both.0 both.1 both.2 both.3 copied)
