@@ -2,8 +2,9 @@
 """Holds docs/proofs.md to the sources.
 
 Each row of its tables names public calls and clauses, definitions, must-fail edits and tests. Each of these
-must exist in crates/, and each must-fail edit and each public call of crates/ must be named on the page. The
-benchmarks' crates and those of tests alone owe no rows for their calls.
+must exist in crates/, and each must-fail edit and each public call of crates/ must be named on the page. A
+definition that is named behind a file of specs/ must stand in that file; so must those of the tables of nouns
+and of laws. The benchmarks' crates and those of tests alone owe no rows for their calls.
 
 --self-test runs the tests of this tool.
 
@@ -12,7 +13,7 @@ import re
 import sys
 import tempfile
 from pathlib import Path
-from typing import Dict, Iterator, List, Set
+from typing import Dict, Iterator, List, Set, Tuple
 
 import source_check
 
@@ -22,8 +23,15 @@ WITHOUT_ROWS = re.compile(r"bench_\w+|glass|\w+_tests|table_agreement")
 WORD = re.compile(r"[A-Za-z_][A-Za-z0-9_]*")
 # Names of edits and tests are sentences: they have an underscore.
 SENTENCE = re.compile(r"[a-z0-9]+(?:_[a-z0-9]+)+")
+# What a file of specs/ defines: definitions and fields of records, and behind spaces the cases of types.
+DEFINED = re.compile(r"^ *(?:(?:abbrev |unfoldable )?pub (?:record |data )?| +(?=\w+ :))(\w+)", re.M)
+# A definition in backticks, a semicolon, or a word that may be a crate, a file or what is not the page's ("std's").
+NAMED = re.compile(r"`(?P<code>[^`]*)`|(?P<end>;)|(?P<word>[A-Za-z_][A-Za-z0-9_]*(?:'s)?)")
 # The columns of a row.
 PROMISE, CALLS, DEFINITIONS, EDITS, TESTS, SILENCE = range(6)
+# Of the other tables that name definitions: the heads of their columns, and the crate of a definition without one.
+OTHER_TABLES = {("the noun", "its definition"): (1, ""),
+                ("the law read aloud", "function", "statement", "what it doesn't say"): (2, "model_laws")}
 
 
 class Sources:
@@ -35,6 +43,8 @@ class Sources:
         self.tests: Set[str] = set()
         self.clauses: Set[str] = set()
         self.words: Set[str] = set()
+        self.files: Dict[Tuple[str, str], Set[str]] = {}
+        self.file_names: Set[str] = set()
         self.calls: Dict[str, Set[str]] = {}
         for crate in sorted(it for it in (root / "crates").iterdir() if it.is_dir()):
             self.crates.add(crate.name)
@@ -43,7 +53,10 @@ class Sources:
             for text in code.values():
                 self.read_code(text)
             for file in crate.glob("specs/**/*.antt"):
-                self.words |= set(WORD.findall(file.read_text(encoding="utf-8"))) | {file.stem}
+                specs = file.read_text(encoding="utf-8")
+                self.words |= set(WORD.findall(specs)) | {file.stem}
+                self.files[crate.name, file.stem] = set(DEFINED.findall(specs))
+                self.file_names.add(file.stem)
             self.words |= {it.stem for it in crate.glob("proofs/**/*.antt")}
             if not WITHOUT_ROWS.fullmatch(crate.name):
                 self.calls[crate.name] = public_calls(code)
@@ -77,12 +90,51 @@ def public_calls(code: Dict[Path, str]) -> Set[str]:
     return calls
 
 
+def cells_of(line: str) -> List[str]:
+    """The cells of a line of a table; none of another line."""
+    return [it.strip() for it in line.strip().split("|")[1:-1]]
+
+
 def rows_of(page: str) -> Iterator[List[str]]:
     """The rows of promises, by their cells."""
     for line in page.splitlines():
-        cells = [it.strip() for it in line.strip().split("|")[1:-1]]
+        cells = cells_of(line)
         if len(cells) == 6 and not set(line) <= set("|- ") and cells[PROMISE] != "promise":
             yield cells
+
+
+def others_of(page: str) -> Iterator[Tuple[str, str, str]]:
+    """Of each row of the other tables: its first cell, its definitions, and the crate of one that names none."""
+    column, crate = -1, ""
+    for line in page.splitlines():
+        cells = cells_of(line)
+        if not cells:
+            column = -1
+        elif tuple(cells) in OTHER_TABLES:
+            column, crate = OTHER_TABLES[tuple(cells)]
+        elif column >= 0 and not set(line) <= set("|- "):
+            yield cells[0], cells[column], crate
+
+
+def misplaced(cell: str, crate: str, ends: bool, has: Sources) -> Iterator[str]:
+    """What a cell names behind a file of specs/ that this file does not define. The crate is the one that stands in
+    front, or the given one; where a semicolon ends a file, it ends a crate too."""
+    at, file = crate, ""
+    for it in NAMED.finditer(cell):
+        if it["end"]:
+            at, file = (crate, "") if ends else (at, file)
+        elif it["code"] is not None:
+            if file and WORD.fullmatch(it["code"]) and it["code"] not in has.files[at, file]:
+                yield f"{at}/specs/{file}.antt does not define {it['code']}"
+        elif (at, it["word"]) in has.files:
+            file = it["word"]
+        elif it["word"] in has.crates:
+            at, file = it["word"], ""
+        elif it["word"].endswith("'s"):
+            file = ""
+        elif it["word"] in has.file_names:
+            file = ""
+            yield f"{at or 'no crate'} has no file specs/{it['word']}.antt"
 
 
 def without_asides(cell: str) -> str:
@@ -112,6 +164,8 @@ def faults_of_row(cells: List[str], has: Sources) -> Iterator[str]:
     for test in SENTENCE.findall(without_asides(cells[TESTS])):
         if test not in has.tests | has.crates:
             yield f"there is no test {test}"
+    first_call = re.match(r"`(\w+)::", cells[CALLS])
+    yield from misplaced(cells[DEFINITIONS], first_call[1] if first_call else "", True, has)
     if any(it in ("both", "same", "the same", "all") or it.startswith("all ") for it in cells[EDITS : TESTS + 1]):
         yield "edits or tests are not named but counted"
 
@@ -121,6 +175,8 @@ def differences(root: Path) -> List[str]:
     page = (root / PAGE).read_text(encoding="utf-8")
     has, named = Sources(root), set(re.findall(r"[A-Za-z0-9_]+", page))
     found = [f"{cells[PROMISE][:60]}: {it}" for cells in rows_of(page) for it in faults_of_row(cells, has)]
+    for first, cell, crate in others_of(page):
+        found += [f"{first[:60]}: {it}" for it in misplaced(cell, crate, False, has)]
     found += [f"the edit {it} is not named" for it in sorted(has.edits - named)]
     for crate, calls in has.calls.items():
         found += [f"the call {crate}::{it} is not named" for it in sorted(calls - named)]
@@ -130,14 +186,19 @@ def differences(root: Path) -> List[str]:
 def self_test() -> int:
     """Tests the tool on a small repository. Returns the exit status."""
     row = "| p | `c::f`: done | `sum` | wrong_sum | adds_two | time |\n"
+    nouns = row + "\n| the noun | its definition |\n|---|---|\n| n | c Sums `sum`; `one` |\n"
     with tempfile.TemporaryDirectory() as at:
         root = Path(at)
-        for folder in ("docs", "crates/c/src", "crates/c/specs", "crates/c/must-fail"):
+        for folder in ("docs", "crates/c/src", "crates/c/specs", "crates/c/must-fail", "crates/d/specs"):
             (root / folder).mkdir(parents=True)
         (root / "crates/c/src/lib.rt").write_text(
             "pub use adding::f;\npub fn f()\n    ensures done { true }\n{\n}\n#[test]\nfn adds_two() {\n}\n"
         )
-        (root / "crates/c/specs/Sums.antt").write_text("sum : N\n")
+        (root / "crates/c/specs/Sums.antt").write_text("abbrev pub sum : N\npub data M : Type 0 where\n  one : M\n")
+        (root / "crates/c/specs/Twice.antt").write_text(
+            "use Rattle.c.specs.Sums.{sum}\nmodule _ where\n  abbrev pub twice : N\n  twice = sum\n"
+        )
+        (root / "crates/d/specs/Others.antt").write_text("abbrev pub other : N\n")
         (root / "crates/c/must-fail/wrong_sum.edit").write_text("")
         cases = [
             (row, 0),
@@ -146,6 +207,13 @@ def self_test() -> int:
             (row.replace("done", "gone"), 1),
             (row.replace("`sum`", "`product`"), 1),
             (row.replace("c::f", "c").replace(": done", ""), 1),
+            (row.replace("`sum`", "Sums `sum`, `one`, Twice `twice`; d Others `other`"), 0),
+            (row.replace("`sum`", "Sums `sum`, Twice `twice`, `sum`"), 1),
+            (row.replace("`sum`", "d Others `other`, `sum`; Sums `sum`"), 1),
+            (row.replace("`sum`", "Others `other`"), 1),
+            (nouns, 0),
+            (nouns.replace("c Sums `sum`", "c Twice `sum`"), 2),
+            (nouns.replace("c Sums", "Sums"), 1),
         ]
         for page, count in cases:
             (root / PAGE).write_text(page)
