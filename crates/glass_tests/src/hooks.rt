@@ -1,8 +1,9 @@
-//! What the hook of a run sees of its slots.
+//! What the hook of a run sees of its slots and its workers.
 
 use crate::called::call_with_hook;
-use crate::checkpoints::two_slots;
+use crate::checkpoints::{RULES, two_slots};
 use crate::endings::{ended, holds};
+use crate::files::{RUN, changed, store};
 use crate::report::HOTTER_FIRST;
 use glass_edges::Gate;
 use std::sync::Wait;
@@ -41,4 +42,71 @@ fn enters_once<R: AllocGlobal + Threads + Wait + Sync>(rt: &R, line: &str) -> Re
 fn run_enters_its_hook_once_for_each_slot_and_epoch(rt: HostRuntime) -> Result<(), Fail> {
     enters_once(&rt, "run run.toml --workers 1")?;
     enters_once(&rt, "run run.toml --workers 2")
+}
+
+/// A hook whose first entry of two in each of four epochs returns only once the second came, or after so many
+/// looks. It counts the entries in each epoch, and those that the second missed; after one it waits no more.
+#[derive(Drop)]
+struct Meetings {
+    came: [AtomicU64; 4],
+    missed: AtomicU64,
+}
+
+impl Gate for Meetings {
+    fn enter(&self, _slot: u32, epoch: u64) {
+        let Some(came) = self.came.get(epoch as usize) else {
+            return;
+        };
+        // Banks go one after the other, so an odd number is that of a first entry.
+        let number = came.fetch_add(1, Ordering::SeqCst).wrapping_add(1);
+        if number % 2 == 0 || self.missed.load(Ordering::SeqCst) > 0 {
+            return;
+        }
+        for _ in 0..200000000u64 {
+            if came.load(Ordering::SeqCst) > number {
+                return;
+            }
+        }
+        self.missed.fetch_add(1, Ordering::SeqCst);
+    }
+}
+
+/// Meetings of which none was yet.
+fn no_meetings() -> Meetings {
+    Meetings {
+        came: [
+            AtomicU64::new(0),
+            AtomicU64::new(0),
+            AtomicU64::new(0),
+            AtomicU64::new(0),
+        ],
+        missed: AtomicU64::new(0),
+    }
+}
+
+// Fails where the two slots of a run by two workers do not meet in each of four epochs of each bank, with so
+// many entries in an epoch.
+fn meet_in_every_epoch<R: AllocGlobal + Threads + Wait + Sync>(
+    rt: &R,
+    samples: &str,
+    entries: u64,
+) -> Result<(), Fail> {
+    let gate = no_meetings();
+    let run = changed(rt, RUN, "samples = 1", samples)?;
+    let mut shelf = store(rt, run.as_str(), RULES, "4294967296\n")?;
+    let line = "run run.toml --workers 2 --until 4";
+    let called = call_with_hook(rt, line, &mut shelf, &gate)?;
+    holds(line, called.status == 0)?;
+    holds(samples, gate.missed.load(Ordering::SeqCst) == 0)?;
+    for came in &gate.came {
+        holds(samples, came.load(Ordering::SeqCst) == entries)?;
+    }
+    Ok(())
+}
+
+// One thread can't pass it, nor can a run that leaves an epoch of a bank to one thread.
+#[test]
+fn two_workers_overlap_in_every_epoch(rt: HostRuntime) -> Result<(), Fail> {
+    meet_in_every_epoch(&rt, "samples = 1", 2)?;
+    meet_in_every_epoch(&rt, "samples = 65", 4)
 }
