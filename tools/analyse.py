@@ -28,6 +28,7 @@ import sys
 from collections import namedtuple
 
 sys.dont_write_bytecode = True
+from exit_status import status_of  # noqa: E402
 from make_tables import OneLineParser, Refusal, add_temperatures, inverse_temperatures  # noqa: E402
 from report_plot import plot_text  # noqa: E402
 
@@ -379,4 +380,4 @@ def main(words=None):
 
 
 if __name__ == "__main__":
-    sys.exit(main())
+    sys.exit(status_of("analyse", main))

@@ -19,6 +19,8 @@ from itertools import product
 from pathlib import Path
 
 sys.dont_write_bytecode = True
+from analyse import read_each  # noqa: E402
+from exit_status import status_of  # noqa: E402
 from make_tables import Checks, OneLineParser, Refusal, outcome  # noqa: E402
 
 MOST_SLOTS, MOST_SAMPLES, MOST_TIMES, MOST_SWEEPS = 32, 64, 32, 1000000
@@ -130,15 +132,10 @@ def draw(texts, path):
 
 
 def run(options):
-    texts = []
-    for name in options.files or ["-"]:
-        if name == "-":
-            texts.append(AgedText("the standard input", sys.stdin.buffer))
-        else:
-            with open(name, "rb") as stream:
-                texts.append(AgedText(name, stream))
-        if texts[-1].kind != texts[0].kind:
-            raise Refusal(f"{name} is of another size, rule, or number of slots or samples")
+    texts = list(read_each(options.files, AgedText))
+    for text in texts:
+        if text.kind != texts[0].kind:
+            raise Refusal(f"{text.name} is of another size, rule, or number of slots or samples")
     print("\n".join(table(texts)))
     print(NOTE)
     if options.plot:
@@ -160,7 +157,7 @@ def main(words=None):
         if options.self_test:
             return self_test()
         run(options)
-    except (Refusal, OSError) as refusal:
+    except Refusal as refusal:
         print(f"correlations: {refusal}", file=sys.stderr)
         return 2
     return 0
@@ -236,4 +233,4 @@ def self_test():
 
 
 if __name__ == "__main__":
-    sys.exit(main())
+    sys.exit(status_of("correlations", main))

@@ -31,6 +31,7 @@ from fractions import Fraction
 from pathlib import Path
 
 sys.dont_write_bytecode = True
+from exit_status import status_of  # noqa: E402
 from make_tables import NUMBER, OneLineParser, Refusal  # noqa: E402
 
 try:
@@ -338,4 +339,4 @@ def main(words=None):
 
 
 if __name__ == "__main__":
-    sys.exit(main())
+    sys.exit(status_of("couplings", main))

@@ -17,6 +17,7 @@ import tempfile
 from pathlib import Path
 
 sys.dont_write_bytecode = True
+from exit_status import status_of  # noqa: E402
 from make_tables import SCALE, Checks, OneLineParser, Refusal, outcome, text_of, write_text  # noqa: E402
 
 SLOTS = 16
@@ -103,4 +104,4 @@ def self_test():
 
 
 if __name__ == "__main__":
-    sys.exit(main())
+    sys.exit(status_of("demo_tables", main))

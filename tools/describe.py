@@ -7,7 +7,8 @@ It knows checkpoints of all three kinds, couplings files, reports, what `glass a
 the folders of tools/long_run.py. Lengths and digests are computed, each line of a report is looked at, and of a
 folder each part is compared with its record and the report with the one that the parts make.
 
-Status 0 where all are whole, 1 where one is damaged or unknown, 2 for wrong words or what can't be read.
+Status 0 where all are whole, 1 where one is damaged or unknown, 2 for wrong words or what can't be read, 9 where the
+output fails.
 """
 from __future__ import annotations
 
@@ -26,6 +27,7 @@ from typing import List, Optional, Sequence
 sys.dont_write_bytecode = True
 from analyse import Report  # noqa: E402
 from couplings import couplings_of, file_bytes  # noqa: E402
+from exit_status import status_of  # noqa: E402
 from jackknife import SumsFile  # noqa: E402
 from long_run_folder import Fault, RunFolder, digest_of, read_keys  # noqa: E402
 from long_run_report import check_reports, write_joined  # noqa: E402
@@ -193,6 +195,8 @@ def tell(path: Path) -> bool:
         facts, end, whole = damaged.facts, f"not whole: {damaged}", False
     except (Refusal, Fault) as refusal:
         facts, end, whole = [], f"not whole: {refusal}", False
+    except OSError as fault:
+        raise Refusal(f"{path} can't be read: {fault.strerror}") from None
     print(f"{path}: {facts[0] if facts else end}")
     for fact in facts[1:] + ([end] if facts else []):
         print(LINE + fact)
@@ -276,10 +280,8 @@ def main(words: Optional[Sequence[str]] = None) -> int:
         return 0 if all([tell(Path(name)) for name in options.files]) else 1
     except Refusal as refusal:
         print(f"describe: {refusal}", file=sys.stderr)
-    except OSError as fault:
-        print(f"describe: {fault.filename}: {fault.strerror}", file=sys.stderr)
-    return 2
+        return 2
 
 
 if __name__ == "__main__":
-    sys.exit(main())
+    sys.exit(status_of("describe", main))

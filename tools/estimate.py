@@ -31,6 +31,7 @@ import sys
 from typing import Callable, Dict, List, Optional, Sequence
 
 sys.dont_write_bytecode = True
+from exit_status import status_of  # noqa: E402
 from make_tables import OneLineParser, Refusal, add_temperatures, inverse_temperatures  # noqa: E402
 
 NEEDED = "numpy, scipy and matplotlib are needed: sudo apt-get install python3-numpy python3-scipy python3-matplotlib"
@@ -246,4 +247,4 @@ def main(words: Optional[Sequence[str]] = None) -> int:
 
 
 if __name__ == "__main__":
-    sys.exit(main())
+    sys.exit(status_of("estimate", main))

@@ -29,6 +29,7 @@ from fractions import Fraction
 
 sys.dont_write_bytecode = True
 from analyse import LONGEST_LINE, Report, read_each, spelled  # noqa: E402
+from exit_status import status_of  # noqa: E402
 from make_tables import OneLineParser, Refusal, add_temperatures, inverse_temperatures  # noqa: E402
 
 # The number of rows, and the sums over them of both energies, of the squared overlap and of its square.
@@ -229,4 +230,4 @@ def main(words=None):
 
 
 if __name__ == "__main__":
-    sys.exit(main())
+    sys.exit(status_of("jackknife", main))

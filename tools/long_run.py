@@ -27,15 +27,15 @@ from long_run_stop import Stop  # noqa: E402
 STOP = Stop().install() if __name__ == "__main__" and sys.argv[1:2] == ["run"] else Stop()
 
 import argparse  # noqa: E402
-import contextlib  # noqa: E402
 import os  # noqa: E402
 import re  # noqa: E402
 import shutil  # noqa: E402
 from pathlib import Path  # noqa: E402
-from typing import Iterator, Optional, Sequence  # noqa: E402
+from typing import Optional, Sequence  # noqa: E402
 
+from exit_status import NotWritten, output, status_of  # noqa: E402
 from long_run_driver import Driver, Options  # noqa: E402
-from long_run_folder import NOT_HELD, NOT_WRITTEN, STOPPED, Fault, RunFolder  # noqa: E402
+from long_run_folder import NOT_HELD, STOPPED, Fault, RunFolder  # noqa: E402
 from long_run_report import check_reports, place_joined, write_joined  # noqa: E402
 from long_run_states import Progress, print_states, print_unfinished  # noqa: E402
 from make_tables import OneLineParser, Refusal  # noqa: E402
@@ -81,22 +81,6 @@ def number(least: int, most: int):  # type: ignore[no-untyped-def]
 # ---------------------------------------------------------------- commands
 
 
-@contextlib.contextmanager
-def output(what: str) -> Iterator[None]:
-    """Tells that the standard output failed, also where that shows only as the last of it goes out."""
-    try:
-        yield
-        print(end="", flush=True)
-    except OSError as fault:
-        if fault.filename is not None:
-            raise
-        # Python puts what is left once more as it ends, and would tell that too.
-        os.dup2(os.open(os.devnull, os.O_WRONLY), sys.stdout.fileno())
-        if isinstance(fault, BrokenPipeError):
-            raise
-        raise Fault(NOT_WRITTEN, f"writing {what} failed: {fault.strerror}") from None
-
-
 def run(options: argparse.Namespace) -> int:
     folder = RunFolder(options.folder)
     if not folder.run_file.is_file():
@@ -129,7 +113,7 @@ def join(options: argparse.Namespace) -> int:
     else:
         check_reports(folder, chain)
         if sys.stdout is None:
-            raise Fault(NOT_WRITTEN, "writing the report failed: the standard output is closed")
+            raise NotWritten("writing the report failed: the standard output is closed")
         with output("the report"):
             write_joined(folder, chain, sys.stdout.buffer)
     return 0
@@ -188,10 +172,7 @@ def main(words: Optional[Sequence[str]] = None) -> int:
         line = str(fault)
         print(line if line.startswith("glass: ") else f"long_run: {line}", file=sys.stderr)
         return fault.status
-    except BrokenPipeError:
-        # Who reads no further wants no line.
-        return NOT_WRITTEN
 
 
 if __name__ == "__main__":
-    sys.exit(main())
+    sys.exit(status_of("long_run", main))

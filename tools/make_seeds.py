@@ -24,6 +24,7 @@ from pathlib import Path
 from typing import List, Optional, Sequence, Tuple
 
 sys.dont_write_bytecode = True
+from exit_status import status_of  # noqa: E402
 from long_run_folder import Fault, Value, read_keys  # noqa: E402
 from make_tables import Checks, OneLineParser, Refusal, outcome  # noqa: E402
 
@@ -174,4 +175,4 @@ def main(words: Optional[Sequence[str]] = None) -> int:
 
 
 if __name__ == "__main__":
-    sys.exit(main())
+    sys.exit(status_of("make_seeds", main))

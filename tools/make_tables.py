@@ -31,7 +31,7 @@ from decimal import ROUND_HALF_EVEN, ROUND_HALF_UP, Context, Decimal, localconte
 from fractions import Fraction
 from pathlib import Path
 
-# A range imports a module, of which an installed tool leaves no bytecode.
+# An installed tool leaves no bytecode of the modules that it imports.
 sys.dont_write_bytecode = True
 
 SCALE = 2 ** 32
@@ -390,4 +390,5 @@ def test_ranges(checks, folder, files):
 
 
 if __name__ == "__main__":
-    sys.exit(main())
+    from exit_status import status_of
+    sys.exit(status_of("make_tables", main))

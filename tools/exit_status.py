@@ -1,0 +1,98 @@
+"""The exit status of a tool, also where its output fails, memory is wanting or it is interrupted.
+
+    python3 tools/exit_status.py --self-test       ends each tool so
+"""
+from __future__ import annotations
+
+import contextlib
+import os
+import signal
+import subprocess
+import sys
+from pathlib import Path
+from typing import Callable, Iterator, Tuple
+
+# Those of `glass`.
+NOT_WRITTEN, NO_MEMORY = 9, 11
+
+
+class NotWritten(Exception):
+    """The standard output failed; the text is the one line that is told."""
+
+
+@contextlib.contextmanager
+def output(what: str) -> Iterator[None]:
+    """Tells that the standard output failed, also where that shows only as the last of it goes out."""
+    try:
+        try:
+            yield
+        finally:
+            if sys.stdout is not None:
+                sys.stdout.flush()
+    except OSError as fault:
+        if fault.filename is not None or sys.stdout is None:
+            raise
+        # Python puts what is left once more as it ends, and would tell that too.
+        os.dup2(os.open(os.devnull, os.O_WRONLY), sys.stdout.fileno())
+        if isinstance(fault, BrokenPipeError):
+            raise
+        raise NotWritten(f"writing {what} failed: {fault.strerror}") from None
+
+
+def status_of(name: str, main: Callable[[], int]) -> int:
+    """What `main` answers, or the status of what ended it before."""
+    try:
+        with output("the text"):
+            return main()
+    except NotWritten as fault:
+        print(f"{name}: {fault}", file=sys.stderr)
+        return NOT_WRITTEN
+    except BrokenPipeError:
+        # Who reads no further wants no line.
+        return NOT_WRITTEN
+    except MemoryError:
+        print(f"{name}: no memory", file=sys.stderr)
+        return NO_MEMORY
+    except KeyboardInterrupt:
+        # A shell's loop ends where its command was ended by the signal itself.
+        signal.signal(signal.SIGINT, signal.SIG_DFL)
+        os.kill(os.getpid(), signal.SIGINT)
+        raise
+
+
+# ---------------------------------------------------------------- the self-test
+
+TOOLS = ("analyse", "correlations", "couplings", "demo_tables", "describe", "estimate", "jackknife", "long_run", "make_seeds",
+         "make_tables")
+
+
+def ended(words: Tuple[str, ...], out: int) -> Tuple[int, str]:
+    """Status and error output of Python with these words, whose output is an open file."""
+    buffered = {name: value for name, value in os.environ.items() if name != "PYTHONUNBUFFERED"}
+    ran = subprocess.run([sys.executable, *words], stdout=out, stderr=subprocess.PIPE, universal_newlines=True, check=False,
+                         env=buffered, cwd=Path(__file__).resolve().parent)
+    return ran.returncode, ran.stderr
+
+
+def self_test() -> int:
+    from make_tables import Checks
+    checks = Checks("exit_status")
+    reader, closed = os.pipe()
+    os.close(reader)
+    full = os.open("/dev/full", os.O_WRONLY) if os.path.exists("/dev/full") else None
+    for tool in TOOLS:
+        checks.same(f"{tool} into a closed pipe", ended((f"{tool}.py", "--help"), closed), (NOT_WRITTEN, ""))
+        if full is not None:
+            wanted = NOT_WRITTEN, f"{tool}: writing the text failed: No space left on device\n"
+            checks.same(f"{tool} into a full device", ended((f"{tool}.py", "--help"), full), wanted)
+    for cause, wanted in (("MemoryError", (NO_MEMORY, "x: no memory\n")), ("KeyboardInterrupt", (-signal.SIGINT, ""))):
+        program = f"def main(): raise {cause}\nimport sys, exit_status\nsys.exit(exit_status.status_of('x', main))"
+        checks.same(cause, ended(("-c", program), subprocess.DEVNULL), wanted)
+    return checks.end()
+
+
+if __name__ == "__main__":
+    if sys.argv[1:] == ["--self-test"]:
+        sys.exit(self_test())
+    print(__doc__)
+    sys.exit(0 if sys.argv[1:] == ["--help"] else 2)
