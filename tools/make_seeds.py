@@ -21,7 +21,7 @@ import shutil
 import sys
 import tempfile
 from pathlib import Path
-from typing import List, Optional, Sequence, Tuple
+from typing import Dict, List, Optional, Sequence, Tuple
 
 sys.dont_write_bytecode = True
 from exit_status import status_of  # noqa: E402
@@ -65,15 +65,36 @@ def tasks(options: argparse.Namespace, base: int) -> List[Tuple[int, int, Option
     return found
 
 
+def check_sources(template: Path, keys: Dict[str, Value], couplings: Sequence[str]) -> None:
+    """Each file that the folders take is there, and the template's lie beside it."""
+    own = str(keys["couplings"])
+    named = [str(keys["rules"]), str(keys["swaps"])] + ([own[5:]] if own.startswith("file:") and not couplings else [])
+    for name in named:
+        if os.path.basename(name) != name:
+            raise Refusal(f"{template} names {name}, which is in another folder")
+    for path in [template.parent / name for name in named] + [Path(name) for name in couplings]:
+        if not path.is_file():
+            raise Refusal(f"there is no file {path}")
+
+
 def make_folder(path: Path, template: Path, seed: int, couplings: Optional[Path]) -> None:
-    """A folder of a run, checked by reading its run file again."""
+    """A folder of a run, which is there whole or not at all."""
+    path.mkdir()
+    try:
+        fill(path, template, seed, couplings)
+    except BaseException:
+        shutil.rmtree(path, ignore_errors=True)
+        raise
+
+
+def fill(path: Path, template: Path, seed: int, couplings: Optional[Path]) -> None:
+    """Writes the files of a run, and checks its run file by reading it again."""
     keys = read_keys(template)
     text = with_value(template.read_text(encoding="utf-8"), "seed", seed)
     wanted = dict(keys, seed=seed)
     if couplings is not None:
         wanted["couplings"] = f"file:{couplings.name}"
         text = with_value(text, "couplings", wanted["couplings"])
-    path.mkdir()
     (path / "run.toml").write_text(text, encoding="utf-8")
     if read_keys(path / "run.toml") != wanted:
         raise Refusal(f"{template} has a line that isn't plain: another key would change with the seed")
@@ -85,16 +106,8 @@ def make_folder(path: Path, template: Path, seed: int, couplings: Optional[Path]
         place(source, path / source.name, link=True)
 
 
-def make(options: argparse.Namespace) -> None:
-    template, into = Path(options.template), Path(options.into)
-    keys = read_keys(template)
-    for name in (str(keys["rules"]), str(keys["swaps"])):
-        if os.path.basename(name) != name:
-            raise Refusal(f"{template} names {name}, which is in another folder")
-    found = tasks(options, int(keys["seed"]))
-    taken = [number for number, _, _ in found if (into / f"seed-{number:04d}").exists()]
-    if taken:
-        raise Refusal(f"{into / f'seed-{taken[0]:04d}'} is there: give --first a number above it")
+def write_folders(into: Path, template: Path, found: Sequence[Tuple[int, int, Optional[Path]]], own: str) -> None:
+    """The folders, and a line of the index for each; `own` is what the template says of couplings."""
     into.mkdir(parents=True, exist_ok=True)
     index = into / INDEX
     is_new = not index.exists()
@@ -103,7 +116,23 @@ def make(options: argparse.Namespace) -> None:
             lines.write("number,folder,seed,couplings\n")
         for number, seed, couplings in found:
             make_folder(into / f"seed-{number:04d}", template, seed, couplings)
-            lines.write(f"{number},seed-{number:04d},{seed},{couplings.name if couplings else keys['couplings']}\n")
+            lines.write(f"{number},seed-{number:04d},{seed},{couplings.name if couplings else own}\n")
+
+
+def make(options: argparse.Namespace) -> None:
+    template, into = Path(options.template), Path(options.into)
+    keys = read_keys(template)
+    check_sources(template, keys, options.couplings or [])
+    if type(keys["seed"]) is not int:
+        raise Refusal(f"{template}: seed is no whole number: {keys['seed']!r}")
+    found = tasks(options, keys["seed"])
+    taken = [number for number, _, _ in found if (into / f"seed-{number:04d}").exists()]
+    if taken:
+        raise Refusal(f"{into / f'seed-{taken[0]:04d}'} is there: give --first a number above it")
+    try:
+        write_folders(into, template, found, str(keys["couplings"]))
+    except OSError as fault:
+        raise Refusal(f"{into} can't be written: {fault.strerror}") from None
     print(f"wrote {len(found)} folders, {into}/seed-{found[0][0]:04d} to seed-{found[-1][0]:04d}, "
           f"seeds {found[0][1]} to {found[-1][1]}")
 
@@ -123,6 +152,25 @@ every = 1
 start = "up"
 spins = false
 """
+
+
+def check_refusals(checks: Checks, folder: Path) -> None:
+    """Each is told in a line, and leaves no folder."""
+    template, into = folder / "run.toml", folder / "refused"
+    cases = [("1000 # the base", '"x"', []), ("rules.csv", "none.csv", []), ("rules.csv", "../rules.csv", []),
+             ('"random"', '"file:none"', []), ('"random"', '"file:sub/a"', []), ("", "", ["--couplings", str(folder / "none")]),
+             ("", "", ["--couplings", str(folder)]), ("1000 # the base", '"""\n7"""', [])]
+    for old, new, words in cases:
+        template.write_text(TEMPLATE.replace(old, new))
+        status, out, err = outcome([str(template), "--into", str(into), *words], main)
+        checks.same(f"{new or words} is refused in a line", (status, out, err.count("\n"), into.exists()), (2, "", 1, False))
+    template.write_text(TEMPLATE)
+    status, out, err = outcome([str(template), "--into", str(template)], main)
+    checks.same("no folder to write in", (status, out, err.count("\n")), (2, "", 1))
+    # What looks like the seed's line stands in another key, so the folder's run file is not the template's.
+    template.write_text(TEMPLATE.replace("seed = 1000 # the base", '"seed" = 5').replace('"up"', '"""\nseed = 1\n"""'))
+    found = outcome([str(template), "--into", str(into)], main)
+    checks.same("a folder that was begun is gone", (found[0], found[2].count("\n"), list(into.glob("seed-*"))), (2, 1, []))
 
 
 def self_test() -> int:
@@ -146,6 +194,7 @@ def self_test() -> int:
         checks.same("the index", (into / INDEX).read_text().splitlines()[-1], "6,seed-0006,1006,b")
         (folder / "run.toml").write_text(TEMPLATE.replace("seed = 1000 # the base", '"seed" = 1000'))
         checks.same("no plain line", outcome([*words, "--first", "7"], main)[0], 2)
+        check_refusals(checks, folder)
     return checks.end()
 
 
@@ -167,9 +216,6 @@ def main(words: Optional[Sequence[str]] = None) -> int:
         make(options)
     except (Refusal, Fault) as refusal:
         print(f"make_seeds: {refusal}", file=sys.stderr)
-        return 2
-    except OSError as fault:
-        print(f"make_seeds: {fault.filename}: {fault.strerror}", file=sys.stderr)
         return 2
     return 0
 
