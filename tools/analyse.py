@@ -308,7 +308,9 @@ def decimals(texts, slots):
         values = [float(text) for text in texts]
     except ValueError:
         raise Refusal("an exact energy is no number") from None
-    if len(values) != slots or not all(map(math.isfinite, values)):
+    if not all(map(math.isfinite, values)):
+        raise Refusal("an exact energy is no number")
+    if len(values) != slots:
         raise Refusal(f"{len(values)} exact energies, and the report has {slots} slots")
     return values
 

@@ -170,6 +170,8 @@ def check_words(checks, caller, report):
                   ["--plot", str(caller.folder)]):
         status, out, err = caller.call([report], *words)
         checks.same(f"{words} is refused in a line", (status, err.count("\n"), err[:9]), (2, 1, "analyse: "))
+    checks.same("a word that is no number", caller.call([report], "--exact", "1", "2", "nan")[2],
+                "analyse: an exact energy is no number\n")
     picture = caller.folder / "report.svg"
     status, out, err = caller.call([report], "--plot", str(picture), "--temperatures", "1", "1.5", "2",
                                    "--exact", "-1", "-1", "-1")
