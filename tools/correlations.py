@@ -125,7 +125,8 @@ def draw(texts, path):
     axes.legend(frameon=False)
     figure.tight_layout()
     try:
-        figure.savefig(path, dpi=150)
+        # With a format the name is taken as it stands, also one without an ending.
+        figure.savefig(path, dpi=150, format=Path(path).suffix[1:] or "png")
     except (OSError, ValueError) as fault:
         raise Refusal(f"{path} can't be written: {fault}") from None
     return f"wrote {path}"
@@ -205,7 +206,7 @@ def check_words(checks, path):
     for words in ([str(path) + "x"], [str(path), str(other)], ["--what"]):
         status, out, err = outcome(words, main)
         checks.same(f"{words} is refused in a line", (status, out, err.count("\n")), (2, "", 1))
-    for picture in ("x.what", "none/x.png"):
+    for picture in ("x.what", "none/x.png", "."):
         status, out, err = outcome([str(path), "--plot", str(path.parent / picture)], main)
         drawn = "matplotlib is missing" not in out
         checks.same(f"a plot {picture}", (status, err.count("\n")), (2, 1) if drawn else (0, 0))

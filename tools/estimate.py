@@ -50,7 +50,7 @@ class Slots:
             raise Refusal("of several files each is a block: --blocks is for one")
         if betas and len(betas) != slots:
             raise Refusal(f"{len(betas)} temperatures, and there are {slots} slots")
-        self.head = "beta" if options.betas else "T"
+        self.head = "beta" if options.betas else "T" if options.temperatures else ""
         self.names: List[str] = options.betas or options.temperatures or [""] * slots
         self.across = [float(name) for name in self.names] if betas else list(range(slots))
         self.axis = ("inverse temperature" if options.betas else "temperature") if betas else "slot"

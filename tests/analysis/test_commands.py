@@ -1,4 +1,8 @@
 """The command line of tools/estimate.py."""
+import subprocess
+import sys
+from pathlib import Path
+
 import analyse
 import estimate
 import pytest
@@ -58,6 +62,20 @@ def test_a_figure_and_a_table_of_lengths(tmp_path):
 def test_the_two_kinds_of_files_are_not_taken_for_each_other(reports, tmp_path):
     (tmp_path / "lines.txt").write_text(text_of(true_lines(1)[0]))
     assert call("lengths", reports / "1.txt")[0] == 2 and call("means", tmp_path / "lines.txt")[0] == 2
+
+
+def test_a_figure_has_the_name_that_is_told(reports):
+    picture = reports / "without_ending"
+    status, out, _ = call("means", reports / "1.txt", "--plot", picture)
+    assert status == 0 and f"wrote {picture}\n" in out and picture.read_bytes()[:4] == b"\x89PNG"
+
+
+@pytest.mark.skipif(not Path("/dev/full").exists(), reason="there is no full device")
+@pytest.mark.parametrize("kind", ["npz", "csv"])
+def test_arrays_on_a_full_disk_are_told_in_a_line(reports, kind):
+    words = [sys.executable, estimate.__file__, "export", reports / "1.txt", f"--{kind}", "/dev/full"]
+    ran = subprocess.run(words, stdout=subprocess.DEVNULL, stderr=subprocess.PIPE, universal_newlines=True, check=False)
+    assert (ran.returncode, ran.stderr) == (2, "estimate: /dev/full can't be written: No space left on device\n")
 
 
 @pytest.mark.parametrize("words", [["means", "none/such"], ["means", "--betas", "1", "1.txt"], ["what", "1.txt"], [],

@@ -1,6 +1,9 @@
 """The arrays of a report for other programs."""
 from __future__ import annotations
 
+import io
+from pathlib import Path
+
 import numpy as np
 
 from make_tables import Refusal
@@ -12,11 +15,12 @@ HEAD = "epoch,sample,slot,energy_0,energy_1,overlap,label_0,label_1"
 
 def write_npz(name: str, records: Records) -> None:
     """Arrays `epochs`, `energies`, `overlaps`, `labels`, and the numbers of the header, for numpy.load."""
+    # An archive whose file fails tries once more as it goes, and Python would tell that too.
+    arrays = io.BytesIO()
+    np.savez_compressed(arrays, size=records.size, rule=records.rule, first=records.first, until=records.until,
+                        epochs=records.epochs, energies=records.energies, overlaps=records.overlaps, labels=records.labels)
     try:
-        with open(name, "wb") as out:
-            np.savez_compressed(out, size=records.size, rule=records.rule, first=records.first, until=records.until,
-                                epochs=records.epochs, energies=records.energies, overlaps=records.overlaps,
-                                labels=records.labels)
+        Path(name).write_bytes(arrays.getbuffer())
     except OSError as fault:
         raise Refusal(f"{name} can't be written: {fault.strerror}") from None
 

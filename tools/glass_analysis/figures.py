@@ -1,6 +1,7 @@
 """Figures of estimates, by matplotlib without a display."""
 from __future__ import annotations
 
+from pathlib import Path
 from typing import Optional, Sequence, Tuple
 
 import matplotlib
@@ -24,9 +25,9 @@ MARKS = {"marker": "o", "markersize": 3, "capsize": 2, "linewidth": 0.8}
 
 
 def save(name: str, figure: Figure) -> None:
-    """Writes a figure in the format that the name ends with."""
+    """Writes a figure under exactly this name, in the format that it ends with, else as PNG."""
     try:
-        figure.savefig(name, dpi=90)
+        figure.savefig(name, dpi=90, format=Path(name).suffix[1:] or "png")
     except (OSError, ValueError) as fault:
         raise Refusal(f"{name} can't be written: {fault}") from None
     plt.close(figure)
