@@ -115,8 +115,10 @@ def read_text(path: Path) -> str:
         return path.read_bytes().decode("utf-8-sig")
     except FileNotFoundError:
         raise Fault(NOT_HELD, f"{path} is not there") from None
-    except (OSError, UnicodeDecodeError) as fault:
-        raise Fault(UNREADABLE, f"{path} can't be read: {fault}") from None
+    except OSError as fault:
+        raise Fault(UNREADABLE, f"{path} can't be read: {fault.strerror}") from None
+    except UnicodeDecodeError:
+        raise Fault(UNREADABLE, f"{path} is no text of UTF-8") from None
 
 
 def plain_keys(name: str, text: str) -> Dict[str, Value]:

@@ -12,7 +12,7 @@ from pathlib import Path
 from typing import List, Optional, Sequence
 
 from long_run_driver import Driver, moved
-from long_run_folder import Fault, Record, RunFolder, read_keys
+from long_run_folder import REFUSED, Fault, Record, RunFolder, read_keys
 from long_run_report import header_of, is_joined
 
 SHOW_SECONDS = 1.0
@@ -88,16 +88,19 @@ def is_held(folder: RunFolder) -> bool:
 
 def state_of(folder: RunFolder) -> State:
     try:
-        epochs = int(read_keys(folder.run_file)["epochs"])
+        epochs = read_keys(folder.run_file)["epochs"]
+        if type(epochs) is not int:
+            raise Fault(REFUSED, f"{folder.run_file}: epochs is no whole number: {epochs!r}")
         last = folder.last_record()
-    except (Fault, ValueError) as fault:
+        if last is None:
+            return State("running" if is_held(folder) else "new", epochs=epochs)
+        part = folder.part(last.first)
+        # A driver may set the part aside meanwhile.
+        age = time.time() - os.stat(part / "record.json").st_mtime
+    except (Fault, OSError) as fault:
         return State("unreadable", str(fault))
-    if last is None:
-        return State("running" if is_held(folder) else "new", epochs=epochs)
-    part = folder.part(last.first)
     header = header_of(part / "report")
     slots = int(re.findall(rb"slots=([0-9]+)", header[0])[0]) if header else 0
-    age = time.time() - os.stat(part / "record.json").st_mtime
     word = ("done" if is_joined(folder, epochs) and last.until == epochs else "running" if is_held(folder)
             else "stop set" if folder.stop_file.exists() else "stopped")
     return State(word, "", last.until, epochs, last, slots, age)

@@ -1,6 +1,8 @@
 """The self-test of long_run.py, with a program that stands in for `glass` (long_run_stand_in.py)."""
 from __future__ import annotations
 
+import contextlib
+import io
 import signal
 import subprocess
 import sys
@@ -11,7 +13,7 @@ from typing import List, Tuple
 import long_run_folder
 from long_run_driver import GREATEST_ROWS, Options, Pace, Plan, most_until, part_length
 from long_run_folder import Fault, plain_keys, read_keys
-from long_run_states import duration, index_of, ranges
+from long_run_states import duration, index_of, print_states, ranges
 from make_tables import Checks
 
 TOOLS = Path(__file__).resolve().parent
@@ -135,6 +137,19 @@ def check_end(checks: Checks, case: Case) -> None:
     checks.same("a longer run", (case.call(), case.is_one_run()), ((0, ""), True))
 
 
+def check_states(checks: Checks, case: Case) -> None:
+    """A folder that can't be read has a line like the others."""
+    (case.path / "run.toml").unlink()
+    for text, told in ((None, "is not there"), (RUN_FILE.replace("epochs = 40", 'epochs = "40"'), "epochs is no whole number"),
+                       (RUN_FILE.replace("epochs = 40", "epochs = true"), "epochs is no whole number"),
+                       (RUN_FILE.replace("epochs", "epoch"), "has no key epochs"), ("size = 4 \xe9", "is no text of UTF-8")):
+        if text is not None:
+            (case.path / "run.toml").write_text(text, encoding="latin-1")
+        with contextlib.redirect_stdout(io.StringIO()) as out:
+            are_done = print_states([str(case.path)])
+        checks.same(f"a state: {told}", (are_done, told in out.getvalue().splitlines()[1]), (False, True))
+
+
 def check_output(checks: Checks, case: Case) -> None:
     """An output that takes nothing is told in a line, and what the parts are stays."""
     checks.same("a run", case.call(), (0, ""))
@@ -204,6 +219,6 @@ def self_test() -> int:
     with tempfile.TemporaryDirectory() as name:
         folder = Path(name)
         check_run_file(checks, folder)
-        for number, check in enumerate((check_end, check_output, check_other_run, check_troubles, check_damage)):
+        for number, check in enumerate((check_end, check_states, check_output, check_other_run, check_troubles, check_damage)):
             check(checks, Case(folder / f"case-{number}"))
     return checks.end()
