@@ -10,8 +10,11 @@ import signal
 import subprocess
 import sys
 from pathlib import Path
-from typing import Callable, Iterator, Tuple
+from typing import Callable, Iterator, List, Optional, Tuple
 
+from make_tables import Checks, Refusal
+
+REFUSED = 2
 # Those of `glass`.
 NOT_WRITTEN, NO_MEMORY = 9, 11
 
@@ -44,6 +47,9 @@ def status_of(name: str, main: Callable[[], int]) -> int:
     try:
         with output("the text"):
             return main()
+    except Refusal as refusal:
+        print(f"{name}: {refusal}", file=sys.stderr)
+        return REFUSED
     except NotWritten as fault:
         print(f"{name}: {fault}", file=sys.stderr)
         return NOT_WRITTEN
@@ -58,6 +64,17 @@ def status_of(name: str, main: Callable[[], int]) -> int:
         signal.signal(signal.SIGINT, signal.SIG_DFL)
         os.kill(os.getpid(), signal.SIGINT)
         raise
+
+
+def status_of_study(about: Optional[str], main: Callable[[List[str]], int]) -> int:
+    """The same of a script of the examples, which takes words or tells what it is about."""
+    def answer() -> int:
+        if sys.argv[1:] != ["--help"]:
+            return main(sys.argv[1:])
+        print(about)
+        return 0
+
+    return status_of(Path(sys.argv[0]).stem, answer)
 
 
 # ---------------------------------------------------------------- the self-test
@@ -75,7 +92,6 @@ def ended(words: Tuple[str, ...], out: int) -> Tuple[int, str]:
 
 
 def self_test() -> int:
-    from make_tables import Checks
     checks = Checks("exit_status")
     reader, closed = os.pipe()
     os.close(reader)
@@ -85,8 +101,10 @@ def self_test() -> int:
         if full is not None:
             wanted = NOT_WRITTEN, f"{tool}: writing the text failed: No space left on device\n"
             checks.same(f"{tool} into a full device", ended((f"{tool}.py", "--help"), full), wanted)
-    for cause, wanted in (("MemoryError", (NO_MEMORY, "x: no memory\n")), ("KeyboardInterrupt", (-signal.SIGINT, ""))):
-        program = f"def main(): raise {cause}\nimport sys, exit_status\nsys.exit(exit_status.status_of('x', main))"
+    causes = {"make_tables.Refusal('wrong')": (REFUSED, "x: wrong\n"), "MemoryError": (NO_MEMORY, "x: no memory\n"),
+              "KeyboardInterrupt": (-signal.SIGINT, "")}
+    for cause, wanted in causes.items():
+        program = f"def main(): raise {cause}\nimport make_tables, sys, exit_status\nsys.exit(exit_status.status_of('x', main))"
         checks.same(cause, ended(("-c", program), subprocess.DEVNULL), wanted)
     return checks.end()
 

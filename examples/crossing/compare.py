@@ -17,10 +17,12 @@ sys.path.insert(0, str(here.parent.parent / "tools"))
 import numpy as np  # noqa: E402
 from numpy.typing import NDArray  # noqa: E402
 
+from exit_status import status_of_study  # noqa: E402
 from glass_analysis import Estimate, binder, doubling_bins, jackknife, moments, read_report, round_trips  # noqa: E402
 from glass_analysis.figures import plt, save  # noqa: E402
 from glass_analysis.observables import SQUARE, overlap_edges  # noqa: E402
 from glass_analysis.times import part  # noqa: E402
+from make_tables import Refusal  # noqa: E402
 
 # M. Baity-Jesi et al., Phys. Rev. B 88, 224416 (2013).
 TRANSITION, ITS_ERROR = 1.1019, 0.0029
@@ -91,7 +93,10 @@ def print_rest(size: int, found: Size, temperatures: NDArray[np.float64]) -> Non
 
 
 def main(words: List[str]) -> int:
-    temperatures = np.array((here / "seed_temperatures.txt").read_text().split(), float)
+    made = here / "seed_temperatures.txt"
+    if len(words) != 1 or not words[0].isdecimal() or int(words[0]) < 2 or not made.exists():
+        raise Refusal("the number of seeds that study has made is needed, from 2 on")
+    temperatures = np.array(made.read_text().split(), float)
     sizes = {size: read_size(size, int(words[0])) for size in (4, 6, 8, 10)}
     ratios = {size: jackknife(found.blocks(), binder) for size, found in sizes.items()}
     for size, found in sizes.items():
@@ -126,4 +131,4 @@ def draw(temperatures: NDArray[np.float64], ratios: Dict[int, Estimate], densiti
 
 
 if __name__ == "__main__":
-    sys.exit(main(sys.argv[1:]))
+    sys.exit(status_of_study(__doc__, main))

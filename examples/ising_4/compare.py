@@ -1,5 +1,8 @@
 #!/usr/bin/env python3
-"""Tells whether the runs of this study are at rest, and draws their energies beside the exact ones: figure.png."""
+"""Tells whether the runs of this study are at rest, and draws their energies beside the exact ones: figure.png.
+
+    python3 compare.py seed_1.txt seed_2.txt ..        reports of study
+"""
 from __future__ import annotations
 
 import sys
@@ -12,9 +15,11 @@ sys.path.insert(0, str(here.parent.parent / "tools"))
 
 import numpy as np  # noqa: E402
 
+from exit_status import status_of_study  # noqa: E402
 from glass_analysis import (Estimate, acceptance, autocorrelation_time, blocks, equilibration, jackknife,  # noqa: E402
                             moments, read_reports, round_trips)
 from glass_analysis.figures import plt, save  # noqa: E402
+from make_tables import Refusal  # noqa: E402
 
 SKIP = 100
 BETAS = np.array([0.3, 0.22165463, 0.2, 0.1])
@@ -22,6 +27,8 @@ EXACT = np.array([-2.515073, -1.293228, -0.932611, -0.316619])
 
 
 def main(names: List[str]) -> int:
+    if not names:
+        raise Refusal("the reports of the seeds are needed")
     whole, reports = read_reports(names), read_reports(names, SKIP)
     energy = jackknife(blocks([moments(records)[..., 0] for records in reports]))
     steps = [one.step.value[:, 0] / one.step.error[:, 0] for one in equilibration(whole) if one.step is not None][-6:]
@@ -52,4 +59,4 @@ def draw(energy: Estimate) -> None:
 
 
 if __name__ == "__main__":
-    sys.exit(main(sys.argv[1:]))
+    sys.exit(status_of_study(__doc__, main))

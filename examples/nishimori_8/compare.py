@@ -1,5 +1,8 @@
 #!/usr/bin/env python3
-"""Compares the energies of this study with the exact ones, and draws them: figure.png."""
+"""Compares the energies of this study with the exact ones, and draws them: figure.png.
+
+    python3 compare.py 16        of the runs 1 to 16 at each inverse temperature
+"""
 from __future__ import annotations
 
 import math
@@ -14,10 +17,12 @@ sys.path.insert(0, str(here.parent.parent / "tools"))
 import numpy as np  # noqa: E402
 from numpy.typing import NDArray  # noqa: E402
 
+from exit_status import status_of_study  # noqa: E402
 from glass_analysis import (Estimate, autocorrelation_time, blocks, equilibration, jackknife, moments,  # noqa: E402
                             read_reports)
 from glass_analysis.figures import plt, save  # noqa: E402
 from glass_analysis.reports import Records  # noqa: E402
+from make_tables import Refusal  # noqa: E402
 
 SKIP = 500
 
@@ -49,13 +54,14 @@ def distances(betas: List[float], what: str, by_run: List[NDArray[np.float64]]) 
     return Estimate(np.array([ratio for ratio, _ in ratios]), np.array([error for _, error in ratios]))
 
 
-def main() -> int:
+def main(words: List[str]) -> int:
     betas = sorted(float(folder.name[5:]) for folder in here.glob("seed_*"))
+    if len(words) != 1 or not words[0].isdecimal() or int(words[0]) < 2 or not betas:
+        raise Refusal("the number of runs that study has made is needed, from 2 on")
     found, of_runs, of_records = [], [], []
     print("beta    measured     error       exact  in errors   last steps, in errors   time, epochs")
     for beta in betas:
-        names = sorted(map(str, (here / f"seed_{beta:g}").glob("report_*.txt")))
-        whole = read_reports(names)
+        whole = read_reports([str(here / f"seed_{beta:g}" / f"report_{run}.txt") for run in range(1, int(words[0]) + 1)])
         reports = [records.after(SKIP) for records in whole]
         energy = [moments(records)[:, 0, :1] for records in reports]
         value, error = (float(part[0]) for part in jackknife(blocks(energy)))
@@ -94,4 +100,4 @@ def draw(betas: List[float], found: List[Tuple[float, float]], ratios: Dict[str,
 
 
 if __name__ == "__main__":
-    sys.exit(main())
+    sys.exit(status_of_study(__doc__, main))

@@ -1,5 +1,8 @@
 #!/usr/bin/env python3
-"""Compares the energies of each sample with the exact ones of exact.txt, and draws them: figure.png."""
+"""Compares the energies of each sample with the exact ones of exact.txt, and draws them: figure.png.
+
+    python3 compare.py seed_1.txt seed_2.txt ..        reports of study
+"""
 from __future__ import annotations
 
 import math
@@ -13,9 +16,11 @@ sys.path.insert(0, str(here.parent.parent / "tools"))
 
 import numpy as np  # noqa: E402
 
+from exit_status import status_of_study  # noqa: E402
 from glass_analysis import equilibration, jackknife, moments, read_reports, round_trips  # noqa: E402
 from glass_analysis.figures import plt, save  # noqa: E402
 from glass_analysis.reports import Records  # noqa: E402
+from make_tables import Refusal  # noqa: E402
 
 SKIP = 1000
 BETAS = [2, 1.4, 1, 0.7, 0.5]
@@ -34,6 +39,8 @@ def steps_in_errors(reports: List[Records]) -> List[float]:
 
 
 def main(names: List[str]) -> int:
+    if not names:
+        raise Refusal("the reports of the seeds are needed")
     exact = read_exact()
     reports = read_reports(names, SKIP)
     sites = reports[0].sites
@@ -81,4 +88,4 @@ def draw(value: np.ndarray, error: np.ndarray, exact: Dict[Tuple[int, float], Tu
 
 
 if __name__ == "__main__":
-    sys.exit(main(sys.argv[1:]))
+    sys.exit(status_of_study(__doc__, main))

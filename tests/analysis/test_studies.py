@@ -1,6 +1,9 @@
 """What the studies in examples compute beside the package, on data with a known answer."""
 import importlib.util
 import math
+import os
+import subprocess
+import sys
 from pathlib import Path
 
 import numpy as np
@@ -14,6 +17,39 @@ def study(name):
     module = importlib.util.module_from_spec(spec)
     spec.loader.exec_module(module)
     return module
+
+
+def begun(script, words=(), **variables):
+    """Status and error output of a study's script."""
+    ran = subprocess.run([str(EXAMPLES / script), *words], stdout=subprocess.DEVNULL, stderr=subprocess.PIPE,
+                         universal_newlines=True, check=False, env={**os.environ, **variables})
+    return ran.returncode, ran.stderr
+
+
+@pytest.mark.parametrize("script", ["aging_32/run", "crossing/study", "ising_4/study", "nishimori_8/study", "samples_4/study"])
+def test_a_study_without_a_program_is_told_in_a_line(script):
+    status, said = begun(script, GLASS="/none/such", PYTHON=sys.executable)
+    assert status == 2 and said.count("\n") == 1 and "there is no program /none/such" in said
+
+
+@pytest.mark.parametrize("name", ["crossing", "nishimori_8", "samples_4"])
+def test_a_study_looks_for_numpy_before_it_runs(name):
+    status, said = begun(f"{name}/study", GLASS="/bin/true", PYTHON="/bin/false")
+    assert status == 2 and said.count("\n") == 1 and "lacks numpy" in said
+
+
+@pytest.mark.parametrize("script, word", [("crossing/study", "1"), ("nishimori_8/study", "1"), ("ising_4/study", "x"),
+                                          ("samples_4/study", "01")])
+def test_a_word_that_is_no_number_is_refused(script, word):
+    status, said = begun(script, [word], GLASS="/bin/true")
+    assert status == 2 and said.count("\n") == 1 and said.endswith(f": {word}\n")
+
+
+@pytest.mark.parametrize("name", ["crossing", "ising_4", "nishimori_8", "samples_4"])
+def test_a_comparison_of_nothing_is_refused_in_a_line(name):
+    words = [sys.executable, str(EXAMPLES / name / "compare.py")]
+    ran = subprocess.run(words, stderr=subprocess.PIPE, universal_newlines=True, check=False)
+    assert ran.returncode == 2 and ran.stderr.count("\n") == 1 and ran.stderr.startswith("compare: ")
 
 
 def test_curves_cross_where_the_smaller_size_comes_to_be_above():
