@@ -35,6 +35,7 @@ RUN_SECONDS = 1.2
 MOST_SWEEPS = 1000000
 CHILD_SECONDS = 2.0
 LONGEST = 120
+FAILED = 1
 WRONG_WORDS = NO_PROGRAM = 2
 
 
@@ -108,7 +109,9 @@ class OneRun:
         path.mkdir(exist_ok=True)
         self.fill(path, epochs)
         ran = subprocess.run([self.program, "run", "run.toml", "--save", "whole"], cwd=path, stdout=subprocess.PIPE,
-                             check=True)
+                             check=False)
+        if ran.returncode or not (path / "whole").exists():
+            give_up(FAILED, f"{self.program} makes no run: status {ran.returncode}")
         return ran.stdout, (path / "whole").read_bytes()
 
     def start(self, folder: Path, *words: str) -> subprocess.Popen:

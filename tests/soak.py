@@ -27,7 +27,8 @@ from pathlib import Path
 from typing import List, Optional, Tuple
 
 sys.dont_write_bytecode = True
-from one_run import EXAMPLE, OneRun, after, kill_driver, kill_program, program_of, seed_of  # noqa: E402
+from one_run import (EXAMPLE, FAILED, OneRun, after, give_up, kill_driver, kill_program, program_of,  # noqa: E402
+                     seed_of)
 
 sys.path.insert(0, str(Path(__file__).resolve().parent.parent / "tools"))
 from describe import Damaged, level_checkpoint  # noqa: E402
@@ -105,11 +106,16 @@ class Large:
         path.joinpath("run.toml").write_text(LARGE.format(epochs=self.last))
         for name in ("rules16.csv", "swaps16.csv"):
             shutil.copyfile(EXAMPLE / name, path / name)
-        self.run(["--save", "whole"], "whole.txt").wait()
-        self.part(0).wait()
+        self.finish(self.run(["--save", "whole"], "whole.txt"), "whole")
+        self.finish(self.part(0), "state")
         start = time.monotonic()
-        self.part(PART).wait()
+        self.finish(self.part(PART), "state")
         self.seconds = time.monotonic() - start
+
+    def finish(self, child: subprocess.Popen, saved: str) -> None:
+        """Without runs that nobody kills there is nothing to compare with."""
+        if child.wait() or not (self.path / saved).exists():
+            give_up(FAILED, f"{self.program} makes no run: status {child.returncode}")
 
     def run(self, words: List[str], report: str) -> subprocess.Popen:
         with open(self.path / report, "wb") as out:
