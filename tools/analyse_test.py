@@ -7,7 +7,7 @@ import tempfile
 import xml.etree.ElementTree as ElementTree
 from pathlib import Path
 
-from lines_report_test import check_lines
+from lines_report_test import check_lines, text_of_lines
 from make_tables import Checks, outcome
 from reference.demo import demo_rows
 from reference.grid import Tempering, hex_of
@@ -38,10 +38,6 @@ def true_report(seed, epochs, every, spins):
         lines += [f"spin,{b},{t},{c},{hex_of(samples[b].slots[t][c], SIZE)}"
                   for b in range(SAMPLES) for t in range(SLOTS) for c in range(2)]
     return lines, records
-
-
-def text_of_lines(lines):
-    return "".join(line + "\n" for line in lines)
 
 
 class Caller:

@@ -7,7 +7,8 @@ import sys
 import tempfile
 from pathlib import Path
 
-from analyse_test import HOTTER_FIRST, SIZE, SLOTS, Caller, text_of_lines
+from analyse_test import HOTTER_FIRST, SIZE, SLOTS, Caller
+from lines_report_test import text_of_lines
 from make_tables import Checks, outcome
 from reference.demo import demo_rows
 from reference.grid import Tempering

@@ -15,14 +15,13 @@ import re
 from collections import namedtuple
 from fractions import Fraction
 
-from analyse import LONGEST_LINE, spelled
+from analyse import COUNT, LONGEST_LINE, spelled
 from jackknife import jackknife_error
 from make_tables import Refusal
 
 Header = namedtuple("Header", "size slots samples epoch")
 # Sums over samples: their number, A, and for each distance the sum of B over the three directions.
 Sums = namedtuple("Sums", "samples link lines")
-COUNT = rb"(0|[1-9][0-9]{0,9})"
 SIGNED = re.compile(rb"0|-?[1-9][0-9]{0,6}")
 HEADER = re.compile(rb"lines 1 size=%b slots=%b samples=%b epoch=%b" % ((COUNT,) * 4))
 

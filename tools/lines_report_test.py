@@ -54,7 +54,7 @@ def with_errors(blocks):
     return pairs
 
 
-def text_of(lines):
+def text_of_lines(lines):
     return "".join(line + "\n" for line in lines)
 
 
@@ -72,17 +72,17 @@ def check_values(checks, caller, texts, blocks, first):
 
 def check_damage(checks, caller, lines):
     for n in range(len(lines)):
-        checks.same(f"line {n + 1} left out", caller.refused_line(text_of(lines[:n] + lines[n + 1:])), n + 1)
-        checks.same(f"line {n + 1} twice", caller.refused_line(text_of(lines[:n + 1] + lines[n:])), n + 2)
-        checks.same(f"cut in line {n + 1}", caller.refused_line(text_of(lines[:n]) + lines[n][:-1]), n + 1)
+        checks.same(f"line {n + 1} left out", caller.refused_line(text_of_lines(lines[:n] + lines[n + 1:])), n + 1)
+        checks.same(f"line {n + 1} twice", caller.refused_line(text_of_lines(lines[:n + 1] + lines[n:])), n + 2)
+        checks.same(f"cut in line {n + 1}", caller.refused_line(text_of_lines(lines[:n]) + lines[n][:-1]), n + 1)
     for number, changed in ((2, "link,0,0,650"), (2, "link,0,0,1"), (3, "line,0,0,0,1,-218"), (3, "line,0,0,0,1,007")):
-        checks.same(changed, caller.refused_line(text_of(lines[:number - 1] + [changed] + lines[number:])), number)
+        checks.same(changed, caller.refused_line(text_of_lines(lines[:number - 1] + [changed] + lines[number:])), number)
     # A lawful sum that isn't that of the three lines is found behind the last of them.
     other = lines[1].rsplit(",", 1)
     changed = f"{other[0]},{int(other[1]) - 2}"
-    checks.same("another link sum", caller.refused_line(text_of(lines[:1] + [changed] + lines[2:])), 2 + 3 * HALF)
+    checks.same("another link sum", caller.refused_line(text_of_lines(lines[:1] + [changed] + lines[2:])), 2 + 3 * HALF)
     for header in ("lines 2" + lines[0][7:], lines[0].replace("size=6", "size=7"), lines[0].replace("samples=3", "samples=65")):
-        checks.same(header, caller.refused_line(text_of([header] + lines[1:])), 1)
+        checks.same(header, caller.refused_line(text_of_lines([header] + lines[1:])), 1)
 
 
 def check_refusals(checks, caller, text, others, report):
@@ -98,17 +98,18 @@ def check_no_length(checks, caller):
     """Where neighbours are opposite in all directions no sum of correlations is above 0."""
     lines = ["lines 1 size=4 slots=1 samples=1 epoch=0", "link,0,0,-192"]
     lines += [f"line,0,0,{d},{r},{(-64, -62)[r - 1]}" for d in range(3) for r in (1, 2)]
-    status, out, err = caller.call([text_of(lines + ["end"])])
+    status, out, err = caller.call([text_of_lines(lines + ["end"])])
     checks.same("no length, no error", (status, out.splitlines()[2].split()), (0, ["0", "-1.000000", "-", "-", "-"]))
 
 
 def check_lines(checks, caller, report):
     """All checks, beside which a report stands."""
     texts, states = zip(*(true_lines(seed) for seed in (1, 2, 3)))
-    check_values(checks, caller, [text_of(texts[0])], [[[q] for q in states[0][slot]] for slot in range(SLOTS)],
+    check_values(checks, caller, [text_of_lines(texts[0])], [[[q] for q in states[0][slot]] for slot in range(SLOTS)],
                  "size 6, slots 2, samples 3, epoch 5")
-    check_values(checks, caller, [text_of(text) for text in texts], [[state[slot] for state in states] for slot in range(SLOTS)],
+    check_values(checks, caller, [text_of_lines(text) for text in texts],
+                 [[state[slot] for state in states] for slot in range(SLOTS)],
                  "3 files: size 6, slots 2, samples 3, epoch 5")
     check_damage(checks, caller, texts[0])
-    check_refusals(checks, caller, text_of(texts[0]), text_of(texts[1]).replace("epoch=5", "epoch=6"), report)
+    check_refusals(checks, caller, text_of_lines(texts[0]), text_of_lines(texts[1]).replace("epoch=5", "epoch=6"), report)
     check_no_length(checks, caller)

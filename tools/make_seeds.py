@@ -24,11 +24,11 @@ from pathlib import Path
 from typing import Dict, List, Optional, Sequence, Tuple
 
 sys.dont_write_bytecode = True
+from couplings import GREATEST_SEED  # noqa: E402
 from exit_status import status_of  # noqa: E402
 from long_run_folder import Fault, Value, read_keys  # noqa: E402
 from make_tables import Checks, OneLineParser, Refusal, outcome  # noqa: E402
 
-GREATEST_SEED = 2 ** 63 - 1
 GREATEST_NUMBER = 9999
 INDEX = "index.csv"
 

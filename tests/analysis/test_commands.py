@@ -6,8 +6,8 @@ from pathlib import Path
 import analyse
 import estimate
 import pytest
-from analyse_test import text_of_lines, true_report
-from lines_report_test import text_of, true_lines
+from analyse_test import true_report
+from lines_report_test import text_of_lines, true_lines
 from make_tables import outcome
 
 
@@ -46,7 +46,7 @@ def test_means_are_those_of_the_other_tools(reports):
 def test_a_figure_and_a_table_of_lengths(tmp_path):
     given = [tmp_path / f"{seed}.txt" for seed in (1, 2, 3)]
     for seed, name in enumerate(given, 1):
-        name.write_text(text_of(true_lines(seed)[0]))
+        name.write_text(text_of_lines(true_lines(seed)[0]))
     picture = tmp_path / "lengths.png"
     for files in (given[:1], given):
         status, out, err = call("lengths", *files, "--temperatures", 1, 1.5, "--plot", picture)
@@ -60,7 +60,7 @@ def test_a_figure_and_a_table_of_lengths(tmp_path):
 
 
 def test_the_two_kinds_of_files_are_not_taken_for_each_other(reports, tmp_path):
-    (tmp_path / "lines.txt").write_text(text_of(true_lines(1)[0]))
+    (tmp_path / "lines.txt").write_text(text_of_lines(true_lines(1)[0]))
     assert call("lengths", reports / "1.txt")[0] == 2 and call("means", tmp_path / "lines.txt")[0] == 2
 
 

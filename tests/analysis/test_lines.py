@@ -3,7 +3,7 @@ import math
 
 import numpy as np
 import pytest
-from lines_report_test import SAMPLES, SLOTS, text_of, true_lines, with_errors
+from lines_report_test import SAMPLES, SLOTS, text_of_lines, true_lines, with_errors
 
 from glass_analysis import blocks, correlation_length, jackknife, line_moments, link_overlap, read_lines
 from glass_analysis.lines import CorrelationLines
@@ -15,7 +15,7 @@ def files(tmp_path_factory):
     folder, states = tmp_path_factory.mktemp("lines"), []
     for seed in range(1, 5):
         lines, overlaps = true_lines(seed)
-        (folder / f"{seed}.txt").write_text(text_of(lines))
+        (folder / f"{seed}.txt").write_text(text_of_lines(lines))
         states.append(overlaps)
     return [str(folder / f"{seed}.txt") for seed in range(1, 5)], states
 
