@@ -1,6 +1,7 @@
 #!/usr/bin/env bash
 # Compares reports of `glass potts` byte by byte with those of tools/plain_potts.py, which goes one sample and
-# one site at a time over plain lists: four runs, with each word for the couplings and the start.
+# one site at a time over plain lists: four runs, with each word for the couplings and the start. Words that are no
+# command both refuse with status 2.
 #
 #     tests/potts_reports.sh [PROGRAM]
 #
@@ -26,6 +27,29 @@ done <<'END'
 6 4 9223372036854775807 3 random zero 3000000000 2000000000 1200000000 700000000 400000000 200000000
 8 3 0 2 plus random 4294967296 2147483648 1 0 0 0
 10 2 12345 1 plus zero 4294967296 4294967296 4294967296 4294967296 4294967296 4294967296
+END
+while read -r line; do
+    read -ra words <<<"$line"
+    "$program" potts "${words[@]}" > "$place/out" 2> "$place/err"
+    refused=$?
+    python3 tools/plain_potts.py "${words[@]}" > "$place/plain" 2> "$place/err"
+    refused="$refused $?"
+    if [ "$refused" != "2 2" ] || [ -s "$place/out" ] || [ -s "$place/plain" ] || [ "$(wc -l < "$place/err")" != 1 ]; then
+        echo "potts_reports: FAILED: potts $line has the statuses $refused" >&2
+        status=1
+    fi
+done <<'END'
+5 1 1 1 plus zero 0 0 0 0 0 0
+66 1 1 1 plus zero 0 0 0 0 0 0
+4 1000001 1 1 plus zero 0 0 0 0 0 0
+4 1 9223372036854775808 1 plus zero 0 0 0 0 0 0
+4 1 -1 1 plus zero 0 0 0 0 0 0
+4 1 1 0 plus zero 0 0 0 0 0 0
+4 1 1 65 plus zero 0 0 0 0 0 0
+4 1 1 1 minus zero 0 0 0 0 0 0
+4 1 1 1 plus up 0 0 0 0 0 0
+4 1 1 1 plus zero 0 0 0 0 0 4294967297
+4 1 1 1 plus zero 0 0 0 0 0
 END
 [ "$status" -ne 0 ] || echo "potts_reports: all right"
 exit "$status"

@@ -4,9 +4,13 @@
 A program of its own, on plain lists, with which the tests of the crate potts_glass compare: the
 rules are those of docs/specification/potts.md and random_numbers.md, the digests those of hashlib.
 """
-import argparse
 import hashlib
 import struct
+import sys
+
+sys.dont_write_bytecode = True
+from exit_status import status_of  # noqa: E402
+from make_tables import OneLineParser, Refusal  # noqa: E402
 
 WORD = 1 << 32
 
@@ -116,8 +120,20 @@ def report(size, sweeps, seed, samples, couplings, start, thresholds):
     return "\n".join(lines + ["end", ""])
 
 
+def check_ranges(words):
+    """Those of docs/specification/formats.md."""
+    ranges = [("SIZE", words.size, 4, 64), ("SWEEPS", words.sweeps, 0, 1000000), ("SEED", words.seed, 0, 2**63 - 1),
+              ("SAMPLES", words.samples, 1, 64)]
+    ranges += [(f"T{gap}", threshold, 0, WORD) for gap, threshold in enumerate(words.thresholds, 1)]
+    for name, value, least, most in ranges:
+        if not least <= value <= most:
+            raise Refusal(f"{name} is not from {least} to {most}: {value}")
+    if words.size % 2:
+        raise Refusal(f"SIZE is odd: {words.size}")
+
+
 def main():
-    parser = argparse.ArgumentParser(description=__doc__)
+    parser = OneLineParser(prog="plain_potts", description=__doc__)
     parser.add_argument("size", type=int)
     parser.add_argument("sweeps", type=int)
     parser.add_argument("seed", type=int)
@@ -126,6 +142,7 @@ def main():
     parser.add_argument("start", choices=["zero", "random"])
     parser.add_argument("thresholds", type=int, nargs=6)
     words = parser.parse_args()
+    check_ranges(words)
     print(
         report(
             words.size,
@@ -138,7 +155,8 @@ def main():
         ),
         end="",
     )
+    return 0
 
 
 if __name__ == "__main__":
-    main()
+    sys.exit(status_of("plain_potts", main))
