@@ -9,12 +9,12 @@ documents say of those bytes.
 
 Inputs are grown from lawful ones by cuts, repeats, flipped bits, numbers at their bounds, pieces of other inputs and
 sealed changes, whose digest is made anew. Each goes through `glass check`, `glass run --until` or both, a report through
-`glass average`, and
-expected_runs.py tells independently of the program the status, the line and the text, and what a saved checkpoint holds:
-so a changed byte never gives status 0 with another digest or report than its own. No run ends by a signal, and each
-line is one of docs/specification/messages.md. The same count and seed give the same inputs.
+`glass average`, and expected_runs.py tells independently of the program the status, the line and the text, and what a
+saved checkpoint holds: so a changed byte never gives status 0 with another digest or report than its own. No run ends by
+a signal, and each line is one of docs/specification/messages.md. The same count and seed give the same inputs.
 
-GLASS names the program; else it is that of tests/program.sh. Status 0 where every run was held to, 1 where one was not."""
+GLASS names the program; else it is that of tests/program.sh. Status 0 where every run was held to, 1 where one was not,
+2 where nothing could be run."""
 import argparse
 import hashlib
 import os
