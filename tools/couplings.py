@@ -42,6 +42,8 @@ except ImportError:
 MAGIC = b"GLASSCJ1"
 GREATEST_SAMPLES = 256
 GREATEST_SEED = 2 ** 63 - 1
+# Size 64 with all samples.
+LONGEST = 48 + GREATEST_SAMPLES * 3 * 64 ** 3 // 8
 LAGS = (24, 55, 61)
 HALF = "1/2"
 
@@ -69,6 +71,8 @@ def file_bytes(size, samples):
 
 def couplings_of(name, stored):
     """The size and the couplings of the samples of a file, or its first refusal."""
+    if len(stored) > LONGEST:
+        raise Refusal(f"{name} is too long: more than {LONGEST} bytes")
     if len(stored) < 48:
         raise Refusal(f"{name} is too short: {len(stored)} bytes")
     if stored[:8] != MAGIC:
@@ -90,9 +94,11 @@ def is_size(size):
     return size % 2 == 0 and 4 <= size <= 64
 
 
-def read_bytes(name):
+def read_bytes(name, most=-1):
+    """The bytes of a file, of which no more than `most` and one are read."""
     try:
-        return Path(name).read_bytes()
+        with open(name, "rb") as stream:
+            return stream.read(most if most < 0 else most + 1)
     except OSError as fault:
         raise Refusal(f"{name} can't be read: {fault.strerror}") from None
 
@@ -270,7 +276,7 @@ def make(options):
 
 
 def show(options):
-    stored = read_bytes(options.file)
+    stored = read_bytes(options.file, LONGEST)
     size, samples = couplings_of(options.file, stored)
     print(f"size {size}, {len(samples)} {'samples' if len(samples) > 1 else 'sample'}, digest {stored[-32:].hex()}")
     for b, bonds in enumerate(samples):
@@ -278,14 +284,13 @@ def show(options):
 
 
 def change(options):
-    stored = read_bytes(options.file)
     if options.command == "from-text":
         try:
-            text = stored.decode("ascii")
+            text = read_bytes(options.file).decode("ascii")
         except UnicodeDecodeError:
             raise Refusal(f"{options.file} is no text") from None
         return save(options.out, *read_text(options.file, text))
-    size, samples = couplings_of(options.file, stored)
+    size, samples = couplings_of(options.file, read_bytes(options.file, LONGEST))
     if options.command == "gauge":
         seed = seed_of(options)
         return save(options.out, size, [turned(size, bonds, seed, b) for b, bonds in enumerate(samples)])

@@ -56,6 +56,11 @@ def refusals(checks, folder):
     ]:
         name.write_bytes(stored)
         checks.same(line, call("show", name), (2, "", f"couplings: {line}\n"))
+    with open(name, "wb") as stream:
+        stream.truncate(couplings.LONGEST + 1)
+    for words in (("show", name), ("to-text", name, folder / "t"), ("gauge", name, folder / "k", "--seed", 1)):
+        checks.same("a file that is too long", call(*words), (2, "", f"couplings: {name} is too long: more than 25165872 bytes\n"))
+    name.unlink()
 
 
 def programs_couplings(checks, folder):

@@ -26,7 +26,7 @@ from typing import List, Optional, Sequence
 
 sys.dont_write_bytecode = True
 from analyse import Report  # noqa: E402
-from couplings import couplings_of, file_bytes  # noqa: E402
+from couplings import LONGEST, couplings_of, file_bytes, read_bytes  # noqa: E402
 from exit_status import status_of  # noqa: E402
 from jackknife import SumsFile  # noqa: E402
 from long_run_folder import Fault, RunFolder, digest_of, read_keys  # noqa: E402
@@ -122,7 +122,7 @@ def banks_checkpoint(path: Path) -> List[str]:
 
 
 def couplings_file(path: Path) -> List[str]:
-    stored = path.read_bytes()
+    stored = read_bytes(path, LONGEST)
     size, samples = couplings_of("the file", stored)
     return ["couplings", f"size {size}, {len(samples)} samples", f"digest {stored[-DIGEST_BYTES:].hex()}"]
 

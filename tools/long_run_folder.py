@@ -38,6 +38,7 @@ ROOM_NAME = re.compile(r"(?:report\.)?tmp-(.*)-([0-9]+)-[0-9]{10}")
 # Nobody works so long on a part of which nothing was written; see `clear_rooms`.
 DEAD_SECONDS = 2 * 86400
 BLOCK = 1 << 20
+LONGEST_RUN_FILE = 1048576
 
 REFUSED, NOT_HELD, UNREADABLE, NOT_PLACED = 3, 7, 8, 10
 DAMAGED, DIED, HELD, NO_PART, STOPPED = 65, 70, 73, 74, 75
@@ -111,8 +112,13 @@ def in_work(first: int) -> str:
 
 
 def read_text(path: Path) -> str:
+    """A run file or a record, of which no more is read than a run file may have."""
     try:
-        return path.read_bytes().decode("utf-8-sig")
+        with open(path, "rb") as stream:
+            stored = stream.read(LONGEST_RUN_FILE + 1)
+        if len(stored) > LONGEST_RUN_FILE:
+            raise Fault(REFUSED, f"{path} is too long: more than {LONGEST_RUN_FILE} bytes")
+        return stored.decode("utf-8-sig")
     except FileNotFoundError:
         raise Fault(NOT_HELD, f"{path} is not there") from None
     except OSError as fault:

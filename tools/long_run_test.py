@@ -111,6 +111,13 @@ def check_run_file(checks: Checks, folder: Path) -> None:
     checks.same("as Python reads it", read_keys(path), keys)
     reader, long_run_folder.tomllib = long_run_folder.tomllib, None
     checks.same("without Python's", read_keys(path), keys)
+    with open(path, "r+b") as stream:
+        stream.truncate(long_run_folder.LONGEST_RUN_FILE + 1)
+    try:
+        told = str(read_keys(path))
+    except Fault as fault:
+        told = str(fault)
+    checks.same("a file that is too long", told, f"{path} is too long: more than 1048576 bytes")
     for line in ("size = 0x4", "[run]", 'rule = "he\\u0061t"', "rules = 'a.csv'", "size", "seed = 7"):
         try:
             plain_keys("run.toml", RUN_FILE + line)

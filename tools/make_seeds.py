@@ -26,7 +26,7 @@ from typing import Dict, List, Optional, Sequence, Tuple
 sys.dont_write_bytecode = True
 from couplings import GREATEST_SEED  # noqa: E402
 from exit_status import status_of  # noqa: E402
-from long_run_folder import Fault, Value, read_keys  # noqa: E402
+from long_run_folder import Fault, Value, read_keys, read_text  # noqa: E402
 from make_tables import Checks, OneLineParser, Refusal, outcome  # noqa: E402
 
 GREATEST_NUMBER = 9999
@@ -90,7 +90,7 @@ def make_folder(path: Path, template: Path, seed: int, couplings: Optional[Path]
 def fill(path: Path, template: Path, seed: int, couplings: Optional[Path]) -> None:
     """Writes the files of a run, and checks its run file by reading it again."""
     keys = read_keys(template)
-    text = with_value(template.read_text(encoding="utf-8"), "seed", seed)
+    text = with_value(read_text(template), "seed", seed)
     wanted = dict(keys, seed=seed)
     if couplings is not None:
         wanted["couplings"] = f"file:{couplings.name}"

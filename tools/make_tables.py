@@ -352,7 +352,8 @@ def test_calls(checks, folder):
     refused += [["heat", "--range", *words.split()] for words in
                 ("1 2", "2 1 --slots 4", "0 1 --slots 4", "1 x --slots 4", "1 2 --slots 1", "1 2 --slots 33", "1 nan --slots 2",
                  "1 2 --slots 4 --acceptance", "0.1 2 --slots 4 --size 8 --acceptance", "1 2 --slots 3 --size 7 --acceptance",
-                 "1 2 --slots 4 --size 8 --acceptance none/such", "1 2 --slots 3 --betas 1", "1 1.00001 --slots 9")]
+                 "1 2 --slots 4 --size 8 --acceptance none/such", "1 2 --slots 4 --size 8 --acceptance /dev/zero",
+                 "1 2 --slots 3 --betas 1", "1 1.00001 --slots 9")]
     refused += [["--range", "1", "2", "--slots", "3"], ["--range", "1", "2", "--slots", "3", "--size", "8", "--acceptance"]]
     refused += [["heat", "--betas", "1", "--slots", "1"], ["heat", "--betas", "1", "--acceptance"]]
     for words in refused:

@@ -10,7 +10,6 @@ from __future__ import annotations
 import argparse
 import math
 from bisect import bisect_right
-from pathlib import Path
 from typing import List, Sequence, Tuple
 
 # Temperature and energy per site, both rising.
@@ -22,6 +21,8 @@ class Unlawful(Exception):
 
 
 STEPS = 4000
+# The bytes of a file of energies, which has some dozens of lines.
+LONGEST = 2 ** 20
 # Temperature and energy per site of the glass with random couplings: from 1.2 to 3 as the tutorial measures them at
 # size 8, below by a power of T down to the ground states, near -1.7876, above by the series -3 t + 12 t^7 (1 - t^2) in t = tanh(1 / T).
 GLASS: Table = (
@@ -33,7 +34,11 @@ GLASS: Table = (
 def read_energies(name: str) -> Table:
     """Lines `temperature,energy per site`, temperatures rising and energies with them."""
     try:
-        lines = Path(name).read_text(encoding="ascii").splitlines()
+        with open(name, encoding="ascii") as stream:
+            text = stream.read(LONGEST + 1)
+        if len(text) > LONGEST:
+            raise Unlawful(f"{name} is too long: more than {LONGEST} bytes")
+        lines = text.splitlines()
         table = [tuple(map(float, line.split(","))) for line in lines if line.strip()]
     except OSError as fault:
         raise Unlawful(f"{name} can't be read: {fault.strerror}") from None
