@@ -64,7 +64,7 @@ def seconds_of(text: str) -> float:
     """A time as batch engines write it: minutes, H:MM:SS or D-H:MM:SS."""
     found = TIME.fullmatch(text)
     if not found:
-        raise Refusal(f"{text} is no time: write minutes, H:MM:SS or D-H:MM:SS")
+        raise Refusal(f"{text or 'an empty word'} is no time: write minutes, H:MM:SS or D-H:MM:SS")
     days, hours, minutes, seconds = (int(found[k] or 0) for k in range(1, 5))
     return float(86400 * days + 3600 * hours + 60 * (minutes + int(found[5] or 0)) + seconds)
 
@@ -85,7 +85,7 @@ def run(options: argparse.Namespace) -> int:
     folder = RunFolder(options.folder)
     if not folder.run_file.is_file():
         raise Fault(NOT_HELD, f"{folder.run_file} is not there")
-    limit = seconds_of(options.time_limit) if options.time_limit else None
+    limit = None if options.time_limit is None else seconds_of(options.time_limit)
     STOP.limit(limit)
     progress = Progress()
     driver = Driver(folder, Options(

@@ -194,6 +194,7 @@ def check_troubles(checks: Checks, case: Case) -> None:
     checks.same("died", case.call()[0], 70)
     case.trouble("seconds 0.2")
     checks.same("no part fits", case.call("--time-limit", "0:00:01")[0], 74)
+    checks.same("an empty limit is none", case.call("--time-limit", "")[0], 2)
     (case.path / "trouble").unlink()
     (case.path / "stop").touch()
     checks.same("a file asks for a stop", case.call()[0], 75)
