@@ -44,6 +44,9 @@ def output(what: str) -> Iterator[None]:
 
 def status_of(name: str, main: Callable[[], int]) -> int:
     """What `main` answers, or the status of what ended it before."""
+    if sys.stdout is not None and sys.stdout.errors == "strict":
+        # The name of a file need not be text.
+        sys.stdout.reconfigure(errors="backslashreplace")
     try:
         with output("the text"):
             return main()
@@ -85,9 +88,11 @@ TOOLS = ("analyse", "correlations", "couplings", "demo_tables", "describe", "est
 
 def ended(words: Tuple[str, ...], out: int) -> Tuple[int, str]:
     """Status and error output of Python with these words, whose output is an open file."""
-    buffered = {name: value for name, value in os.environ.items() if name != "PYTHONUNBUFFERED"}
+    environment = dict(os.environ, PYTHONIOENCODING="ascii")
+    # Without a buffer a text that is not written is told before the end.
+    environment.pop("PYTHONUNBUFFERED", None)
     ran = subprocess.run([sys.executable, *words], stdout=out, stderr=subprocess.PIPE, universal_newlines=True, check=False,
-                         env=buffered, cwd=Path(__file__).resolve().parent)
+                         env=environment, cwd=Path(__file__).resolve().parent)
     return ran.returncode, ran.stderr
 
 
@@ -102,7 +107,7 @@ def self_test() -> int:
             wanted = NOT_WRITTEN, f"{tool}: writing the text failed: No space left on device\n"
             checks.same(f"{tool} into a full device", ended((f"{tool}.py", "--help"), full), wanted)
     causes = {"make_tables.Refusal('wrong')": (REFUSED, "x: wrong\n"), "MemoryError": (NO_MEMORY, "x: no memory\n"),
-              "KeyboardInterrupt": (-signal.SIGINT, "")}
+              "KeyboardInterrupt": (-signal.SIGINT, ""), "SystemExit(print('\\udcff \xb2'))": (0, "")}
     for cause, wanted in causes.items():
         program = f"def main(): raise {cause}\nimport make_tables, sys, exit_status\nsys.exit(exit_status.status_of('x', main))"
         checks.same(cause, ended(("-c", program), subprocess.DEVNULL), wanted)

@@ -75,6 +75,8 @@ def check_sources(template: Path, keys: Dict[str, Value], couplings: Sequence[st
     for path in [template.parent / name for name in named] + [Path(name) for name in couplings]:
         if not path.is_file():
             raise Refusal(f"there is no file {path}")
+        if path.name != os.fsencode(path.name).decode(errors="replace"):
+            raise Refusal(f"{path} has a name that isn't UTF-8, so no run file names it")
 
 
 def make_folder(path: Path, template: Path, seed: int, couplings: Optional[Path]) -> None:
@@ -165,6 +167,10 @@ def check_refusals(checks: Checks, folder: Path) -> None:
         status, out, err = outcome([str(template), "--into", str(into), *words], main)
         checks.same(f"{new or words} is refused in a line", (status, out, err.count("\n"), into.exists()), (2, "", 1, False))
     template.write_text(TEMPLATE)
+    strange = folder / os.fsdecode(b"\xff")
+    strange.write_text("")
+    status, out, err = outcome([str(template), "--into", str(into), "--couplings", str(strange)], main)
+    checks.same("a name that is no text", (status, out, err.count("\n"), into.exists()), (2, "", 1, False))
     status, out, err = outcome([str(template), "--into", str(template)], main)
     checks.same("no folder to write in", (status, out, err.count("\n")), (2, "", 1))
     # What looks like the seed's line stands in another key, so the folder's run file is not the template's.
