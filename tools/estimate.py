@@ -160,7 +160,7 @@ def walks(words: Words, options: argparse.Namespace) -> None:
     words.begin()
     rates = acceptance(words.reports, words.blocks)
     if rates is None:
-        print("exchanges are counted where each epoch is recorded, and there are two slots")
+        print("exchanges are counted only where each epoch is recorded and there are two slots at least")
     else:
         print("pair  exchanged     error")
         for pair, (value, error) in enumerate(zip(rates.value, rates.error)):

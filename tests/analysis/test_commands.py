@@ -59,6 +59,29 @@ def test_a_figure_and_a_table_of_lengths(tmp_path):
         assert call("lengths", *words)[0] == 2
 
 
+# Replicas of slot 1 that agree at half of the sites, and correlations that are 0: no Binder ratio there, and no length.
+NO_OVERLAP = """glass 1 size=4 slots=2 samples=2 rule=heat from=0 to=1
+row,0,0,0,192,192,64,0,0
+row,0,0,1,0,0,0,1,1
+row,0,1,0,192,192,64,0,0
+row,0,1,1,0,0,0,1,1
+end,1
+"""
+NO_LENGTH = "lines 1 size=4 slots=2 samples=1 epoch=1\n" + "".join(
+    f"link,0,{slot},0\n" + "".join(f"line,0,{slot},{d},{r},0\n" for d in range(3) for r in (1, 2))
+    for slot in range(2)) + "end\n"
+
+
+@pytest.mark.filterwarnings("error")
+@pytest.mark.parametrize("command, text, undefined", [("means", NO_OVERLAP, [False, True]), ("lengths", NO_LENGTH, [True, True])],
+                         ids=["means", "lengths"])
+def test_what_is_not_defined_is_nan_without_a_warning(tmp_path, command, text, undefined):
+    (tmp_path / "text").write_text(text)
+    status, out, err = call(command, tmp_path / "text", "--plot", tmp_path / "figure.png")
+    slots = out.splitlines()[2:4]
+    assert (status, err) == (0, "") and [line.split()[-2] == "nan" for line in slots] == undefined
+
+
 def test_the_two_kinds_of_files_are_not_taken_for_each_other(reports, tmp_path):
     (tmp_path / "lines.txt").write_text(text_of_lines(true_lines(1)[0]))
     assert call("lengths", reports / "1.txt")[0] == 2 and call("means", tmp_path / "lines.txt")[0] == 2

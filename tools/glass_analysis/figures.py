@@ -34,10 +34,11 @@ def save(name: str, figure: Figure) -> None:
 
 
 def means(across: Sequence[float], what: str, named: Sequence[Tuple[str, Estimate]]) -> Figure:
-    """Estimates of all slots, a panel each, against temperature."""
+    """Estimates of all slots, a panel each, against temperature; a slot without a value has no point."""
     figure, panels = plt.subplots(1, len(named), figsize=(3.2 * len(named), 3), layout="constrained", squeeze=False)
     for panel, (name, estimate) in zip(panels[0], named):
-        panel.errorbar(across, estimate.value, np.nan_to_num(estimate.error), **MARKS)
+        known = np.isfinite(estimate.value)
+        panel.errorbar(np.asarray(across)[known], estimate.value[known], np.nan_to_num(estimate.error[known]), **MARKS)
         panel.set(xlabel=what, ylabel=name)
     return figure
 

@@ -42,8 +42,9 @@ def blocks(values: Sequence[Numbers], count: Optional[int] = None) -> Numbers:
 
 
 def binder(means: Numbers) -> Numbers:
-    """The Binder ratio (3 - [q^4] / [q^2]^2) / 2 of moments: 1 for one |q| alone, 0 for Gaussian q."""
-    return (3 - means[..., FOURTH] / means[..., SQUARE] ** 2) / 2
+    """The Binder ratio (3 - [q^4] / [q^2]^2) / 2 of moments: 1 for one |q| alone, 0 for Gaussian q; nan where all q are 0."""
+    with np.errstate(invalid="ignore"):
+        return (3 - means[..., FOURTH] / means[..., SQUARE] ** 2) / 2
 
 
 def susceptibility(means: Numbers, sites: int) -> Numbers:
