@@ -50,10 +50,13 @@ def in_blocks(by_sample: NDArray[np.float64]) -> NDArray[np.float64]:
 
 def read_size(size: int, seeds: int) -> Size:
     """One report at a time, so that none but its means is kept."""
-    parts, densities, trips = [], [], []
+    parts, densities, trips, until = [], [], [], None
     edges = overlap_edges(size ** 3)
     for seed in range(1, seeds + 1):
         records = read_report(str(here / f"seed_{size}_{seed}.txt"))
+        until = until or records.until
+        if records.until != until:
+            raise Refusal(f"{records.name} goes to epoch {records.until}, and that of seed 1 to {until}")
         bins = doubling_bins(records.epochs)
         parts.append(np.stack([in_blocks(moments(part(records, *ends))) for ends in bins], axis=1))
         overlaps = part(records, *bins[0]).overlaps[:, :, 0] / records.sites

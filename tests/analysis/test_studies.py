@@ -8,6 +8,8 @@ from pathlib import Path
 
 import numpy as np
 import pytest
+from analyse_test import text_of_lines, true_report
+from make_tables import Refusal
 
 EXAMPLES = Path(__file__).resolve().parent.parent.parent / "examples"
 
@@ -57,6 +59,16 @@ def test_curves_cross_where_the_smaller_size_comes_to_be_above():
     small, large = (0.5 - slope * (temperatures - 1.1) + 0.1 * (temperatures - 1.1) ** 2 for slope in (0.2, 0.6))
     assert crossing(temperatures, small, large) == pytest.approx(1.1)
     assert math.isnan(crossing(temperatures, large, small)) and math.isnan(crossing(temperatures, small + 1, large))
+
+
+def test_reports_of_two_numbers_of_epochs_are_not_taken_together(tmp_path):
+    crossing = study("crossing")
+    crossing.here, crossing.BLOCKS = tmp_path, 2
+    for seed, epochs in ((1, 16), (2, 16), (3, 32)):
+        (tmp_path / f"seed_4_{seed}.txt").write_text(text_of_lines(true_report(seed, epochs, 1, False)[0]))
+    assert len(crossing.read_size(4, 2).trips) == 2
+    with pytest.raises(Refusal, match="seed_4_3.txt goes to epoch 32, and that of seed 1 to 16"):
+        crossing.read_size(4, 3)
 
 
 def test_what_samples_have_in_common_is_in_the_distance_alone():
