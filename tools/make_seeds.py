@@ -10,7 +10,8 @@ taken with --count seeds: the first --count folders have the first file, the nex
 file is linked where the file system can, so that it takes its room once. index.csv in the same place lists
 folders, seeds and couplings.
 
---first begins at another number, so that a study is made larger. A folder that is there is never touched.
+--first begins at another number, so that a study is made larger; a template of other tables, or of another size,
+rule, start or number of sweeps, is refused then. A folder that is there is never touched.
 """
 from __future__ import annotations
 
@@ -24,7 +25,7 @@ from pathlib import Path
 from typing import Dict, List, Optional, Sequence, Tuple
 
 sys.dont_write_bytecode = True
-from couplings import GREATEST_SEED  # noqa: E402
+from couplings import GREATEST_SEED, read_bytes  # noqa: E402
 from exit_status import status_of  # noqa: E402
 from long_run_folder import Fault, Value, read_keys, read_text  # noqa: E402
 from make_tables import Checks, OneLineParser, Refusal, outcome  # noqa: E402
@@ -79,6 +80,19 @@ def check_sources(template: Path, keys: Dict[str, Value], couplings: Sequence[st
             raise Refusal(f"{path} has a name that isn't UTF-8, so no run file names it")
 
 
+def check_study(template: Path, keys: Dict[str, Value], into: Path) -> None:
+    """Refuses a template of another study than the folders that are there: reports tell neither tables nor sweeps, so
+    they would be averaged with the new ones without a word."""
+    for folder in sorted(into.glob("seed-[0-9]*"))[:1]:
+        old = read_keys(folder / "run.toml")
+        for key in ("size", "rule", "sweeps", "start"):
+            if old[key] != keys[key]:
+                raise Refusal(f"{key} is {old[key]} in {folder}, and {keys[key]} in {template}: make another study elsewhere")
+        for key in ("rules", "swaps"):
+            if read_bytes(folder / str(old[key])) != read_bytes(template.parent / str(keys[key])):
+                raise Refusal(f"{key} of {folder} is another table than that of {template}: make another study elsewhere")
+
+
 def make_folder(path: Path, template: Path, seed: int, couplings: Optional[Path]) -> None:
     """A folder of a run, which is there whole or not at all."""
     path.mkdir()
@@ -131,6 +145,7 @@ def make(options: argparse.Namespace) -> None:
     taken = [number for number, _, _ in found if (into / f"seed-{number:04d}").exists()]
     if taken:
         raise Refusal(f"{into / f'seed-{taken[0]:04d}'} is there: give --first a number above it")
+    check_study(template, keys, into)
     try:
         write_folders(into, template, found, str(keys["couplings"]))
     except OSError as fault:
@@ -198,8 +213,15 @@ def self_test() -> int:
         fifth = (keys["seed"], keys["couplings"], (into / "seed-0005" / "b").read_text())
         checks.same("the fifth", fifth, (1005, "file:b", "B"))
         checks.same("the index", (into / INDEX).read_text().splitlines()[-1], "6,seed-0006,1006,b")
+        for old, new in (("sweeps = 1", "sweeps = 2"), ("rules.csv", "other.csv")):
+            (folder / "run.toml").write_text(TEMPLATE.replace(old, new))
+            (folder / "other.csv").write_text("2\n")
+            status, out, err = outcome([*words, "--first", "7"], main)
+            checks.same(f"another study, {new}", (status, out, err.count("\n"), (into / "seed-0007").exists()), (2, "", 1, False))
+        (folder / "run.toml").write_text(TEMPLATE.replace("epochs = 4", "epochs = 8"))
+        checks.same("a longer one", outcome([*words, "--first", "7"], main)[0], 0)
         (folder / "run.toml").write_text(TEMPLATE.replace("seed = 1000 # the base", '"seed" = 1000'))
-        checks.same("no plain line", outcome([*words, "--first", "7"], main)[0], 2)
+        checks.same("no plain line", outcome([*words, "--first", "9"], main)[0], 2)
         check_refusals(checks, folder)
     return checks.end()
 
