@@ -1,6 +1,7 @@
 -- The report of a run is a lawful report.
 use Rattle.std.proofs.Common.{arith, ◌≡◌, ℕ, ◌+◌, ◌-◌, ◌*◌, ◌<◌, ◌≤◌, inl, Bool, true, false, cond, List, [], ◌∷◌, ◌++◌, map, length, refl, sym, ap, subst, ◌∙◌, flat_map, append-nil, append_assoc, unsigned_abs, pos, ◌-ℤ◌, if◌then◌else◌}
 use Rattle.std.proofs.lemmas.Int.{ints}
+use Rattle.std.proofs.lemmas.List.{length-map}
 use Rattle.std.specs.List.{concat}
 use Rattle.spin_model.specs.Lattice.{volume, bond_count}
 use Rattle.spin_model.specs.Couplings.{Bonds}
@@ -20,10 +21,12 @@ use Rattle.spin_model.proofs.Counts.{count-most}
 use Rattle.scalar_rule.specs.declared.sample.PlainSlot.{PlainSlot}
 use Rattle.scalar_rule.specs.declared.sample.Record.{Record}
 use Rattle.scalar_rule.specs.declared.sample.Sample.{Sample}
-use Rattle.plane_sweep.specs.Packed.{PermutesLabels}
+use Rattle.scalar_rule.specs.declared.sample.Start.{Start}
+use Rattle.plane_sweep.specs.Packed.{part, part_pair, PermutesLabels}
 use Rattle.plane_sweep.proofs.BeginningStates.{opening-labels}
 use Rattle.plane_sweep.proofs.LabelEpochs.{serial-permutes}
 use Rattle.report_text.specs.Lines as text
+use Rattle.run_checkpoint.specs.Encoding.{AreBankStates}
 use Rattle.run_plan.specs.RunFile.{AreLawfulOrders}
 use Rattle.glass_engine.specs.Report.{sample_rows, epoch_rows, rows_in_order, all_spins, report}
 use Rattle.sample_average.specs.declared.header.Header.{Header}
@@ -31,7 +34,7 @@ use Rattle.sample_average.specs.declared.header.Rule.{Rule}
 use Rattle.sample_average.specs.declared.header.Rule.TheVariants as rules_of
 use Rattle.sample_average.specs.declared.row.Row.{Row}
 use Rattle.sample_average.specs.LawfulReport.{IsInRange, IsLawfulHeader, Report, AreSpins, header_line, row_line, end_line, rule_text, spin_lines, report_lines, rows_of}
-use Rattle.glass_main.specs.LawfulRuns.{IsLawfulText}
+use Rattle.glass_main.specs.LawfulRuns.{IsLawfulText, IsWithin}
 use Rattle.glass_main.specs.Beginnings.{opened_by, run_text}
 use Rattle.glass_main.specs.declared.planned.Planned.{Planned}
 use Rattle.glass_main.proofs.ReportRows.{group_rows, group-is, groups_of, groups-are, groups-text, joined-text, concat-map, concat-append}
@@ -76,18 +79,32 @@ end-text epoch = refl
 
 -- ---- a report over any records and contents
 
--- the records of sample b at epoch f, one for each slot, within the ranges
-pub record AreMeasured (plan : Plan) (samples from to : ℕ) (measured : ℕ → ℕ → List Record) : Type 0 where
-  pub sized : (b f : ℕ) → length (measured b f) ≡ slots_of plan
-  pub range : (b f t : ℕ) → b < samples → from ≤ f → f < to → t < slots_of plan → IsInRange (header_as plan samples from to) (row_as f b t (record_at (measured b f) t))
+-- a record for each slot, within the ranges
+pub record IsMeasured (plan : Plan) (records : List Record) : Type 0 where
+  pub sized : length records ≡ slots_of plan
+  pub range : (t : ℕ) → t < slots_of plan → IsWithin plan (record_at records t)
 
-rows-text : (plan : Plan) (samples : ℕ) (measured : ℕ → ℕ → List Record) → ((b f : ℕ) → length (measured b f) ≡ slots_of plan)
+-- those of each sample at each epoch
+abbrev pub AreMeasured : Plan → ℕ → (ℕ → ℕ → List Record) → Type 0
+AreMeasured plan samples measured = (b f : ℕ) → b < samples → IsMeasured plan (measured b f)
+
+-- the ranges of a report are those of its plan
+in-range : (plan : Plan) (samples from to f b t : ℕ) (r : Record) → IsWithin plan r → IsInRange (header_as plan samples from to) (row_as f b t r)
+in-range plan samples from to f b t r w = record {
+  first_energy = w.first_energy;
+  second_energy = w.second_energy;
+  overlap = w.overlap;
+  first_replica = w.first_replica;
+  second_replica = w.second_replica;
+}
+
+rows-text : (plan : Plan) (samples : ℕ) (measured : ℕ → ℕ → List Record) → AreMeasured plan samples measured
     → (f : ℕ) → flat_map row_line (group_rows (λ b t. row_as f b t (record_at (measured b f) t)) samples (slots_of plan)) ≡ epoch_rows measured samples f
-rows-text plan samples measured sized f =
+rows-text plan samples measured are f =
     joined-text row_line (λ b. flat_map (λ t. row_as f b t (record_at (measured b f) t) ∷ []) (table (λ t. t) (slots_of plan))) (λ b. sample_rows f b (measured b f)) samples (λ b less.
     joined-text row_line (λ t. row_as f b t (record_at (measured b f) t) ∷ []) (λ t. text.row_line f b t (record_at (measured b f) t)) (slots_of plan)
     (λ t below. append-nil (row_line (row_as f b t (record_at (measured b f) t))) ∙ row-text f b t (record_at (measured b f) t))
-    ∙ ap (λ n. flat_map (λ t. text.row_line f b t (record_at (measured b f) t)) (table (λ t. t) n)) (sym (sized b f)))
+    ∙ ap (λ n. flat_map (λ t. text.row_line f b t (record_at (measured b f) t)) (table (λ t. t) n)) (sym (are b f less).sized))
 
 spins-chosen : (h : Header) (first second : ℕ → ℕ → List Bool) (with : Bool) → AreSpins h (cond with (spin_list h first second) [])
 spins-chosen h first second true = spins-are h first second
@@ -118,7 +135,7 @@ window-end : (from to : ℕ) → from ≤ to → from + (to - from) ≤ to
 window-end from to rising = omega (arith, rising)
 
 pub composed : (plan : Plan) (samples every from to : ℕ) (measured : ℕ → ℕ → List Record) (contents : ℕ → List PlainSlot) (with : Bool) → IsLawfulPlan plan → 1 ≤ samples → samples ≤ 256 → from ≤ to → to ≤ 1000000000
-    → AreMeasured plan samples from to measured
+    → AreMeasured plan samples measured
     → IsLawfulText (text.header_line plan samples from to ++ rows_in_order measured samples every from to ++ text.end_line to ++ (if with then all_spins plan samples contents else []))
 composed plan samples every from to measured contents with lawful some few rising until are =
     let h : Header = header_as plan samples from to in
@@ -134,10 +151,10 @@ composed plan samples every from to measured contents with lawful some few risin
       epoch = λ b t less under. refl;
       sample = λ b t less under. refl;
       slot = λ b t less under. refl;
-      range = λ b t less under. are.range b f t less past below under;
+      range = λ b t less under. in-range plan samples from to f b t (record_at (measured b f) t) ((are b f less).range t under);
     })) in
     let rows : concat (map row_line (rows_of found)) ≡ rows_in_order measured samples every from to =
-    concat-map row_line (rows_of found) ∙ groups-text row_line group (is_recorded every) (epoch_rows measured samples) from (to - from) (rows-text plan samples measured are.sized) in
+    concat-map row_line (rows_of found) ∙ groups-text row_line group (is_recorded every) (epoch_rows measured samples) from (to - from) (rows-text plan samples measured are) in
     let last : concat (end_line to ∷ spin_lines h 0 spins) ≡ text.end_line to ++ (if with then all_spins plan samples contents else []) =
     ap (λ xs. xs ++ concat (spin_lines h 0 spins)) (sym (end-text to)) ∙ ap (λ xs. text.end_line to ++ xs) (sym (chosen-text h first second with)) in
     let whole : concat (report_lines found) ≡ text.header_line plan samples from to ++ rows_in_order measured samples every from to ++ text.end_line to ++ (if with then all_spins plan samples contents else []) =
@@ -164,9 +181,8 @@ overlap-within : (l : ℕ) (a b : List Bool) → unsigned_abs (overlap l a b) �
 overlap-within l a b = twice-less _ (volume l) (count-most (λ i. agree (spin a i) (spin b i)) (volume l))
 
 -- the record of a slot whose labels are slots' numbers
-pub record-within : (plan : Plan) (samples from to f b t bit : ℕ) (slot : PlainSlot) → slot.first.replica < slots_of plan → slot.second.replica < slots_of plan
-    → IsInRange (header_as plan samples from to) (row_as f b t (record_of plan bit slot))
-record-within plan samples from to f b t bit slot one other = record {
+pub record-within : (plan : Plan) (bit : ℕ) (slot : PlainSlot) → slot.first.replica < slots_of plan → slot.second.replica < slots_of plan → IsWithin plan (record_of plan bit slot)
+record-within plan bit slot one other = record {
   first_energy = energy-within plan.size (bonds_of plan.couplings bit) slot.first.spins;
   second_energy = energy-within plan.size (bonds_of plan.couplings bit) slot.second.spins;
   overlap = overlap-within plan.size slot.first.spins slot.second.spins;
@@ -178,26 +194,38 @@ pub swept-labels : (plan : Plan) (b t : ℕ) (slot : PlainSlot) → ((swept_slot
 unfolding swept_slot
 swept-labels plan b t slot = (refl, refl)
 
--- ---- a run from its opening states
+-- ---- a run from states at one epoch
 
-epoch-range : (plan : Plan) (samples from to f b t : ℕ) (s : Sample) → PermutesLabels plan s → t < slots_of plan
-    → IsInRange (header_as plan samples from to) (row_as f b t (record_at (epoch_records plan s) t))
-epoch-range plan samples from to f b t s labels below =
-    let n : ℕ = slots_of plan in
-    let R : Record → Type 0 = λ r. IsInRange (header_as plan samples from to) (row_as f b t r) in
-    let slot : PlainSlot = swept_slot plan s.bit t (slot_at s.slots t) in
-    let at : slot_at (swept_slots plan s) t ≡ slot = get_or-table (λ k. swept_slot plan s.bit k (slot_at s.slots k)) n t _ below in
-    let is : record_at (epoch_records plan s) t ≡ record_of plan s.bit slot = get_or-table (λ k. record_of plan s.bit (slot_at (swept_slots plan s) k)) n t _ below ∙ ap (record_of plan s.bit) at in
-    let kept = swept-labels plan s.bit t (slot_at s.slots t) in
-    subst R (sym is) (record-within plan samples from to f b t s.bit slot
-    (subst (λ q. q < n) (sym kept.0) (labels.first.below t below)) (subst (λ q. q < n) (sym kept.1) (labels.second.below t below)))
+-- those of 64 samples have the plan's pairs, and labels that permute
+abbrev pub KeepLabels : Plan → (ℕ → Sample) → Type 0
+KeepLabels plan start = (b : ℕ) → b < 64 → (length (start b).pairs ≡ pairs_of plan) × PermutesLabels plan (start b)
 
-opening-measured : (plan : Plan) (start : ℕ → Sample) (samples from to : ℕ) → ((b : ℕ) → length (start b).pairs ≡ pairs_of plan) → ((b : ℕ) → PermutesLabels plan (start b))
-    → AreMeasured plan samples from to (measured_from plan start)
-opening-measured plan start samples from to paired labels = record {
-  sized = λ b f. length-table (λ t. record_of plan (serial plan (start b) f).bit (slot_at (swept_slots plan (serial plan (start b) f)) t)) (slots_of plan);
-  range = λ b f t less past below under. epoch-range plan samples from to f b t (serial plan (start b) f) (serial-permutes plan (start b) f (paired b) (labels b)) under;
+pub opening-kept : (plan : Plan) (start : Start) (bank : ℕ) → KeepLabels plan (opening plan start bank)
+opening-kept plan start bank = λ b small. (length-table (opening_pair plan bank) (pairs_of plan), opening-labels plan start bank b)
+
+pub stood-kept : (plan : Plan) (states : ℕ → Sample) → AreBankStates plan states → KeepLabels plan states
+unfolding part
+stood-kept plan states are = λ b small.
+    subst (λ (s : Sample). (length s.pairs ≡ pairs_of plan) × PermutesLabels plan s) (are.stands b small)
+    (length-map are.stand.pairs part_pair ∙ are.fits.pairs, are.fits.labels b small)
+
+epoch-measured : (plan : Plan) (s : Sample) → PermutesLabels plan s → IsMeasured plan (epoch_records plan s)
+epoch-measured plan s labels = record {
+  sized = length-table (λ t. record_of plan s.bit (slot_at (swept_slots plan s) t)) (slots_of plan);
+  range = λ t below.
+      let n : ℕ = slots_of plan in
+      let slot : PlainSlot = swept_slot plan s.bit t (slot_at s.slots t) in
+      let at : slot_at (swept_slots plan s) t ≡ slot = get_or-table (λ k. swept_slot plan s.bit k (slot_at s.slots k)) n t _ below in
+      let is : record_at (epoch_records plan s) t ≡ record_of plan s.bit slot = get_or-table (λ k. record_of plan s.bit (slot_at (swept_slots plan s) k)) n t _ below ∙ ap (record_of plan s.bit) at in
+      let kept = swept-labels plan s.bit t (slot_at s.slots t) in
+      subst (IsWithin plan) (sym is) (record-within plan s.bit slot
+      (subst (λ q. q < n) (sym kept.0) (labels.first.below t below)) (subst (λ q. q < n) (sym kept.1) (labels.second.below t below)));
 }
+
+pub level-measured : (plan : Plan) (start : ℕ → Sample) (b f : ℕ) → b < 64 → KeepLabels plan start → IsMeasured plan (measured_from plan start b f)
+level-measured plan start b f small keep =
+    let kept = keep b small in
+    epoch-measured plan (serial plan (start b) f) (serial-permutes plan (start b) f kept.0 kept.1)
 
 pub run-lawful : (planned : Planned) (until : ℕ) → IsLawfulPlan planned.plan → AreLawfulOrders planned.orders → until ≤ 1000000000 → IsLawfulText (run_text planned (opened_by planned) until)
 unfolding report
@@ -205,4 +233,4 @@ run-lawful planned until lawful orders within =
     let plan : Plan = planned.plan in
     let start : ℕ → Sample = opening plan planned.orders.start 0 in
     composed plan planned.orders.samples planned.orders.every 0 until (measured_from plan start) (λ b. (serial plan (start b) until).slots) planned.orders.spins lawful orders.some_samples (omega (arith, orders.few_samples)) (omega arith) within
-    (opening-measured plan start planned.orders.samples 0 until (λ b. length-table (opening_pair plan 0) (pairs_of plan)) (λ b. opening-labels plan planned.orders.start 0 b))
+    (λ b f less. level-measured plan start b f (omega (arith, less, orders.few_samples)) (opening-kept plan planned.orders.start 0))

@@ -31,5 +31,6 @@ pub mod BankedFiles
 pub mod BankPlans
 pub mod BankStands
 pub mod BankRuns
+pub mod BankReports
 pub mod OneOfBanks
 pub mod Completing

@@ -22,10 +22,8 @@ use Rattle.exchange_board.specs.Views.{RaggedEndedView}
 use Rattle.exchange_board.proofs.Settling.{partner-known}
 use Rattle.glass_engine.specs.Report.{uneven_measured, all_rest, uneven_report, run_report}
 use Rattle.glass_engine.specs.Runs.{RunView, starts, IsEnd}
-use Rattle.sample_average.specs.LawfulReport.{IsInRange}
 use Rattle.glass_main.specs.LawfulRuns.{IsLawfulText, IsWithin}
-use Rattle.glass_main.proofs.LawfulReports.{header_as, row_as, composed, record-within, swept-labels}
-use Rattle.scalar_rule.specs.Records.{record_at}
+use Rattle.glass_main.proofs.LawfulReports.{composed, record-within, swept-labels, IsMeasured}
 
 -- ---- labels stay numbers of slots
 
@@ -95,15 +93,6 @@ arrived-labels plan s e t labels below = waiting-labels plan s e t (ready plan s
 
 -- ---- what is measured, and what was kept ahead
 
-in-range : (plan : Plan) (samples from to f b t : ℕ) (r : Record) → IsWithin plan r → IsInRange (header_as plan samples from to) (row_as f b t r)
-in-range plan samples from to f b t r w = record {
-  first_energy = w.first_energy;
-  second_energy = w.second_energy;
-  overlap = w.overlap;
-  first_replica = w.first_replica;
-  second_replica = w.second_replica;
-}
-
 zeros : Record
 zeros = record { first_energy = pos 0; second_energy = pos 0; overlap = pos 0; first_replica = 0; second_replica = 0 }
 
@@ -119,18 +108,24 @@ either-record : (P : Record → Type 0) (t : Bool) (a b : Record) → P a → P 
 either-record P true a b p q = p
 either-record P false a b p q = q
 
-uneven-range : (plan : Plan) (states : ℕ → UnevenState) (ahead : List Record) (samples every from to f b t : ℕ) → 0 < slots_of plan → LabelsWithin plan (states b) → All (IsWithin plan) ahead → t < slots_of plan
-    → IsInRange (header_as plan samples from to) (row_as f b t (record_at (uneven_measured plan states ahead samples every b f) t))
+pub record-kept : (plan : Plan) (states : ℕ → UnevenState) (ahead : List Record) (samples every b f t : ℕ) → 0 < slots_of plan → LabelsWithin plan (states b) → All (IsWithin plan) ahead → t < slots_of plan
+    → IsWithin plan (uneven_record plan states ahead samples every b f t)
 unfolding zeros
-uneven-range plan states ahead samples every from to f b t some labels within below =
-    let R : Record → Type 0 = λ r. IsInRange (header_as plan samples from to) (row_as f b t r) in
+record-kept plan states ahead samples every b f t some labels within below =
     let place : ℕ = pending_before samples every (states 0).positions (cell_number (floor_of (states 0).positions) samples (length (states 0).positions) f b t) in
-    let kept : R (pending_record samples every (states 0).positions ahead b f t) =
-    in-range plan samples from to f b t _ (item-within plan ahead place zeros (nat_lt place (length ahead)) refl within (zeros-within plan some)) in
+    let kept : IsWithin plan (pending_record samples every (states 0).positions ahead b f t) = item-within plan ahead place zeros (nat_lt place (length ahead)) refl within (zeros-within plan some) in
     let new = arrived-labels plan (states b) f t labels below in
-    let taken : R (record_of plan b (arrived plan (states b) f t)) = record-within plan samples from to f b t b (arrived plan (states b) f t) new.0 new.1 in
-    subst R (sym (get_or-table (uneven_record plan states ahead samples every b f) (slots_of plan) t _ below))
-    (either-record R (nat_lt f (done (position_at (states 0) t))) (pending_record samples every (states 0).positions ahead b f t) (record_of plan b (arrived plan (states b) f t)) kept taken)
+    let taken : IsWithin plan (record_of plan b (arrived plan (states b) f t)) = record-within plan b (arrived plan (states b) f t) new.0 new.1 in
+    either-record (IsWithin plan) (nat_lt f (done (position_at (states 0) t))) (pending_record samples every (states 0).positions ahead b f t) (record_of plan b (arrived plan (states b) f t)) kept taken
+
+pub uneven-within : (plan : Plan) (states : ℕ → UnevenState) (ahead : List Record) (samples every b f : ℕ) → 0 < slots_of plan → LabelsWithin plan (states b) → All (IsWithin plan) ahead
+    → IsMeasured plan (uneven_measured plan states ahead samples every b f)
+uneven-within plan states ahead samples every b f some labels within = record {
+  sized = length-table (uneven_record plan states ahead samples every b f) (slots_of plan);
+  range = λ t below.
+      subst (IsWithin plan) (sym (get_or-table (uneven_record plan states ahead samples every b f) (slots_of plan) t _ below))
+      (record-kept plan states ahead samples every b f t some labels within below);
+}
 
 pub uneven-lawful : (plan : Plan) (states : ℕ → UnevenState) (ahead : List Record) (samples every until : ℕ) (spins : Bool) (ends : List Position) → IsLawfulPlan plan → 1 ≤ samples → samples ≤ 256
     → floor_of (states 0).positions ≤ floor_of ends → floor_of ends ≤ 1000000000 → ((b : ℕ) → b < samples → LabelsWithin plan (states b)) → All (IsWithin plan) ahead
@@ -138,10 +133,7 @@ pub uneven-lawful : (plan : Plan) (states : ℕ → UnevenState) (ahead : List R
 unfolding uneven_report
 uneven-lawful plan states ahead samples every until spins ends lawful one few rising within labels kept =
     composed plan samples every (floor_of (states 0).positions) (floor_of ends) (uneven_measured plan states ahead samples every) (λ b. (all_ready plan (states b) until).slots) (spins && all_rest until ends)
-    lawful one few rising within (record {
-      sized = λ b f. length-table (uneven_record plan states ahead samples every b f) (slots_of plan);
-      range = λ b f t less past below under. uneven-range plan states ahead samples every (floor_of (states 0).positions) (floor_of ends) f b t (omega (arith, lawful.rules.some)) (labels b less) kept under;
-    })
+    lawful one few rising within (λ b f less. uneven-within plan states ahead samples every b f lawful.rules.some (labels b less) kept)
 
 -- ---- a run that was driven
 

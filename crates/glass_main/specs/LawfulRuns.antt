@@ -1,9 +1,10 @@
 -- The report of a run, as a report that can be read.
-use Rattle.std.specs.Prelude.{ℕ, ◌*◌, ◌<◌, ◌≤◌, unsigned_abs, List, All}
+use Rattle.std.specs.Prelude.{◌≡◌, ℕ, ◌*◌, ◌<◌, ◌≤◌, unsigned_abs, List, length, All}
 use Rattle.spin_model.specs.Lattice.{volume}
 use Rattle.spin_model.specs.Limits.{last_epoch}
 use Rattle.scalar_rule.specs.Plan.{Plan, IsLawfulPlan, slots_of}
 use Rattle.scalar_rule.specs.declared.sample.Record.{Record}
+use Rattle.scalar_rule.specs.declared.sample.Sample.{Sample}
 use Rattle.plane_sweep.specs.Uneven.{positions_of}
 use Rattle.run_plan.specs.RunFile.{AreLawfulOrders}
 use Rattle.exchange_board.specs.Views.{RaggedEndedView}
@@ -11,6 +12,8 @@ use Rattle.glass_engine.specs.Report.{run_report}
 use Rattle.glass_engine.specs.Runs.{RunView, IsEnd}
 use Rattle.sample_average.specs.LawfulReport.{Report, Spells}
 use Rattle.glass_main.specs.Beginnings.{opened_by, run_text}
+use Rattle.glass_main.specs.ManyBanks.{PlannedBanks, bank_count, starts_at, banks_text}
+use Rattle.glass_main.specs.ResumeLaws.{AreBankPlans, AreBeginnings}
 use Rattle.glass_main.specs.declared.planned.Planned.{Planned}
 
 -- some lawful report has these bytes as its lines
@@ -33,3 +36,9 @@ pub record IsWithin (plan : Plan) (values : Record) : Type 0 where
 -- that its starting state has ahead are within these ranges
 abbrev pub EndedReportsAreLawful : Type 0
 EndedReportsAreLawful = (run : RunView) (d : RaggedEndedView) → IsEnd run d → All (IsWithin run.plan) run.base.pending → IsLawfulText (run_report run (positions_of d.stand))
+
+-- and so does a run of 2 to 4 banks, as many as its samples are kept in, from its opening states or from states at one epoch
+-- that fit, to that epoch or a later one
+abbrev pub BanksReportsAreLawful : Type 0
+BanksReportsAreLawful = (planned : PlannedBanks) (starts : List (ℕ → Sample)) (until : ℕ) → AreBankPlans planned.plans → length planned.plans ≡ bank_count planned.orders.samples
+    → AreBeginnings planned starts → starts_at starts ≤ until → until ≤ last_epoch → IsLawfulText (banks_text planned starts until)

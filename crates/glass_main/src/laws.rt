@@ -1,6 +1,6 @@
 //! What holds of the definitions: each law is the contract of a function with an empty body.
 
-ghost use Rattle.glass_main.specs.LawfulRuns.{EndedReportsAreLawful, RunReportsAreLawful};
+ghost use Rattle.glass_main.specs.LawfulRuns.{BanksReportsAreLawful, EndedReportsAreLawful, RunReportsAreLawful};
 ghost use Rattle.glass_main.specs.ResumeLaws.{AcceptedBanksAreEncodings, SavedBanksAreRead, SavedBanksGoOn, SavedRunsAreRead, SavedRunsGoOn};
 ghost use Rattle.glass_main.specs.SampleLaws.{SamplesBelow64AreOfOneBank};
 ghost use Rattle.glass_main.specs.SavedLaws.{EncodedStatesAreRead, ReadStatesAreEncoded};
@@ -15,6 +15,12 @@ pub fn run_reports_are_lawful()
 /// the records that its starting state has ahead are within their ranges.
 pub fn ended_reports_are_lawful()
     ensures { EndedReportsAreLawful }
+{}
+
+/// The report of a run of 2 to 4 banks, from its opening states or from those of a checkpoint, is a lawful
+/// one.
+pub fn banks_reports_are_lawful()
+    ensures { BanksReportsAreLawful }
 {}
 
 /// The bytes of a checkpoint that a run goes on from are the encoding of what it goes on from.

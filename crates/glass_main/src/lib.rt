@@ -50,10 +50,11 @@ pub use command_line::{Command, PlainOrder};
 pub use correlation_words::LinesOrder;
 pub use ending::Ending;
 pub use laws::{
-    accepted_banks_are_encodings, accepted_checkpoints_are_encodings, encoded_states_are_read,
-    ended_reports_are_lawful, read_states_are_encoded, run_reports_are_lawful,
-    samples_below_64_are_of_one_bank, saved_banks_are_read, saved_banks_go_on, saved_runs_are_read,
-    saved_runs_go_on, saved_stops_are_read, stopped_runs_add_up,
+    accepted_banks_are_encodings, accepted_checkpoints_are_encodings, banks_reports_are_lawful,
+    encoded_states_are_read, ended_reports_are_lawful, read_states_are_encoded,
+    run_reports_are_lawful, samples_below_64_are_of_one_bank, saved_banks_are_read,
+    saved_banks_go_on, saved_runs_are_read, saved_runs_go_on, saved_stops_are_read,
+    stopped_runs_add_up,
 };
 pub use lines::no_memory;
 pub use planned::Planned;
