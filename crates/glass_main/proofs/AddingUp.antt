@@ -312,7 +312,7 @@ and-true : (a b : Bool) → b ≡ true → (a && b) ≡ a
 and-true true b is = is
 and-true false b is = refl
 
-run-parts : (planned : Planned) (until : ℕ) (from : Beginning) → 0 < slots_of planned.plan → run_text planned from until
+pub run-parts : (planned : Planned) (until : ℕ) (from : Beginning) → 0 < slots_of planned.plan → run_text planned from until
     ≡ header_line planned.plan planned.orders.samples (begins_at from) until ++ rows_to planned.plan planned.orders.samples planned.orders.every from until ++ end_line until
     ++ cond planned.orders.spins (spins_at planned.plan planned.orders.samples from until) []
 unfolding report uneven_report

@@ -27,16 +27,13 @@ use Rattle.plane_sweep.proofs.BeginningStates.{opening-labels}
 use Rattle.plane_sweep.proofs.LabelEpochs.{serial-permutes}
 use Rattle.report_text.specs.Lines as text
 use Rattle.run_checkpoint.specs.Encoding.{AreBankStates}
-use Rattle.run_plan.specs.RunFile.{AreLawfulOrders}
-use Rattle.glass_engine.specs.Report.{sample_rows, epoch_rows, rows_in_order, all_spins, report}
+use Rattle.glass_engine.specs.Report.{sample_rows, epoch_rows, rows_in_order, all_spins}
 use Rattle.sample_average.specs.declared.header.Header.{Header}
 use Rattle.sample_average.specs.declared.header.Rule.{Rule}
 use Rattle.sample_average.specs.declared.header.Rule.TheVariants as rules_of
 use Rattle.sample_average.specs.declared.row.Row.{Row}
 use Rattle.sample_average.specs.LawfulReport.{IsInRange, IsLawfulHeader, Report, AreSpins, header_line, row_line, end_line, rule_text, spin_lines, report_lines, rows_of}
 use Rattle.glass_main.specs.LawfulRuns.{IsLawfulText, IsWithin}
-use Rattle.glass_main.specs.Beginnings.{opened_by, run_text}
-use Rattle.glass_main.specs.declared.planned.Planned.{Planned}
 use Rattle.glass_main.proofs.ReportRows.{group_rows, group-is, groups_of, groups-are, groups-text, joined-text, concat-map, concat-append}
 use Rattle.glass_main.proofs.ReportSpins.{spin_list, slot_text, spins-text, spins-are}
 
@@ -226,11 +223,3 @@ pub level-measured : (plan : Plan) (start : ℕ → Sample) (b f : ℕ) → b < 
 level-measured plan start b f small keep =
     let kept = keep b small in
     epoch-measured plan (serial plan (start b) f) (serial-permutes plan (start b) f kept.0 kept.1)
-
-pub run-lawful : (planned : Planned) (until : ℕ) → IsLawfulPlan planned.plan → AreLawfulOrders planned.orders → until ≤ 1000000000 → IsLawfulText (run_text planned (opened_by planned) until)
-unfolding report
-run-lawful planned until lawful orders within =
-    let plan : Plan = planned.plan in
-    let start : ℕ → Sample = opening plan planned.orders.start 0 in
-    composed plan planned.orders.samples planned.orders.every 0 until (measured_from plan start) (λ b. (serial plan (start b) until).slots) planned.orders.spins lawful orders.some_samples (omega (arith, orders.few_samples)) (omega arith) within
-    (λ b f less. level-measured plan start b f (omega (arith, less, orders.few_samples)) (opening-kept plan planned.orders.start 0))

@@ -27,6 +27,7 @@ pub mod ReportRows
 pub mod ReportSpins
 pub mod LawfulReports
 pub mod UnevenReports
+pub mod RunReports
 pub mod BankedFiles
 pub mod BankPlans
 pub mod BankStands

@@ -137,7 +137,7 @@ uneven-lawful plan states ahead samples every until spins ends lawful one few ri
 
 -- ---- a run that was driven
 
-least-most : (f : ℕ → ℕ) (n : ℕ) → least f n ≤ greatest f n
+pub least-most : (f : ℕ → ℕ) (n : ℕ) → least f n ≤ greatest f n
 unfolding least greatest
 least-most f zero = omega arith
 least-most f (suc n) =

@@ -1,14 +1,21 @@
 //! What holds of the definitions: each law is the contract of a function with an empty body.
 
-ghost use Rattle.glass_main.specs.LawfulRuns.{BanksReportsAreLawful, EndedReportsAreLawful, RunReportsAreLawful};
+ghost use Rattle.glass_main.specs.LawfulRuns.{BanksReportsAreLawful, EndedReportsAreLawful, RunReportsAreLawful, StoppedReportsAreLawful};
 ghost use Rattle.glass_main.specs.ResumeLaws.{AcceptedBanksAreEncodings, SavedBanksAreRead, SavedBanksGoOn, SavedRunsAreRead, SavedRunsGoOn};
 ghost use Rattle.glass_main.specs.SampleLaws.{SamplesBelow64AreOfOneBank};
 ghost use Rattle.glass_main.specs.SavedLaws.{EncodedStatesAreRead, ReadStatesAreEncoded};
 ghost use Rattle.glass_main.specs.StopLaws.{AcceptedCheckpointsAreEncodings, SavedStopsAreRead, StoppedRunsAddUp};
 
-/// The report that a run prints is one that `average` reads.
+/// The report of a run to an epoch, from its opening states or from a checkpoint whose records ahead are
+/// within their ranges, is a lawful one.
 pub fn run_reports_are_lawful()
     ensures { RunReportsAreLawful }
+{}
+
+/// And so is that of a run that may stop between epochs; the records that it keeps ahead are within their
+/// ranges again.
+pub fn stopped_reports_are_lawful()
+    ensures { StoppedReportsAreLawful }
 {}
 
 /// The report of a run that begins or stops with its slots at epochs of their own is a lawful one, where
