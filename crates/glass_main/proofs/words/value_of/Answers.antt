@@ -1,5 +1,5 @@
 -- What std reads from digits is their value, and nothing where that is too great.
-use Rattle.std.proofs.Common.{arith, ◌≡◌, ℕ, ◌<◌, ◌≤◌, ◌^◌, true, List, length, inl, inr, sym, subst}
+use Rattle.std.proofs.Common.{arith, ◌≡◌, ℕ, ◌≤◌, ◌^◌, true, List, length, inl, inr, sym, subst}
 use Rattle.std.specs.Prelude.{Result, Ok, Err, IfSome, IfNone}
 use Rattle.std.specs.Char.{is_ascii_digit}
 use Rattle.std.specs.List.{list_all}
