@@ -34,4 +34,5 @@ pub mod BankStands
 pub mod BankRuns
 pub mod BankReports
 pub mod OneOfBanks
+pub mod CheckpointLengths
 pub mod Completing

@@ -1,6 +1,7 @@
 //! What holds of the definitions: each law is the contract of a function with an empty body.
 
 ghost use Rattle.glass_main.specs.LawfulRuns.{BanksReportsAreLawful, EndedReportsAreLawful, RunReportsAreLawful, StoppedReportsAreLawful};
+ghost use Rattle.glass_main.specs.LengthLaws.{SavedCheckpointsAreShort};
 ghost use Rattle.glass_main.specs.ResumeLaws.{AcceptedBanksAreEncodings, SavedBanksAreRead, SavedBanksGoOn, SavedRunsAreRead, SavedRunsGoOn};
 ghost use Rattle.glass_main.specs.SampleLaws.{SamplesBelow64AreOfOneBank};
 ghost use Rattle.glass_main.specs.SavedLaws.{EncodedStatesAreRead, ReadStatesAreEncoded};
@@ -68,6 +69,12 @@ pub fn saved_banks_are_read()
 /// The report of one run has the rows of both and the end and the spins of the next, whose checkpoint is its.
 pub fn saved_banks_go_on()
     ensures { SavedBanksGoOn }
+{}
+
+/// No checkpoint that a run saves, at an epoch, where it stopped, or of 2 to 4 banks, is above the limit of
+/// one that is read.
+pub fn saved_checkpoints_are_short()
+    ensures { SavedCheckpointsAreShort }
 {}
 
 /// Runs that stop and are gone on with add up, however often and wherever they were stopped: the rows of
