@@ -34,5 +34,6 @@ pub mod BankStands
 pub mod BankRuns
 pub mod BankReports
 pub mod OneOfBanks
+pub mod AcceptedParts
 pub mod CheckpointLengths
 pub mod Completing

@@ -18,6 +18,7 @@ pub mod Endings
 pub mod Statuses
 pub mod StopLaws
 pub mod ResumeLaws
+pub mod AmountLaws
 pub mod LengthLaws
 pub mod LawfulRuns
 pub mod SavedLaws

@@ -1,5 +1,6 @@
 //! What holds of the definitions: each law is the contract of a function with an empty body.
 
+ghost use Rattle.glass_main.specs.AmountLaws.{PartsAreAccepted};
 ghost use Rattle.glass_main.specs.LawfulRuns.{BanksReportsAreLawful, EndedReportsAreLawful, RunReportsAreLawful, StoppedReportsAreLawful};
 ghost use Rattle.glass_main.specs.LengthLaws.{SavedCheckpointsAreShort};
 ghost use Rattle.glass_main.specs.ResumeLaws.{AcceptedBanksAreEncodings, SavedBanksAreRead, SavedBanksGoOn, SavedRunsAreRead, SavedRunsGoOn};
@@ -82,6 +83,12 @@ pub fn saved_checkpoints_are_short()
 /// last are those of the one.
 pub fn stopped_runs_add_up()
     ensures { StoppedRunsAddUp }
+{}
+
+/// Where a run is not refused for its amount, another one of the same plan and orders is refused for its
+/// rows alone, and for nothing where it begins no sooner and ends no later.
+pub fn parts_are_accepted()
+    ensures { PartsAreAccepted }
 {}
 
 /// The bytes of a checkpoint whose link overlaps and correlation lines are printed are the encoding of the
