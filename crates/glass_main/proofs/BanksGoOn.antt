@@ -28,17 +28,17 @@ use Rattle.glass_main.proofs.StoppedRuns.{rows-same}
 -- ---- states at one epoch
 
 -- those of the samples of each bank
-unfoldable AreAt : ℕ → List Plan → List (ℕ → Sample) → Type 0
+unfoldable pub AreAt : ℕ → List Plan → List (ℕ → Sample) → Type 0
 AreAt c [] [] = Unit {0}
 AreAt c (plan ∷ plans) (start ∷ starts) = ((b : ℕ) → b < 64 → (start b).epoch ≡ c) × AreAt c plans starts
 AreAt _ _ _ = ⊥
 
-opened-at : (g : ℕ) (plans : List Plan) (start : Start) → AreAt 0 plans (openings_from g plans start)
+pub opened-at : (g : ℕ) (plans : List Plan) (start : Start) → AreAt 0 plans (openings_from g plans start)
 unfolding AreAt openings_from
 opened-at g [] start = tt
 opened-at g (plan ∷ plans) start = ((λ b small. refl), opened-at (g + 1) plans start)
 
-banks-at : (c : ℕ) (plans : List Plan) (starts : List (ℕ → Sample)) → AreBanks c plans starts → AreAt c plans starts
+pub banks-at : (c : ℕ) (plans : List Plan) (starts : List (ℕ → Sample)) → AreBanks c plans starts → AreAt c plans starts
 unfolding AreAt AreBanks part
 banks-at c [] [] are = tt
 banks-at c [] (start ∷ starts) are = absurd are
@@ -54,7 +54,7 @@ begin-at planned starts begin = elim begin [
   | inr held ↦ (held.0, banks-at held.0 planned.plans starts held.1)
 ]
 
-first-at : (c : ℕ) (plans : List Plan) (starts : List (ℕ → Sample)) → 0 < length plans → AreAt c plans starts → starts_at starts ≡ c
+pub first-at : (c : ℕ) (plans : List Plan) (starts : List (ℕ → Sample)) → 0 < length plans → AreAt c plans starts → starts_at starts ≡ c
 unfolding AreAt starts_at
 first-at c [] starts some at = absurd (omega arith)
 first-at c (plan ∷ plans) [] some at = absurd at

@@ -36,4 +36,7 @@ pub mod BankReports
 pub mod OneOfBanks
 pub mod AcceptedParts
 pub mod CheckpointLengths
+pub mod LawfulPlans
+pub mod LawfulRequests
+pub mod ReadBytes
 pub mod Completing

@@ -28,7 +28,7 @@ use Rattle.glass_main.specs.declared.refusal.Refusal.TheVariants as refused
 use Rattle.glass_main.specs.declared.role.Role.TheVariants as roles
 
 -- a step that gave something
-stepped : {A B : Type 0} (a : Result A Refusal) (next : A → Result B Refusal) (y : B) → and_then a next ≡ Ok y → (x : A) × (a ≡ Ok x) × (next x ≡ Ok y)
+pub stepped : {A B : Type 0} (a : Result A Refusal) (next : A → Result B Refusal) (y : B) → and_then a next ≡ Ok y → (x : A) × (a ≡ Ok x) × (next x ≡ Ok y)
 stepped (Ok x) next y is = (x, refl, is)
 stepped (Err e) next y is = absurd cc
 
@@ -52,7 +52,7 @@ first-plan plan_of l n bonds some =
     let one : table f 1 ≡ f 0 ∷ [] = table-more f 0 ∙ ap (λ xs. xs ++ f 0 ∷ []) (table-zero f) in
     ap (table f) size ∙ table-add f 1 (n - 1) ∙ ap (λ xs. xs ++ table (λ g. f (1 + g)) (n - 1)) one
 
-same-ok : {A E : Type 0} (a b : A) → ◌≡◌ {A = Result A E} (Ok a) (Ok b) → a ≡ b
+pub same-ok : {A E : Type 0} (a b : A) → ◌≡◌ {A = Result A E} (Ok a) (Ok b) → a ≡ b
 same-ok a b e = cc
 
 -- the plans and the orders by J of each sample

@@ -20,6 +20,7 @@ pub mod StopLaws
 pub mod ResumeLaws
 pub mod AmountLaws
 pub mod LengthLaws
+pub mod LawfulRequests
 pub mod LawfulRuns
 pub mod SavedLaws
 pub mod SampleLaws

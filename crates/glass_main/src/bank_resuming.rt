@@ -7,7 +7,7 @@ ghost use Rattle.glass_main.specs.ManyBanks.{banks_opened_by, banks_resumed_by, 
 ghost use Rattle.glass_main.specs.Outside.{store};
 ghost use Rattle.glass_main.specs.ReadCommand.{name_bytes};
 ghost use Rattle.glass_main.specs.Request as model;
-ghost use Rattle.glass_main.specs.Resumes.{AreResumable, Begins, Resumes};
+ghost use Rattle.glass_main.specs.Resumes.{AreBytes, AreResumable, Begins, HasBytes, Resumes, ResumesBytes};
 
 use crate::ending::Ending;
 use crate::gathering::gather_bytes;
@@ -35,6 +35,7 @@ pub(crate) fn gather_stands<H: Shelf>(
         (option_map (model.banks_beginning_at (name_bytes name.entry) planned.now until) (H.holds shelf.old))
         result (store H.holds H.faults H.lengths shelf.old) (store H.holds H.faults H.lengths shelf.new) }
     ensures resumable { IfOk result (AreResumable planned.now.plans until) }
+    ensures bytes { IfOk result (λ stands. ResumesBytes (name_bytes name.entry) (H.holds shelf.old)) }
 {
     match name {
         None => match opening_stands(alloc, planned) {
@@ -85,6 +86,7 @@ fn gather_checkpoint<H: Shelf>(
         (option_map (model.banks_checkpoint_at planned.now until name.now) (H.holds shelf.old))
         result (store H.holds H.faults H.lengths shelf.old) (store H.holds H.faults H.lengths shelf.new) }
     ensures resumable { IfOk result (AreResumable planned.now.plans until) }
+    ensures bytes { IfOk result (λ stands. HasBytes (H.holds shelf.old) name.now) }
 {
     let bytes = match gather_bytes(alloc, shelf, Role::Checkpoint, name) {
         Ok(bytes) => bytes,
@@ -102,6 +104,7 @@ fn decode(
 ) -> Result<Items<Stand>, Ending>
     ensures read { Resumes (BanksStand planned.now.plans) (banks_resumed_by planned.now until bytes.now) result }
     ensures resumable { IfOk result (AreResumable planned.now.plans until) }
+    ensures bytes { AreBytes bytes.now }
 {
     match decode_banks(alloc, &planned.plans, until, bytes) {
         Ok(stands) => Ok(Items::of(stands)),

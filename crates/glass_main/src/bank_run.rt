@@ -15,7 +15,7 @@ ghost use Rattle.glass_main.specs.Opened.{IsUnopened};
 ghost use Rattle.glass_main.specs.Outside.{output, store};
 ghost use Rattle.glass_main.specs.ReadCommand.{name_bytes, read_run_order, IsLawfulOrder};
 ghost use Rattle.glass_main.specs.Request.{banks_work, plans_at, has_banks};
-ghost use Rattle.glass_main.specs.Resumes.{AreResumable};
+ghost use Rattle.glass_main.specs.Resumes.{AreResumable, ResumesBytes};
 ghost use Rattle.glass_main.specs.Statuses.{Ends};
 
 use crate::asked::Asked;
@@ -50,9 +50,10 @@ pub(crate) fn run_banks<R: Threads + Wait + Sync, H: Shelf, O: Sink, G: Gate + S
     requires order { IsLawfulOrder asked.order }
     requires planned { IfSome (option_map (plans_at (has_banks asked.order.stop_after) asked.order.run.now)
         (H.holds shelf.old)) (λ said. said ≡ Ok (Plans.Banks asked.planned)) }
-    ensures { Ends (Some (commands.Run (read_run_order asked.entry.order))) result
+    ensures ends { Ends (Some (commands.Run (read_run_order asked.entry.order))) result
         (store H.holds H.faults H.lengths shelf.old) (store H.holds H.faults H.lengths shelf.new)
         (output O.taken O.faults out.old) (output O.taken O.faults out.new) }
+    ensures bytes { result ≡ Ending.Done → ResumesBytes (name_bytes asked.entry.order.from) (H.holds shelf.old) }
 {
     // What the banks print and save is the serial dynamics'.
     banks_report_is_serial();

@@ -9,7 +9,7 @@ ghost use Rattle.glass_main.specs.Beginnings.{IsBaseOf, opened_by, resumed_by};
 ghost use Rattle.glass_main.specs.Outside.{store};
 ghost use Rattle.glass_main.specs.Request as model;
 ghost use Rattle.glass_main.specs.ReadCommand.{name_bytes};
-ghost use Rattle.glass_main.specs.Resumes.{Begins, IsResumable, Resumes, ending_of};
+ghost use Rattle.glass_main.specs.Resumes.{AreBytes, Begins, HasBytes, IsResumable, Resumes, ResumesBytes, ending_of};
 
 use crate::ending::Ending;
 use crate::gathering::gather_bytes;
@@ -36,6 +36,7 @@ pub(crate) fn gather_base<H: Shelf>(
         (option_map (model.beginning_at (name_bytes name.entry) planned.now until) (H.holds shelf.old))
         result (store H.holds H.faults H.lengths shelf.old) (store H.holds H.faults H.lengths shelf.new) }
     ensures resumable { IfOk result (IsResumable planned.now until) }
+    ensures bytes { IfOk result (λ base. ResumesBytes (name_bytes name.entry) (H.holds shelf.old)) }
 {
     match name {
         None => match opening_base(alloc, planned, until) {
@@ -81,6 +82,7 @@ fn gather_checkpoint<H: Shelf>(
         (option_map (model.checkpoint_at planned.now until name.now) (H.holds shelf.old))
         result (store H.holds H.faults H.lengths shelf.old) (store H.holds H.faults H.lengths shelf.new) }
     ensures resumable { IfOk result (IsResumable planned.now until) }
+    ensures bytes { IfOk result (λ base. HasBytes (H.holds shelf.old) name.now) }
 {
     let bytes = match gather_bytes(alloc, shelf, Role::Checkpoint, name) {
         Ok(bytes) => bytes,
@@ -95,6 +97,7 @@ fn decode(alloc: Global, planned: &Planned, until: u64, bytes: &[u8]) -> Result<
     requires until { until ≤ last_epoch }
     ensures read { Resumes (IsBaseOf planned.now.plan) (resumed_by planned.now until bytes.now) result }
     ensures resumable { IfOk result (IsResumable planned.now until) }
+    ensures bytes { AreBytes bytes.now }
 {
     let plan = &planned.plan;
     let orders = &planned.orders;

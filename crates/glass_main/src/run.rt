@@ -13,7 +13,7 @@ ghost use Rattle.glass_main.specs.Opened.{takes_of, saves_as, IsOpened, IsUnopen
 ghost use Rattle.glass_main.specs.Outside.{output, store};
 ghost use Rattle.glass_main.specs.ReadCommand.{name_bytes, read_run_order, IsLawfulOrder};
 ghost use Rattle.glass_main.specs.Request as model;
-ghost use Rattle.glass_main.specs.Resumes.{IsResumable};
+ghost use Rattle.glass_main.specs.Resumes.{IsResumable, ResumesBytes};
 ghost use Rattle.glass_main.specs.Statuses.{Ends};
 
 use crate::asked::Asked;
@@ -48,9 +48,10 @@ pub(crate) fn run<R: Threads + Wait + Sync, H: Shelf, O: Sink, G: Gate + Sync>(
     order: &RunOrder<'_>,
 ) -> Ending
     requires { IsLawfulOrder order.now }
-    ensures { Ends (Some (commands.Run (read_run_order order.now))) result
+    ensures ends { Ends (Some (commands.Run (read_run_order order.now))) result
         (store H.holds H.faults H.lengths shelf.old) (store H.holds H.faults H.lengths shelf.new)
         (output O.taken O.faults out.old) (output O.taken O.faults out.new) }
+    ensures bytes { result ≡ Ending.Done → ResumesBytes (name_bytes order.now.from) (H.holds shelf.old) }
 {
     let plans = match gather_plans(alloc, shelf, order.run, has_banks(order)) {
         Ok(plans) => plans,
@@ -84,9 +85,10 @@ fn run_one<R: Threads + Wait + Sync, H: Shelf, O: Sink, G: Gate + Sync>(
     requires orders { AreLawfulOrders asked.planned.orders }
     requires planned { IfSome (option_map (model.plans_at (model.has_banks asked.order.stop_after) asked.order.run.now)
         (H.holds shelf.old)) (λ said. said ≡ Ok (Plans.One asked.planned)) }
-    ensures { Ends (Some (commands.Run (read_run_order asked.entry.order))) result
+    ensures ends { Ends (Some (commands.Run (read_run_order asked.entry.order))) result
         (store H.holds H.faults H.lengths shelf.old) (store H.holds H.faults H.lengths shelf.new)
         (output O.taken O.faults out.old) (output O.taken O.faults out.new) }
+    ensures bytes { result ≡ Ending.Done → ResumesBytes (name_bytes asked.entry.order.from) (H.holds shelf.old) }
 {
     let Asked { order, planned } = asked;
     let until = until_of(&order, &planned.orders);

@@ -1,10 +1,12 @@
 //! The top call.
 
-ghost use Rattle.std.specs.Prelude.{◌≡◌, ◌↔◌, Some, None, IfSome};
+ghost use Rattle.std.specs.Prelude.{◌≡◌, ◌↔◌, Some, None, IfSome, IfOk};
 ghost use Rattle.glass_main.specs.CommandLine.{Run, command_of, saved_name};
 ghost use Rattle.glass_main.specs.Endings.{ReadsNoFile};
+ghost use Rattle.glass_main.specs.LawfulRequests.{IsLawfulWork};
 ghost use Rattle.glass_main.specs.Outside.{output, store};
 ghost use Rattle.glass_main.specs.Request.{request};
+ghost use Rattle.glass_main.specs.Resumes.{GoesOnFromBytes};
 ghost use Rattle.glass_main.specs.RunWords.{RunOrder, SaysRun};
 ghost use Rattle.glass_main.specs.Statuses.{Ends, Answers, Does, Completes, TellsFaults};
 ghost use Rattle.glass_main.specs.Words.{texts};
@@ -80,6 +82,11 @@ pub fn glass<R: Threads + Wait + Sync, H: Shelf, O: Sink, E: Sink, G: Gate + Syn
         (output O.taken O.faults out.old) (output O.taken O.faults out.new)
         (output E.taken E.faults err.old) (output E.taken E.faults err.new)) }
 
+    // And what was asked for is lawful: the plans and the orders of a run, what it began with, and its last
+    // epoch, as the laws on runs that go on from one another ask.
+    ensures lawful { result ≡ 0 → IfSome (request (texts words.now) (H.holds shelf.old)) (λ asked.
+        IfOk asked IsLawfulWork) }
+
     // Where the store did not fail a refusal is told, and where the output did not either the work is
     // done, but for want of memory.
     ensures complete { IfSome (request (texts words.now) (H.holds shelf.old)) (λ asked.
@@ -105,6 +112,7 @@ fn answer<R: Threads + Wait + Sync, H: Shelf, O: Sink, G: Gate + Sync>(
         (store H.holds H.faults H.lengths shelf.old) (store H.holds H.faults H.lengths shelf.new)
         (output O.taken O.faults out.old) (output O.taken O.faults out.new) }
     ensures untouched { ReadsNoFile (command_of (texts words.now)) → shelf.new ≡ shelf.old }
+    ensures bytes { result ≡ Ending.Done → GoesOnFromBytes (command_of (texts words.now)) (H.holds shelf.old) }
 {
     match read_words(words) {
         None => Ending::Refused(Refusal::Words),

@@ -1,7 +1,9 @@
 use Rattle.std.proofs.Common.{ℕ, List, subst}
 use Rattle.run_checkpoint.specs.BankEncoding.{BanksStand}
 use Rattle.glass_main.specs.ManyBanks.{banks_resumed_by}
-use Rattle.glass_main.specs.Resumes.{Resumes}
+use Rattle.glass_main.specs.Resumes.{AreBytes, HasBytes, Resumes}
+use Rattle.glass_main.specs.declared.role.Role.TheVariants.{Checkpoint}
+use Rattle.glass_main.proofs.ReadBytes.{has-bytes, ok-free}
 use Rattle.glass_main.proofs.Resumed.{begins-read, begins-unread}
 use Rattle.glass_main.proofs.bank_resuming.gather_checkpoint.Goals as goal
 
@@ -15,3 +17,9 @@ pub returns-in-Err-clause-asked : goal.returns-in-Err-clause-asked
 returns-in-Err-clause-asked g c =
     let planned = c.args.planned.now in
     begins-unread (BanksStand planned.plans) (banks_resumed_by planned c.args.until) c.args.name.now _ _ _ c.in-Err.ensures
+
+pub returns-clause-bytes : goal.returns-clause-bytes
+returns-clause-bytes g c =
+    let name = c.args.name.now in
+    let held = g.H.Shelf.holds c.args.shelf.now in
+    ok-free c.decode.result (HasBytes held name) (has-bytes Checkpoint name held c.in-Ok.bytes c.in-Ok.ensures.found (subst AreBytes c.as_slice.ensures c.decode.ensures.bytes))

@@ -3,6 +3,7 @@ use Rattle.run_checkpoint.specs.BankEncoding.{BanksStand, banks_parts}
 use Rattle.scalar_rule.specs.declared.sample.Sample.{Sample}
 use Rattle.glass_main.proofs.BankRuns.{stand-epoch, banks-accepted}
 use Rattle.glass_main.proofs.BankStands.{parts-stand}
+use Rattle.glass_main.proofs.ReadBytes.{begins-undone}
 use Rattle.glass_main.proofs.RunEndings.{has-begun, ends-unbegun, ends-unopened, ends-finished}
 use Rattle.glass_main.specs.KeptPlans.{banks_view}
 use Rattle.glass_main.specs.ManyBanks.{PlannedBanks, banks_amount_refusal, starts_at, stands_at}
@@ -20,8 +21,8 @@ use Rattle.glass_main.proofs.bank_run.run_banks.Goals as goal
 until-by : (order : RunOrder) (kept planned : PlannedBanks) (until : ℕ) → until ≡ until_of order kept.orders → kept ≡ planned → until ≡ until_of order planned.orders
 until-by order kept planned until told is = told ∙ ap (λ (p : PlannedBanks). until_of order p.orders) is
 
-pub returns-in-Err : goal.returns-in-Err
-returns-in-Err g c =
+pub returns-in-Err-clause-ends : goal.returns-in-Err-clause-ends
+returns-in-Err-clause-ends g c =
     let order = read_run_order c.args.asked.order in
     let planned = c.args.asked.planned in
     let e = until_of order planned.orders in
@@ -30,8 +31,8 @@ returns-in-Err g c =
     ends-unbegun order (Banks planned) (banks_beginning_at order.from planned e) (banks_work planned e) (λ files. refl) (BanksStand planned.plans) c.in-Err.ending _ _ _
     c.requires.planned (subst B same c.in-Err.ensures.asked)
 
-pub returns-in-Err-open_run : goal.returns-in-Err-open_run
-returns-in-Err-open_run g c =
+pub returns-in-Err-open_run-clause-ends : goal.returns-in-Err-open_run-clause-ends
+returns-in-Err-open_run-clause-ends g c =
     let order = read_run_order c.args.asked.order in
     let planned = c.args.asked.planned in
     let stands = c.in-Ok.stands in
@@ -46,8 +47,8 @@ returns-in-Err-open_run g c =
     (subst (U parts) same (c.in-Err-open_run.ensures.stopped parts (stand-epoch planned.plans parts stands (parts-stand r.epoch planned.plans stands r.fit))))
     (λ starts b. subst (U starts) same (c.in-Err-open_run.ensures.stopped starts (stand-epoch planned.plans starts stands b)))
 
-pub returns : goal.returns
-returns g c =
+pub returns-clause-ends : goal.returns-clause-ends
+returns-clause-ends g c =
     let order = read_run_order c.args.asked.order in
     let planned = c.args.asked.planned in
     let stands = c.in-Ok.stands in
@@ -68,3 +69,6 @@ returns g c =
     ends-finished order (Banks planned) (banks_beginning_at order.from planned e) (banks_work planned e) (λ files. refl) (BanksStand planned.plans) stands (λ starts. BanksWork planned starts e)
     (λ starts b. banks-accepted planned e starts (none starts b)) c.finish_banks.result _ _ _ _ _ begun c.finish_banks.ensures.ending
     c.finish_banks.ensures.out c.finish_banks.ensures.files (subst W same wrote) c.finish_banks.ensures.later_store c.finish_banks.ensures.later
+
+pub returns-in-Err-clause-bytes : goal.returns-in-Err-clause-bytes
+returns-in-Err-clause-bytes g c = begins-undone _ _ _ _ _ _ _ c.in-Err.ensures.asked

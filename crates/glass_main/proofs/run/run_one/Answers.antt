@@ -4,6 +4,7 @@ use Rattle.run_plan.specs.Amounts.{amount_refusal}
 use Rattle.scalar_rule.specs.Positions.{floor_of}
 use Rattle.glass_main.proofs.OneBank.{base-accepted}
 use Rattle.glass_main.proofs.OpenedRuns.{run-of}
+use Rattle.glass_main.proofs.ReadBytes.{begins-undone}
 use Rattle.glass_main.proofs.RunEndings.{has-begun, ends-unbegun, ends-unopened, ends-finished}
 use Rattle.glass_main.proofs.StoppedRuns.{base-floor}
 use Rattle.glass_main.specs.Beginnings.{Beginning, Uneven, IsBaseOf}
@@ -17,8 +18,8 @@ use Rattle.glass_main.specs.declared.plans.Plans.TheVariants.{One}
 use Rattle.glass_main.proofs.run.run_one.Goals as goal
 
 -- the type of the equation of the epochs is given in each answer, since its right side would be found written out
-pub returns-in-Err : goal.returns-in-Err
-returns-in-Err g c =
+pub returns-in-Err-clause-ends : goal.returns-in-Err-clause-ends
+returns-in-Err-clause-ends g c =
     let order = read_run_order c.args.asked.order in
     let planned = c.args.asked.planned in
     let e = until_of order planned.orders in
@@ -27,8 +28,8 @@ returns-in-Err g c =
     ends-unbegun order (One planned) (beginning_at order.from planned e) (run_work order.stop_after planned e) (λ files. refl) (IsBaseOf planned.plan) c.in-Err.ending _ _ _
     c.requires.planned (subst B same c.in-Err.ensures.asked)
 
-pub returns-in-Err-open_run : goal.returns-in-Err-open_run
-returns-in-Err-open_run g c =
+pub returns-in-Err-open_run-clause-ends : goal.returns-in-Err-open_run-clause-ends
+returns-in-Err-open_run-clause-ends g c =
     let order = read_run_order c.args.asked.order in
     let planned = c.args.asked.planned in
     let base = c.in-Ok.base in
@@ -41,8 +42,8 @@ returns-in-Err-open_run g c =
     (subst (U (Uneven base)) same (c.in-Err-open_run.ensures.stopped (Uneven base) refl))
     (λ from b. subst (U from) same (c.in-Err-open_run.ensures.stopped from (base-floor planned.plan from base c.in-Ok.ensures.resumable.some b)))
 
-pub returns : goal.returns
-returns g c =
+pub returns-clause-ends : goal.returns-clause-ends
+returns-clause-ends g c =
     let order = read_run_order c.args.asked.order in
     let planned = c.args.asked.planned in
     let base = c.in-Ok.base in
@@ -60,3 +61,6 @@ returns g c =
     ends-finished order (One planned) (beginning_at order.from planned e) (run_work order.stop_after planned e) (λ files. refl) (IsBaseOf planned.plan) base (λ from. RunWork planned from e order.stop_after)
     (λ from b. base-accepted order.stop_after planned base e from c.in-Ok.ensures.resumable.some b none) c.finish_run.result _ _ _ _ _ begun c.finish_run.ensures.ending
     c.finish_run.ensures.out c.finish_run.ensures.files (subst W same wrote) c.finish_run.ensures.later_store c.finish_run.ensures.later
+
+pub returns-in-Err-clause-bytes : goal.returns-in-Err-clause-bytes
+returns-in-Err-clause-bytes g c = begins-undone _ _ _ _ _ _ _ c.in-Err.ensures.asked

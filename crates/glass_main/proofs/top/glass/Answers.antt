@@ -1,5 +1,8 @@
+use Rattle.std.proofs.Common.{sym, ◌∙◌}
 use Rattle.glass_main.specs.Words.{texts}
 use Rattle.glass_main.proofs.Completing.{completes}
+use Rattle.glass_main.proofs.LawfulRequests.{request-lawful}
+use Rattle.glass_main.proofs.ReadBytes.{done-of}
 use Rattle.glass_main.proofs.SaidRuns.{command_of-run}
 use Rattle.glass_main.proofs.top.glass.Goals as goal
 
@@ -8,3 +11,8 @@ returns-clause-complete g c = completes _ _ _ _ _ _ _ c.answer-ending.ensures.en
 
 pub returns-clause-run_words : goal.returns-clause-run_words
 returns-clause-run_words g c = command_of-run (texts c.args.words.now)
+
+pub returns-clause-lawful : goal.returns-clause-lawful
+returns-clause-lawful g c = λ zero.
+    let done = done-of c.answer-ending.result (sym c.status.ensures ∙ zero) in
+    request-lawful (texts c.args.words.now) (g.H.Shelf.holds c.args.shelf.now) (c.answer-ending.ensures.bytes done)
