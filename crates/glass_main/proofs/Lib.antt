@@ -38,5 +38,6 @@ pub mod AcceptedParts
 pub mod CheckpointLengths
 pub mod LawfulPlans
 pub mod LawfulRequests
+pub mod NextRuns
 pub mod ReadBytes
 pub mod Completing

@@ -21,6 +21,7 @@ pub mod ResumeLaws
 pub mod AmountLaws
 pub mod LengthLaws
 pub mod LawfulRequests
+pub mod NextRuns
 pub mod LawfulRuns
 pub mod SavedLaws
 pub mod SampleLaws

@@ -3,6 +3,7 @@
 ghost use Rattle.glass_main.specs.AmountLaws.{PartsAreAccepted};
 ghost use Rattle.glass_main.specs.LawfulRuns.{BanksReportsAreLawful, EndedReportsAreLawful, RunReportsAreLawful, StoppedReportsAreLawful};
 ghost use Rattle.glass_main.specs.LengthLaws.{SavedCheckpointsAreShort};
+ghost use Rattle.glass_main.specs.NextRuns.{LawfulRunsGoOn};
 ghost use Rattle.glass_main.specs.ResumeLaws.{AcceptedBanksAreEncodings, SavedBanksAreRead, SavedBanksGoOn, SavedRunsAreRead, SavedRunsGoOn};
 ghost use Rattle.glass_main.specs.SampleLaws.{SamplesBelow64AreOfOneBank};
 ghost use Rattle.glass_main.specs.SavedLaws.{EncodedStatesAreRead, ReadStatesAreEncoded};
@@ -83,6 +84,12 @@ pub fn saved_checkpoints_are_short()
 /// last are those of the one.
 pub fn stopped_runs_add_up()
     ensures { StoppedRunsAddUp }
+{}
+
+/// By the name that has what a lawful run saved, whose states fit, the next run of the same plan and orders
+/// begins with it: of 64 samples, of a run that stopped, or of 2 to 4 banks.
+pub fn lawful_runs_go_on()
+    ensures { LawfulRunsGoOn }
 {}
 
 /// Where a run is not refused for its amount, another one of the same plan and orders is refused for its
