@@ -211,6 +211,7 @@ banks-lawful file rules swaps (Ok bonds) planned lawful several tables is =
         lawful = all-table IsLawfulPlan make n (λ g within. plan-lawful file rules swaps (bank_of g bonds) lawful tables);
         shape = record { size = file.lattice; slots = length rules.rows; shape = shape.0 };
       };
+      count = long;
       orders = lawful.orders;
     } in
     subst AreLawfulBanks (same-ok made planned is) own

@@ -1,12 +1,12 @@
 -- What holds of what is asked for, where nothing refuses it: what the laws on runs that go on from one another ask for.
-use Rattle.std.specs.Prelude.{◌≡◌, ℕ, ◌≤◌, List, None}
+use Rattle.std.specs.Prelude.{◌≡◌, ℕ, ◌≤◌, List, length, None}
 use Rattle.run_plan.specs.Amounts.{amount_refusal}
 use Rattle.run_plan.specs.RunFile.{AreLawfulOrders, AreOrdersOfBanks}
 use Rattle.scalar_rule.specs.Plan.{IsLawfulPlan}
 use Rattle.scalar_rule.specs.declared.sample.Sample.{Sample}
 use Rattle.spin_model.specs.Limits.{last_epoch}
 use Rattle.glass_main.specs.Beginnings.{Beginning, begins_at}
-use Rattle.glass_main.specs.ManyBanks.{PlannedBanks, starts_at, banks_amount_refusal}
+use Rattle.glass_main.specs.ManyBanks.{PlannedBanks, bank_count, starts_at, banks_amount_refusal}
 use Rattle.glass_main.specs.Request.{Work, PlainWork, CheckWork, RunWork, BanksWork, AverageWork, DemoWork, LinesWork, PottsWork, AgeWork}
 use Rattle.glass_main.specs.ResumeLaws.{AreBankPlans, AreBeginnings}
 use Rattle.glass_main.specs.StopLaws.{IsBeginning, reached_by}
@@ -21,9 +21,11 @@ pub record IsLawfulPlanned (planned : Planned) : Type 0 where
   pub plan : IsLawfulPlan planned.plan
   pub orders : AreLawfulOrders planned.orders
 
--- lawful plans of 2 to 4 banks, all of one size and with as many slots, and lawful orders of up to 256 samples
+-- lawful plans of 2 to 4 banks, as many as the samples are kept in, all of one size and with as many slots, and lawful orders of
+-- up to 256 samples
 pub record AreLawfulBanks (planned : PlannedBanks) : Type 0 where
   pub plans : AreBankPlans planned.plans
+  pub count : length planned.plans ≡ bank_count planned.orders.samples
   pub orders : AreOrdersOfBanks planned.orders
 
 abbrev pub AreLawfulPlans : Plans → Type 0
