@@ -2,7 +2,7 @@
 """Holds docs/proofs.md to the sources.
 
 Each row of its tables names public calls and clauses, definitions, must-fail edits and tests. Each of these
-must exist in crates/, and each must-fail edit and each public call of crates/ must be named on the page. A
+must exist in crates/, and each must-fail edit, test and public call of crates/ must be named on the page. A
 definition that is named behind a file of specs/ must stand in that file; so must those of the tables of nouns
 and of laws. The benchmarks' crates and those of tests alone owe no rows for their calls.
 
@@ -178,6 +178,7 @@ def differences(root: Path) -> List[str]:
     for first, cell, crate in others_of(page):
         found += [f"{first[:60]}: {it}" for it in misplaced(cell, crate, False, has)]
     found += [f"the edit {it} is not named" for it in sorted(has.edits - named)]
+    found += [f"the test {it} is not named" for it in sorted(has.tests - named)]
     for crate, calls in has.calls.items():
         found += [f"the call {crate}::{it} is not named" for it in sorted(calls - named)]
     return found
@@ -203,7 +204,7 @@ def self_test() -> int:
         cases = [
             (row, 0),
             (row.replace("wrong_sum", "wrong_sun"), 2),
-            (row.replace("adds_two", "adds_three"), 1),
+            (row.replace("adds_two", "adds_three"), 2),
             (row.replace("done", "gone"), 1),
             (row.replace("`sum`", "`product`"), 1),
             (row.replace("c::f", "c").replace(": done", ""), 1),
