@@ -32,11 +32,7 @@ use std::sync::Arc;
 fn no_records(alloc: Global, count: usize) -> Result<Items<Record>, NoMemory>
     ensures { IfOk result (λ rows. rows ≡ replicate count no_record) }
 {
-    let mut rows = Vec::with_capacity(alloc, count)?;
-    'rows: for k in 0..count {
-        rows.push(NO_RECORD)?;
-    }
-    Ok(Items::of(rows))
+    Ok(Items::of(vec![in alloc; NO_RECORD; count]?))
 }
 
 // One place of the table: where it has a record that is kept, that record goes to its row.
