@@ -1,6 +1,6 @@
 //! A slot's content, wherever the slot is.
 
-ghost use Rattle.std.specs.Prelude.{◌≡◌, ◌≤◌, true, Some, None, is_some};
+ghost use Rattle.std.specs.Prelude.{◌≡◌, ◌≤◌};
 ghost use Rattle.std.specs.Arc.{arc_value};
 
 use crate::origin::Origin;
@@ -48,23 +48,12 @@ impl Home {
     {
         let is_recorded = is_recorded(self.share.window.every, at.epoch);
         if is_recorded || has_partner(plan.slots(), at.slot, at.epoch) {
-            let totals = sweep_and_total(rt, &mut self.duo, plan, at.slot, pieces);
-            fill_page(&mut self.page, &self.duo, &totals, plan, is_recorded);
-            self.totals = Some(totals);
+            self.totals = Some(sweep_and_total(rt, &mut self.duo, plan, at.slot, pieces));
+            if let Some(totals) = &self.totals {
+                fill_page(&mut self.page, &self.duo, totals, plan, is_recorded);
+            }
         } else {
             sweep_slot(rt, &mut self.duo, plan, at.slot, pieces);
-        }
-    }
-
-    /// Its sums, which it then has no more.
-    pub(crate) fn take_totals(&mut self) -> Totals
-        requires { is_some self.old.totals ≡ true }
-        ensures taken { self.old.totals ≡ Some result }
-        ensures rest { self.new ≡ record self.old { totals = None } }
-    {
-        match self.totals.take() {
-            Some(totals) => totals,
-            None => unreachable!(),
         }
     }
 }
