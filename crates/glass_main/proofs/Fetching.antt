@@ -1,11 +1,11 @@
 -- What a fetch gives of the bytes that a step asks for.
-use Rattle.std.proofs.Common.{rules, Global, ◌≡◌, ℕ, ◌<◌, ◌≤◌, List, length, Option, Some, None, option_map, IfSome, Result, Ok, Err, if◌then◌else◌, refl, sym, ap, subst, ◌∙◌, arith}
+use Rattle.std.proofs.Common.{rules, Global, ◌≡◌, ℕ, ◌<◌, ◌≤◌, List, length, Option, Some, None, option_map, IfSome, Result, Ok, Err, IfErr, if◌then◌else◌, refl, sym, ap, subst, ◌∙◌, arith}
 use Rattle.std.specs.declared.vec.Vec.{Vec}
 use Rattle.glass_edges.specs.Causes.{Rose}
 use Rattle.glass_edges.specs.Contents.{Files, HoldsFile, LacksFile, HoldsAtLeast}
 use Rattle.glass_edges.specs.declared.shelf.Fetched.{Fetched}
 use Rattle.glass_edges.specs.declared.shelf.Fetched.TheVariants as answer
-use Rattle.glass_main.specs.Endings.{IsOfFile}
+use Rattle.glass_main.specs.Endings.{IsOfFile, IsOfOneEpoch}
 use Rattle.glass_main.specs.declared.role.Role.{Role}
 use Rattle.glass_main.specs.declared.role.Role.TheVariants as roles
 use Rattle.glass_main.specs.declared.refusal.Refusal.{Refusal}
@@ -14,7 +14,7 @@ use Rattle.glass_main.specs.declared.refusal.Refusal.TheVariants as refused
 use Rattle.glass_main.specs.Gathers.{Gathers, Fetches, gathered}
 use Rattle.glass_main.specs.declared.ending.Ending.{Ending}
 use Rattle.glass_main.specs.Request.{limit_of, bytes_in, bytes_at}
-use Rattle.glass_main.specs.Statuses.{IsRefusedBy}
+use Rattle.glass_main.specs.Statuses.{IfRefused, IsRefusedBy}
 use Rattle.std.proofs.lemmas.Bool.{le-leb, lt-leb}
 
 pub bytes-found : (role : Role) (held : Option Files) (name bytes : List ℕ) → HoldsFile held name bytes → length bytes ≤ limit_of role
@@ -91,6 +91,14 @@ gathers_fetched role name held holds before now lengths later_lengths limit answ
   lengths = stay;
   later = later;
 })
+
+-- a fetch is refused for no format
+pub fetched-level : (role : Role) (fetched : Fetched) (result : Result (List ℕ) Ending) → result ≡ gathered role fetched → IfErr result (λ ending. IfRefused ending IsOfOneEpoch)
+fetched-level role (answer.Held v) result is = rw is tt
+fetched-level role answer.Absent result is = rw is tt
+fetched-level role (answer.TooLong n) result is = rw is tt
+fetched-level role answer.Failed result is = rw is tt
+fetched-level role answer.NoMemory result is = rw is tt
 
 -- ---- steps that fetch more
 

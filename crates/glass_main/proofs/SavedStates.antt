@@ -17,15 +17,12 @@ use Rattle.run_checkpoint.specs.declared.refused.CheckpointRefused.{CheckpointRe
 use Rattle.run_checkpoint.specs.declared.refused.CheckpointRefused.TheVariants as checkpoint
 use Rattle.run_checkpoint.proofs.LevelClauses.{none-is, is-only, level-tells}
 use Rattle.run_checkpoint.proofs.Tested.{Tells}
-use Rattle.glass_edges.specs.declared.shelf.Fetched.{Fetched}
-use Rattle.glass_edges.specs.declared.shelf.Fetched.TheVariants as answer
 use Rattle.glass_main.specs.Endings.{IsOfCheckpoint, IsOfOneEpoch}
-use Rattle.glass_main.specs.Gathers.{Gathers, Fetches, gathered}
+use Rattle.glass_main.specs.Gathers.{Gathers, Fetches}
 use Rattle.glass_main.specs.Outside.{Store}
 use Rattle.glass_main.specs.Request.{and_then, told_as, bytes_at, stand_at}
-use Rattle.glass_main.specs.Statuses.{IfRefused, IsRefusedBy}
+use Rattle.glass_main.specs.Statuses.{IsRefusedBy}
 use Rattle.glass_main.specs.declared.refusal.Refusal.{Refusal}
-use Rattle.glass_main.specs.declared.ending.Ending.{Ending}
 use Rattle.glass_main.specs.declared.ending.Ending.TheVariants.{Refused}
 use Rattle.glass_main.specs.declared.role.Role.TheVariants as roles
 use Rattle.glass_main.specs.SavedLaws.{IsRead}
@@ -116,14 +113,6 @@ stand-refused plan name bytes e held holds found file due passed same lengths la
   lengths = lengths;
   later = later;
 }
-
--- a fetch is refused for no format
-pub fetched-level : (fetched : Fetched) (result : Result (List ℕ) Ending) → result ≡ gathered roles.Checkpoint fetched → IfErr result (λ ending. IfRefused ending IsOfOneEpoch)
-fetched-level (answer.Held v) result is = rw is tt
-fetched-level answer.Absent result is = rw is tt
-fetched-level (answer.TooLong n) result is = rw is tt
-fetched-level answer.Failed result is = rw is tt
-fetched-level answer.NoMemory result is = rw is tt
 
 -- ---- what is read
 

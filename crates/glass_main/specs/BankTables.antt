@@ -10,8 +10,8 @@ use Rattle.scalar_rule.specs.Plan.{Plan}
 use Rattle.spin_model.specs.Couplings.{Bonds}
 use Rattle.threshold_table.specs.Tables.{RuleView}
 use Rattle.glass_main.specs.ManyBanks.{bank_plans}
-use Rattle.glass_main.specs.declared.bank_tables.ReadRules.{ReadRules}
-use Rattle.glass_main.specs.declared.bank_tables.ReadSwaps.{ReadSwaps}
+use Rattle.glass_main.specs.declared.gathering.ReadRules.{ReadRules}
+use Rattle.glass_main.specs.declared.gathering.ReadSwaps.{ReadSwaps}
 use Rattle.glass_main.specs.declared.ending.Ending.{Ending}
 use Rattle.glass_main.specs.declared.plans.Plans.{Plans}
 use Rattle.glass_main.specs.declared.plans.Plans.TheVariants.{One, Banks}

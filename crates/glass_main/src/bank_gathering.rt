@@ -5,15 +5,18 @@ ghost use Rattle.coupling_set.specs.CouplingsFile.{couplings_in};
 ghost use Rattle.glass_edges.specs.Refusals.{Gives};
 ghost use Rattle.run_plan.specs.RunFile.{IsLawfulRunFile};
 ghost use Rattle.threshold_table.specs.Tables.{rule_table, swap_table};
-ghost use Rattle.glass_main.specs.BankTables.{rules_read, swaps_read, HasLawfulOrders};
+ghost use Rattle.glass_main.specs.BankTables.{HasLawfulOrders};
 ghost use Rattle.glass_main.specs.Endings.{IsReached, IsReachedAfter, IsReachedAfterRules};
 ghost use Rattle.glass_main.specs.Gathers.{Gathers, Fetches};
 ghost use Rattle.glass_main.specs.Outside.{store};
 ghost use Rattle.glass_main.specs.Request as model;
 
-use crate::bank_tables::{ReadRules, ReadSwaps, plans_of};
+use crate::bank_tables::plans_of;
 use crate::ending::Ending;
-use crate::gathering::{gather_after_file, gather_bytes, gather_run_file};
+use crate::gathering::{
+    ReadRules, ReadSwaps, gather_after_file, gather_bytes, gather_rules, gather_run_file,
+    gather_swaps,
+};
 use crate::plans::{PlannedBanks, Plans};
 use crate::refusal::Refusal;
 use crate::role::Role;
@@ -23,7 +26,6 @@ use plain_list::Items;
 use run_plan::{CouplingSource, RunFile};
 use spin_model::BANK_SAMPLES;
 use std::alloc::Global;
-use threshold_table::{RuleTable, TableRefused, read_rule, read_swap};
 
 /// Reads the run file of a name, then the tables and couplings that it names, for a command that runs many
 /// banks of 64 samples or but one.
@@ -151,44 +153,6 @@ fn read_banks(
             orders: file.orders,
         }),
         Err(refused) => Err(refused),
-    }
-}
-
-// Reads the rule table that a run file names, and keeps its bytes.
-#[tactic(auto, unfolding(crate::specs::Request::rules_at))]
-fn gather_rules<H: Shelf>(alloc: Global, shelf: &mut H, file: &RunFile) -> Result<ReadRules, Ending>
-    ensures asked { Gathers (option_map (model.rules_at file.now) (H.holds shelf.old))
-        (Fetches Role.RuleTable) (rules_read result)
-        (store H.holds H.faults H.lengths shelf.old) (store H.holds H.faults H.lengths shelf.new) }
-    ensures read { IfOk result (λ read. rule_table file.now.kind read.bytes ≡ Ok read.rules) }
-{
-    let bytes = gather_bytes(alloc, shelf, Role::RuleTable, file.rules.as_str())?;
-    match read_rule(alloc, bytes.as_slice(), file.kind) {
-        Ok(rules) => Ok(ReadRules { rules, bytes }),
-        Err(TableRefused::NoMemory) => Err(Ending::NoMemory),
-        Err(refused) => Err(Ending::Refused(Refusal::Rules(refused))),
-    }
-}
-
-// Reads the swap table that a run file names, for so many slots, and keeps its bytes.
-#[tactic(auto, unfolding(crate::specs::Request::swaps_at))]
-fn gather_swaps<H: Shelf>(
-    alloc: Global,
-    shelf: &mut H,
-    file: &RunFile,
-    rules: &RuleTable,
-) -> Result<ReadSwaps, Ending>
-    ensures asked { Gathers (option_map (model.swaps_at file.now rules.now) (H.holds shelf.old))
-        (Fetches Role.SwapTable) (swaps_read result)
-        (store H.holds H.faults H.lengths shelf.old) (store H.holds H.faults H.lengths shelf.new) }
-    ensures read { IfOk result (λ read. swap_table (length rules.now.rows) read.bytes ≡ Ok read.swaps) }
-    ensures pairs { IfOk result (λ read. length read.swaps + 1 ≡ length rules.now.rows) }
-{
-    let bytes = gather_bytes(alloc, shelf, Role::SwapTable, file.swaps.as_str())?;
-    match read_swap(alloc, bytes.as_slice(), rules.slots()) {
-        Ok(swaps) => Ok(ReadSwaps { swaps, bytes }),
-        Err(TableRefused::NoMemory) => Err(Ending::NoMemory),
-        Err(refused) => Err(Ending::Refused(Refusal::Swaps(refused))),
     }
 }
 

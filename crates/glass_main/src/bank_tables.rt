@@ -12,30 +12,15 @@ ghost use Rattle.glass_main.specs.BankTables.{couplings_by, plan_by, plans_by};
 ghost use Rattle.glass_main.specs.ManyBanks.{bank_count};
 ghost use Rattle.glass_main.specs.Request as model;
 
-use crate::gathering::make_plus;
+use crate::gathering::{ReadRules, ReadSwaps, make_plus};
 use coupling_set::{Couplings, CouplingsRefused, couplings_are_their_bonds};
 use glass_edges::NoMemory;
 use lattice_geometry::Lattice;
-use plain_list::Items;
 use run_plan::{CouplingSource, RunFile};
 use scalar_rule::Plan;
 use std::alloc::Global;
 use std::sync::Arc;
 use threshold_table::{RuleTable, SwapTable, read_rule, read_swap};
-
-/// A rule table, and the bytes of which it was read.
-#[derive(Drop)]
-pub(crate) struct ReadRules {
-    pub(crate) rules: RuleTable,
-    pub(crate) bytes: Items<u8>,
-}
-
-/// A swap table, and the bytes of which it was read.
-#[derive(Drop)]
-pub(crate) struct ReadSwaps {
-    pub(crate) swaps: SwapTable,
-    pub(crate) bytes: Items<u8>,
-}
 
 /// The plan of each bank of a run file with these tables, by the bytes of the couplings file where one
 /// is named.

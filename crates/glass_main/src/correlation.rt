@@ -13,13 +13,12 @@ ghost use Rattle.glass_main.specs.Statuses.{Ends, IfRefused};
 
 use crate::correlation_words::LinesOrder;
 use crate::ending::Ending;
-use crate::gathering::{gather_plan, gathered};
+use crate::gathering::{gather_bytes, gather_plan};
 use crate::refusal::Refusal;
 use crate::role::Role;
 use crate::saved_state::SavedState;
 use glass_edges::{Shelf, Sink};
 use overlap_lines::write_lines;
-use plain_list::Items;
 use plane_sweep::Stand;
 use run_checkpoint::{CheckpointRefused, decode};
 use scalar_rule::Plan;
@@ -81,27 +80,10 @@ fn gather_stand<H: Shelf>(
     ensures level { IfErr result (λ ending. IfRefused ending IsOfOneEpoch) }
     ensures fits { IfOk result (StandFits plan.now) }
 {
-    let bytes = gather_checkpoint(alloc, shelf, name)?;
+    let bytes = gather_bytes(alloc, shelf, Role::Checkpoint, name)?;
     match decode(alloc, plan, LAST_EPOCH, bytes.as_slice()) {
         Ok(base) => Ok(base),
         Err(CheckpointRefused::NoMemory) => Err(Ending::NoMemory),
         Err(refused) => Err(Ending::Refused(Refusal::Checkpoint(refused))),
     }
-}
-
-// Fetches the bytes of the checkpoint of a name. A fetch that failed is not tried again.
-fn gather_checkpoint<H: Shelf>(
-    alloc: Global,
-    shelf: &mut H,
-    name: &str,
-) -> Result<Items<u8>, Ending>
-    ensures asked { Gathers (option_map (model.bytes_at Role.Checkpoint name.now) (H.holds shelf.old))
-        (Fetches Role.Checkpoint) result
-        (store H.holds H.faults H.lengths shelf.old) (store H.holds H.faults H.lengths shelf.new) }
-    ensures level { IfErr result (λ ending. IfRefused ending IsOfOneEpoch) }
-{
-    gathered(
-        Role::Checkpoint,
-        shelf.fetch(alloc, name, Role::Checkpoint.limit()),
-    )
 }

@@ -1,14 +1,17 @@
 //! Reading what a run file names, step by step.
 
-ghost use Rattle.std.specs.Prelude.{◌≡◌, ◌+◌, false, length, option_map, IfOk, IfErr, Err};
+ghost use Rattle.std.specs.Prelude.{◌≡◌, ◌+◌, false, length, option_map, IfOk, IfErr, Ok, Err};
 ghost use Rattle.coupling_set.specs.BondsAsWords.{couplings_with};
 ghost use Rattle.spin_model.specs.Couplings.{plus, random};
 ghost use Rattle.glass_edges.specs.Refusals.{Gives};
 ghost use Rattle.run_plan.specs.RunFile.{run_file, IsLawfulRunFile, AreLawfulOrders};
-ghost use Rattle.glass_main.specs.Endings.{IsReached, IsReachedAfter, IsReachedAfterRules};
+ghost use Rattle.threshold_table.specs.Tables.{rule_table, swap_table};
+ghost use Rattle.glass_main.specs.BankTables.{rules_read, swaps_read};
+ghost use Rattle.glass_main.specs.Endings.{IsOfOneEpoch, IsReached, IsReachedAfter, IsReachedAfterRules};
 ghost use Rattle.glass_main.specs.Gathers.{Gathers, Fetches, gathered};
 ghost use Rattle.glass_main.specs.Outside.{store};
 ghost use Rattle.glass_main.specs.Request as model;
+ghost use Rattle.glass_main.specs.Statuses.{IfRefused};
 
 use crate::ending::Ending;
 use crate::planned::Planned;
@@ -22,6 +25,20 @@ use run_plan::{CouplingSource, PlanRefused, RunFile, check_banks, read_plan};
 use scalar_rule::Plan;
 use std::alloc::Global;
 use threshold_table::{RuleTable, SwapTable, TableRefused, read_rule, read_swap};
+
+/// A rule table, and the bytes of which it was read.
+#[derive(Drop)]
+pub(crate) struct ReadRules {
+    pub(crate) rules: RuleTable,
+    pub(crate) bytes: Items<u8>,
+}
+
+/// A swap table, and the bytes of which it was read.
+#[derive(Drop)]
+pub(crate) struct ReadSwaps {
+    pub(crate) swaps: SwapTable,
+    pub(crate) bytes: Items<u8>,
+}
 
 /// Reads the run file of a name, then the tables and couplings that it names, for a command that runs one
 /// bank of 64 samples.
@@ -54,7 +71,7 @@ pub(crate) fn gather_after_file<H: Shelf>(
         (store H.holds H.faults H.lengths shelf.old) (store H.holds H.faults H.lengths shelf.new) }
     ensures orders { IfOk result (λ planned. AreLawfulOrders planned.orders) }
 {
-    let rules = gather_rules(alloc, shelf, file)?;
+    let ReadRules { rules, .. } = gather_rules(alloc, shelf, file)?;
     gather_after_rules(alloc, shelf, file, rules)
 }
 
@@ -73,7 +90,7 @@ fn gather_after_rules<H: Shelf>(
         (store H.holds H.faults H.lengths shelf.old) (store H.holds H.faults H.lengths shelf.new) }
     ensures orders { IfOk result (λ planned. AreLawfulOrders planned.orders) }
 {
-    let swaps = gather_swaps(alloc, shelf, file, &rules)?;
+    let ReadSwaps { swaps, .. } = gather_swaps(alloc, shelf, file, &rules)?;
     let couplings = gather_couplings(alloc, shelf, file)?;
     Ok(Planned {
         plan: Plan::new(
@@ -123,37 +140,43 @@ fn read_run_file(alloc: Global, bytes: &[u8], many: bool) -> Result<RunFile, Pla
     Ok(file)
 }
 
-// Reads the rule table that a run file names.
+/// Reads the rule table that a run file names, and keeps its bytes.
 #[tactic(auto, unfolding(crate::specs::Request::rules_at))]
-fn gather_rules<H: Shelf>(alloc: Global, shelf: &mut H, file: &RunFile) -> Result<RuleTable, Ending>
-    ensures { Gathers (option_map (model.rules_at file.now) (H.holds shelf.old))
-        (Fetches Role.RuleTable) result
+pub(crate) fn gather_rules<H: Shelf>(
+    alloc: Global,
+    shelf: &mut H,
+    file: &RunFile,
+) -> Result<ReadRules, Ending>
+    ensures asked { Gathers (option_map (model.rules_at file.now) (H.holds shelf.old))
+        (Fetches Role.RuleTable) (rules_read result)
         (store H.holds H.faults H.lengths shelf.old) (store H.holds H.faults H.lengths shelf.new) }
+    ensures read { IfOk result (λ read. rule_table file.now.kind read.bytes ≡ Ok read.rules) }
 {
     let bytes = gather_bytes(alloc, shelf, Role::RuleTable, file.rules.as_str())?;
     match read_rule(alloc, bytes.as_slice(), file.kind) {
-        Ok(rules) => Ok(rules),
+        Ok(rules) => Ok(ReadRules { rules, bytes }),
         Err(TableRefused::NoMemory) => Err(Ending::NoMemory),
         Err(refused) => Err(Ending::Refused(Refusal::Rules(refused))),
     }
 }
 
-// Reads the swap table that a run file names, for so many slots.
+/// Reads the swap table that a run file names, for so many slots, and keeps its bytes.
 #[tactic(auto, unfolding(crate::specs::Request::swaps_at))]
-fn gather_swaps<H: Shelf>(
+pub(crate) fn gather_swaps<H: Shelf>(
     alloc: Global,
     shelf: &mut H,
     file: &RunFile,
     rules: &RuleTable,
-) -> Result<SwapTable, Ending>
+) -> Result<ReadSwaps, Ending>
     ensures asked { Gathers (option_map (model.swaps_at file.now rules.now) (H.holds shelf.old))
-        (Fetches Role.SwapTable) result
+        (Fetches Role.SwapTable) (swaps_read result)
         (store H.holds H.faults H.lengths shelf.old) (store H.holds H.faults H.lengths shelf.new) }
-    ensures pairs { IfOk result (λ swaps. length swaps + 1 ≡ length rules.now.rows) }
+    ensures read { IfOk result (λ read. swap_table (length rules.now.rows) read.bytes ≡ Ok read.swaps) }
+    ensures pairs { IfOk result (λ read. length read.swaps + 1 ≡ length rules.now.rows) }
 {
     let bytes = gather_bytes(alloc, shelf, Role::SwapTable, file.swaps.as_str())?;
     match read_swap(alloc, bytes.as_slice(), rules.slots()) {
-        Ok(swaps) => Ok(swaps),
+        Ok(swaps) => Ok(ReadSwaps { swaps, bytes }),
         Err(TableRefused::NoMemory) => Err(Ending::NoMemory),
         Err(refused) => Err(Ending::Refused(Refusal::Swaps(refused))),
     }
@@ -231,9 +254,11 @@ pub(crate) fn gather_bytes<H: Shelf>(
     role: Role,
     name: &str,
 ) -> Result<Items<u8>, Ending>
-    ensures { Gathers (option_map (model.bytes_at role name.now) (H.holds shelf.old))
+    ensures asked { Gathers (option_map (model.bytes_at role name.now) (H.holds shelf.old))
         (Fetches role) result
         (store H.holds H.faults H.lengths shelf.old) (store H.holds H.faults H.lengths shelf.new) }
+    // A fetch is refused for no format, and so for none of a checkpoint that is not at one epoch.
+    ensures level { IfErr result (λ ending. IfRefused ending IsOfOneEpoch) }
 {
     gathered(role, shelf.fetch(alloc, name, role.limit()))
 }

@@ -1,8 +1,11 @@
-use Rattle.glass_main.proofs.Fetching.{gathers_fetched}
+use Rattle.glass_main.proofs.Fetching.{gathers_fetched, fetched-level}
 use Rattle.glass_main.proofs.gathering.gather_bytes.Goals as goal
 
 pub returns : goal.returns
 returns g c =
     let fetch = c.fetch.ensures in
-    gathers_fetched c.args.role c.args.name.now _ _ _ _ _ _ _ _ _ c.gathered.ensures c.limit.ensures
-    fetch.held fetch.limit fetch.absent fetch.above fetch.long fetch.length fetch.failed fetch.quiet fetch.later fetch.same fetch.lengths_stay
+    record {
+      asked = gathers_fetched c.args.role c.args.name.now _ _ _ _ _ _ _ _ _ c.gathered.ensures c.limit.ensures
+          fetch.held fetch.limit fetch.absent fetch.above fetch.long fetch.length fetch.failed fetch.quiet fetch.later fetch.same fetch.lengths_stay;
+      level = fetched-level c.args.role _ _ c.gathered.ensures;
+    }

@@ -10,15 +10,15 @@ pub returns-clause-asked : goal.returns-clause-asked
 returns-clause-asked g c =
     let planned = c.args.planned.now in
     let R : List ℕ → Type 0 = λ bytes. Resumes (IsBaseOf planned.plan) (resumed_by planned c.args.until bytes) c.decode.result in
-    begins-read (IsBaseOf planned.plan) (resumed_by planned c.args.until) c.args.name.now c.in-Ok.bytes c.decode.result _ _ c.in-Ok.ensures (subst R c.as_slice.ensures c.decode.ensures.read)
+    begins-read (IsBaseOf planned.plan) (resumed_by planned c.args.until) c.args.name.now c.in-Ok.bytes c.decode.result _ _ c.in-Ok.ensures.asked (subst R c.as_slice.ensures c.decode.ensures.read)
 
 pub returns-in-Err-clause-asked : goal.returns-in-Err-clause-asked
 returns-in-Err-clause-asked g c =
     let planned = c.args.planned.now in
-    begins-unread (IsBaseOf planned.plan) (resumed_by planned c.args.until) c.args.name.now _ _ _ c.in-Err.ensures
+    begins-unread (IsBaseOf planned.plan) (resumed_by planned c.args.until) c.args.name.now _ _ _ c.in-Err.ensures.asked
 
 pub returns-clause-bytes : goal.returns-clause-bytes
 returns-clause-bytes g c =
     let name = c.args.name.now in
     let held = g.H.Shelf.holds c.args.shelf.now in
-    ok-free c.decode.result (HasBytes held name) (has-bytes Checkpoint name held c.in-Ok.bytes c.in-Ok.ensures.found (subst AreBytes c.as_slice.ensures c.decode.ensures.bytes))
+    ok-free c.decode.result (HasBytes held name) (has-bytes Checkpoint name held c.in-Ok.bytes c.in-Ok.ensures.asked.found (subst AreBytes c.as_slice.ensures c.decode.ensures.bytes))
