@@ -11,11 +11,11 @@ use Rattle.plane_sweep.specs.declared.stand.Stand.{Stand}
 use Rattle.run_plan.specs.Amounts.{amount_refusal}
 use Rattle.scalar_rule.specs.declared.sample.Sample.{Sample}
 use Rattle.glass_main.specs.Beginnings.{Beginning, Level, Uneven, opened_by, begins_at, resumed_by}
+use Rattle.glass_main.specs.CheckpointBytes.{AreBytes, ResumesBytes, ReadsBytes}
 use Rattle.glass_main.specs.CommandLine.{LinesOrder, Command, Plain, Check, Run, Average, Demo, Lines, Potts, Age, command_of}
 use Rattle.glass_main.specs.LawfulRequests.{IsLawfulPlanned, AreLawfulBanks, AreLawfulPlans, IsLawfulRun, IsLawfulRunOfBanks, IsLawfulWork}
 use Rattle.glass_main.specs.ManyBanks.{PlannedBanks, banks_opened_by, banks_resumed_by, starts_at, banks_amount_refusal}
 use Rattle.glass_main.specs.Request.{Work, CheckWork, RunWork, BanksWork, AverageWork, LinesWork, AgeWork, and_then, told_as, bytes_in, bytes_at, plan_at, plans_at, read_at, beginning_at, banks_beginning_at, run_work, banks_work, until_of, run_from, banks_from, run_of, run_at, has_banks, averages_at, stand_at, saved_at, request_for, request}
-use Rattle.glass_main.specs.Resumes.{AreBytes, ResumesBytes, GoesOnFromBytes}
 use Rattle.glass_main.specs.RunWords.{RunOrder, Until, MaySay, values_in}
 use Rattle.glass_main.specs.StopLaws.{IsEncodingOf, IsBeginning, reached_by}
 use Rattle.glass_main.specs.ResumeLaws.{AreBeginnings}
@@ -160,7 +160,7 @@ lines-lawful order files saved is =
     let b = stepped (stand_at p.0.plan order.checkpoint files) (λ base. Ok (made p.0 base)) saved p.2 in
     subst (λ (s : SavedState). IsLawfulPlanned s.planned) (same-ok (made p.0 b.0) saved b.2) (one-lawful order.run files p.0 p.1)
 
-asked-lawful : (words : List (List ℕ)) (command : Option Command) (held : Option Files) → command_of words ≡ command → GoesOnFromBytes command held
+asked-lawful : (words : List (List ℕ)) (command : Option Command) (held : Option Files) → command_of words ≡ command → ReadsBytes command held
     → IfSome (request_for command held) (λ asked. IfOk asked IsLawfulWork)
 asked-lawful words None held is bytes = tt
 asked-lawful words (Some (Plain order)) held is bytes = tt
@@ -192,6 +192,6 @@ asked-lawful words (Some (Age order)) (Some files) is bytes =
     (λ work made. let p = stepped (plan_at order.run files) (λ planned. Ok (AgeWork planned order.wait order.times)) work made in
     subst IsLawfulWork (same-ok (AgeWork p.0 order.wait order.times) work p.2) (one-lawful order.run files p.0 p.1))
 
--- whatever the words and the files are, where the checkpoint that a run goes on from has bytes
-pub request-lawful : (words : List (List ℕ)) (held : Option Files) → GoesOnFromBytes (command_of words) held → IfSome (request words held) (λ asked. IfOk asked IsLawfulWork)
+-- whatever the words and the files are, where the checkpoint that is read has bytes
+pub request-lawful : (words : List (List ℕ)) (held : Option Files) → ReadsBytes (command_of words) held → IfSome (request words held) (λ asked. IfOk asked IsLawfulWork)
 request-lawful words held bytes = asked-lawful words (command_of words) held refl bytes

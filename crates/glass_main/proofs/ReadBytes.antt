@@ -1,13 +1,14 @@
--- A checkpoint that a run went on from is a list of bytes.
+-- A checkpoint that was read is a list of bytes.
 use Rattle.std.proofs.Common.{◌≡◌, ℕ, Bool, true, false, cond, List, length, Option, Some, None, option_map, IfSome, Result, Ok, Err, refl, sym, ap, subst, arith}
 use Rattle.std.specs.FinMap as finmap
 use Rattle.std.specs.Prelude.{IfOk, nat_le}
 use Rattle.glass_edges.specs.Contents.{Files}
+use Rattle.glass_main.specs.CheckpointBytes.{AreBytes, HasBytes}
 use Rattle.glass_main.specs.Endings.{FetchesCheckpoint}
 use Rattle.glass_main.specs.Gathers.{Stops, Gathers}
 use Rattle.glass_main.specs.Outside.{Store}
 use Rattle.glass_main.specs.Request.{bytes_in, bytes_at, limit_of}
-use Rattle.glass_main.specs.Resumes.{AreBytes, HasBytes, Begins}
+use Rattle.glass_main.specs.Resumes.{Begins}
 use Rattle.glass_main.specs.Statuses.{refusal_status, role_status, status_of}
 use Rattle.glass_main.specs.declared.role.Role.{Role}
 use Rattle.glass_main.specs.declared.role.Role.TheVariants as roles

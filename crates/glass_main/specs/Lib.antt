@@ -16,6 +16,7 @@ pub mod Request
 pub mod Lines
 pub mod Endings
 pub mod Statuses
+pub mod CheckpointBytes
 pub mod StopLaws
 pub mod ResumeLaws
 pub mod AmountLaws

@@ -1,5 +1,5 @@
 -- What holds of the checkpoints of states at one epoch, of 64 samples or of several banks of 64, from which runs go on.
-use Rattle.std.specs.Prelude.{◌≡◌, ◌⊎◌, ℕ, ◌<◌, ◌≤◌, List, [], ◌∷◌, ◌++◌, if◌then◌else◌, All, length, slice_index, Ok}
+use Rattle.std.specs.Prelude.{◌≡◌, ◌⊎◌, ℕ, ◌<◌, ◌≤◌, List, [], ◌∷◌, ◌++◌, if◌then◌else◌, All, length, Ok}
 use Rattle.glass_engine.specs.BankLaws.{banks_with}
 use Rattle.glass_engine.specs.Banks.{banks_measured, banks_slots}
 use Rattle.glass_engine.specs.Report.{rows_in_order, all_spins}
@@ -11,6 +11,7 @@ use Rattle.run_plan.specs.RunFile.{AreLawfulOrders}
 use Rattle.scalar_rule.specs.Plan.{Plan, IsLawfulPlan}
 use Rattle.scalar_rule.specs.declared.sample.Sample.{Sample}
 use Rattle.glass_main.specs.Beginnings.{Beginning, Level, resumed_by, state_at, run_checkpoint}
+use Rattle.glass_main.specs.CheckpointBytes.{AreBytes}
 use Rattle.glass_main.specs.ManyBanks.{PlannedBanks, banks_opened_by, banks_resumed_by, starts_at, banks_text, banks_at, banks_bytes}
 use Rattle.glass_main.specs.StopLaws.{IsBeginning, reached_by, AddUp}
 use Rattle.glass_main.specs.declared.planned.Planned.{Planned}
@@ -63,7 +64,7 @@ pub record IsEncodingOfBanks (plans : List Plan) (until : ℕ) (bytes : List ℕ
 -- epoch in time
 abbrev pub AcceptedBanksAreEncodings : Type 0
 AcceptedBanksAreEncodings = (planned : PlannedBanks) (until : ℕ) (bytes : List ℕ) (starts : List (ℕ → Sample)) → AreBankPlans planned.plans
-    → ((i : ℕ) → slice_index bytes i < 256) → banks_resumed_by planned until bytes ≡ Ok starts → IsEncodingOfBanks planned.plans until bytes starts
+    → AreBytes bytes → banks_resumed_by planned until bytes ≡ Ok starts → IsEncodingOfBanks planned.plans until bytes starts
 
 -- a run to an epoch goes on from the bytes as states that agree with these in the 64 samples of each bank
 pub record AreReadAs (planned : PlannedBanks) (until : ℕ) (bytes : List ℕ) (states : List (ℕ → Sample)) : Type 0 where

@@ -1,7 +1,5 @@
 -- The step of a request that gives what the run starts from.
-use Rattle.std.specs.Prelude.{◌≡◌, ◌<◌, ◌≤◌, ℕ, List, slice_index, Option, Some, None, IfSome, Result, Ok, Err, IfOk, OnOk, IfErr}
-use Rattle.std.specs.FinMap as finmap
-use Rattle.glass_edges.specs.Contents.{Files}
+use Rattle.std.specs.Prelude.{◌≡◌, ◌<◌, ◌≤◌, ℕ, List, Option, IfSome, Result, Ok, Err, IfOk, OnOk, IfErr}
 use Rattle.plane_sweep.specs.Uneven.{positions_of, RaggedStandFits}
 use Rattle.plane_sweep.specs.declared.stand.Stand.{Stand}
 use Rattle.plane_sweep.specs.declared.uneven.RaggedStand.{RaggedStand}
@@ -10,7 +8,6 @@ use Rattle.scalar_rule.specs.Positions.{deepest_of}
 use Rattle.run_checkpoint.specs.BankEncoding.{BanksFit}
 use Rattle.run_checkpoint.specs.declared.refused.CheckpointRefused.{CheckpointRefused}
 use Rattle.run_checkpoint.specs.declared.refused.CheckpointRefused.TheVariants as checkpoint
-use Rattle.glass_main.specs.CommandLine.{Command, Plain, Check, Run, Average, Demo, Lines, Potts, Age}
 use Rattle.glass_main.specs.Endings.{IsOfCheckpoint, FetchesCheckpoint}
 use Rattle.glass_main.specs.Gathers.{Stops}
 use Rattle.glass_main.specs.Outside.{Store}
@@ -61,29 +58,3 @@ pub record Begins {A B : Type 0} (name : Option (List ℕ)) (Packs : A → B →
   pub same : new.holds ≡ old.holds
   pub lengths : new.lengths ≡ old.lengths
   pub later : old.faults ≤ new.faults
-
--- ---- what a checkpoint is a list of
-
--- numbers below 256
-abbrev pub AreBytes : List ℕ → Type 0
-AreBytes bytes = (i : ℕ) → slice_index bytes i < 256
-
--- the file of a name is one of them, where it is observable
-abbrev pub HasBytes : Option Files → List ℕ → Type 0
-HasBytes held name = IfSome held (λ files. IfSome (finmap.get files name) AreBytes)
-
--- and so is the checkpoint that is named, where one is
-abbrev pub ResumesBytes : Option (List ℕ) → Option Files → Type 0
-ResumesBytes name held = IfSome name (HasBytes held)
-
--- that of a command
-abbrev pub GoesOnFromBytes : Option Command → Option Files → Type 0
-GoesOnFromBytes None held = Unit {0}
-GoesOnFromBytes (Some (Plain order)) held = Unit {0}
-GoesOnFromBytes (Some (Check name)) held = Unit {0}
-GoesOnFromBytes (Some (Run order)) held = ResumesBytes order.from held
-GoesOnFromBytes (Some (Average order)) held = Unit {0}
-GoesOnFromBytes (Some (Demo n)) held = Unit {0}
-GoesOnFromBytes (Some (Lines order)) held = Unit {0}
-GoesOnFromBytes (Some (Potts order)) held = Unit {0}
-GoesOnFromBytes (Some (Age order)) held = Unit {0}

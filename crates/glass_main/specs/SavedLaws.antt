@@ -1,5 +1,5 @@
 -- What holds of the checkpoints whose link overlaps and correlation lines are printed.
-use Rattle.std.specs.Prelude.{◌≡◌, ℕ, ◌<◌, ◌≤◌, List, slice_index, Ok}
+use Rattle.std.specs.Prelude.{◌≡◌, ℕ, ◌≤◌, List, Ok}
 use Rattle.spin_model.specs.Limits.{last_epoch}
 use Rattle.run_checkpoint.specs.Decoding.{decoded, IsEncoded}
 use Rattle.run_checkpoint.specs.Encoding.{encoding, AreBankStates}
@@ -7,10 +7,11 @@ use Rattle.scalar_rule.specs.Plan.{Plan, IsLawfulPlan}
 use Rattle.scalar_rule.specs.declared.sample.Sample.{Sample}
 use Rattle.plane_sweep.specs.Packed.{StandsFor}
 use Rattle.plane_sweep.specs.declared.stand.Stand.{Stand}
+use Rattle.glass_main.specs.CheckpointBytes.{AreBytes}
 
 -- bytes that are read are the encoding of the states that their packed state stands for, which fit and are in time
 abbrev pub ReadStatesAreEncoded : Type 0
-ReadStatesAreEncoded = (plan : Plan) (bytes : List ℕ) (base : Stand) → IsLawfulPlan plan → ((i : ℕ) → slice_index bytes i < 256)
+ReadStatesAreEncoded = (plan : Plan) (bytes : List ℕ) (base : Stand) → IsLawfulPlan plan → AreBytes bytes
     → decoded plan last_epoch bytes ≡ Ok base → IsEncoded plan last_epoch bytes base
 
 -- a packed state is read of the bytes that stands for the states

@@ -1,5 +1,5 @@
 -- What holds of runs that stop and are gone on with: they add up to one run.
-use Rattle.std.specs.Prelude.{◌≡◌, ◌⊎◌, ℕ, ◌<◌, ◌≤◌, if◌then◌else◌, List, [], ◌∷◌, ◌++◌, slice_index, Ok}
+use Rattle.std.specs.Prelude.{◌≡◌, ◌⊎◌, ℕ, ◌<◌, ◌≤◌, if◌then◌else◌, List, [], ◌∷◌, ◌++◌, Ok}
 use Rattle.spin_model.specs.Limits.{last_epoch}
 use Rattle.report_text.specs.Lines.{header_line, end_line}
 use Rattle.run_checkpoint.specs.Encoding.{encoding, AreBankStates}
@@ -9,6 +9,7 @@ use Rattle.scalar_rule.specs.Positions.{deepest_of}
 use Rattle.plane_sweep.specs.Uneven.{positions_of, RaggedStandFits}
 use Rattle.plane_sweep.specs.declared.uneven.RaggedStand.{RaggedStand}
 use Rattle.glass_main.specs.Beginnings.{Beginning, Level, Uneven, opened_by, begins_at, resumed_by, run_text, state_at, run_checkpoint}
+use Rattle.glass_main.specs.CheckpointBytes.{AreBytes}
 use Rattle.glass_main.specs.Stops.{Reaches, rows_to, spins_at, stopped_checkpoint}
 use Rattle.glass_main.specs.declared.planned.Planned.{Planned}
 
@@ -27,7 +28,7 @@ IsEncodingOf planned until bytes (Uneven stand) =
 -- bytes that a run goes on from are the encoding of what it goes on from
 abbrev pub AcceptedCheckpointsAreEncodings : Type 0
 AcceptedCheckpointsAreEncodings = (planned : Planned) (until : ℕ) (bytes : List ℕ) (from : Beginning) → IsLawfulPlan planned.plan → AreLawfulOrders planned.orders
-    → ((i : ℕ) → slice_index bytes i < 256) → resumed_by planned until bytes ≡ Ok from → IsEncodingOf planned until bytes from
+    → AreBytes bytes → resumed_by planned until bytes ≡ Ok from → IsEncodingOf planned until bytes from
 
 -- what a run saved that stopped is what the next one goes on from
 abbrev pub SavedStopsAreRead : Type 0
@@ -40,7 +41,7 @@ SavedStopsAreRead = (planned : Planned) (until : ℕ) (came : RaggedStand) → I
 -- what a run can begin with: its opening states, or what the bytes of a checkpoint are
 abbrev pub IsBeginning : Planned → Beginning → Type 0
 IsBeginning planned from =
-    (from ≡ opened_by planned) ⊎ ((until : ℕ) × (bytes : List ℕ) × ((i : ℕ) → slice_index bytes i < 256) × (resumed_by planned until bytes ≡ Ok from))
+    (from ≡ opened_by planned) ⊎ ((until : ℕ) × (bytes : List ℕ) × AreBytes bytes × (resumed_by planned until bytes ≡ Ok from))
 
 -- the greatest number of epochs that a slot has completed
 abbrev pub reached_by : Beginning → ℕ

@@ -3,11 +3,12 @@
 ghost use Rattle.std.specs.Prelude.{◌≤◌, length, map, option_map, Some, IfOk};
 ghost use Rattle.std.specs.Arc.{arc_value};
 ghost use Rattle.run_checkpoint.specs.BankEncoding.{BanksFit, BanksStand};
+ghost use Rattle.glass_main.specs.CheckpointBytes.{HasBytes, ResumesBytes};
 ghost use Rattle.glass_main.specs.ManyBanks.{banks_opened_by, banks_resumed_by, openings_from};
 ghost use Rattle.glass_main.specs.Outside.{store};
 ghost use Rattle.glass_main.specs.ReadCommand.{name_bytes};
 ghost use Rattle.glass_main.specs.Request as model;
-ghost use Rattle.glass_main.specs.Resumes.{AreBytes, AreResumable, Begins, HasBytes, Resumes, ResumesBytes};
+ghost use Rattle.glass_main.specs.Resumes.{AreResumable, Begins, Resumes};
 
 use crate::ending::Ending;
 use crate::gathering::gather_bytes;
@@ -104,7 +105,6 @@ fn decode(
 ) -> Result<Items<Stand>, Ending>
     ensures read { Resumes (BanksStand planned.now.plans) (banks_resumed_by planned.now until bytes.now) result }
     ensures resumable { IfOk result (AreResumable planned.now.plans until) }
-    ensures bytes { AreBytes bytes.now }
 {
     match decode_banks(alloc, &planned.plans, until, bytes) {
         Ok(stands) => Ok(Items::of(stands)),

@@ -9,13 +9,14 @@ ghost use Rattle.run_checkpoint.specs.BankEncoding.{BanksStand, HaveShape};
 ghost use Rattle.scalar_rule.specs.Records.{recorded_epochs};
 ghost use Rattle.scalar_rule.specs.declared.sample.Sample.{Sample};
 ghost use Rattle.glass_main.specs.BanksOpened.{is_named, AreReady, AreRunsOf};
+ghost use Rattle.glass_main.specs.CheckpointBytes.{ResumesBytes};
 ghost use Rattle.glass_main.specs.CommandLine as commands;
 ghost use Rattle.glass_main.specs.ManyBanks.{banks_amount_refusal, stands_at, starts_at};
 ghost use Rattle.glass_main.specs.Opened.{IsUnopened};
 ghost use Rattle.glass_main.specs.Outside.{output, store};
 ghost use Rattle.glass_main.specs.ReadCommand.{name_bytes, read_run_order, IsLawfulOrder};
 ghost use Rattle.glass_main.specs.Request.{banks_work, plans_at, has_banks};
-ghost use Rattle.glass_main.specs.Resumes.{AreResumable, ResumesBytes};
+ghost use Rattle.glass_main.specs.Resumes.{AreResumable};
 ghost use Rattle.glass_main.specs.Statuses.{Ends};
 
 use crate::asked::Asked;

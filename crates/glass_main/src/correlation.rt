@@ -1,8 +1,9 @@
 //! The command `lines`: the link overlaps and correlation lines of the state that a checkpoint holds.
 
-ghost use Rattle.std.specs.Prelude.{option_map, Some, IfOk, IfErr};
+ghost use Rattle.std.specs.Prelude.{◌≡◌, option_map, Some, IfOk, IfErr};
 ghost use Rattle.plane_sweep.specs.Packed.{StandFits};
 ghost use Rattle.run_plan.specs.RunFile.{AreLawfulOrders};
+ghost use Rattle.glass_main.specs.CheckpointBytes.{HasBytes};
 ghost use Rattle.glass_main.specs.CommandLine as commands;
 ghost use Rattle.glass_main.specs.Endings.{IsOfOneEpoch, IsReachedSaved};
 ghost use Rattle.glass_main.specs.Gathers.{Fetches, Gathers};
@@ -32,9 +33,10 @@ pub(crate) fn correlation_lines<H: Shelf, O: Sink>(
     out: &mut O,
     order: &LinesOrder<'_>,
 ) -> Ending
-    ensures { Ends (Some (commands.Lines (read_lines_order order.now))) result
+    ensures ends { Ends (Some (commands.Lines (read_lines_order order.now))) result
         (store H.holds H.faults H.lengths shelf.old) (store H.holds H.faults H.lengths shelf.new)
         (output O.taken O.faults out.old) (output O.taken O.faults out.new) }
+    ensures bytes { result ≡ Ending.Done → HasBytes (H.holds shelf.old) order.now.checkpoint.now }
 {
     let saved = match gather_saved(alloc, shelf, order) {
         Ok(saved) => saved,
@@ -60,6 +62,7 @@ fn gather_saved<H: Shelf>(
     ensures level { IfErr result (λ ending. IfRefused ending IsOfOneEpoch) }
     ensures orders { IfOk result (λ saved. AreLawfulOrders saved.planned.orders) }
     ensures fits { IfOk result (λ saved. StandFits saved.planned.plan saved.base) }
+    ensures bytes { IfOk result (λ saved. HasBytes (H.holds shelf.old) order.now.checkpoint.now) }
 {
     let planned = gather_plan(alloc, shelf, order.run)?;
     let base = gather_stand(alloc, shelf, &planned.plan, order.checkpoint)?;
@@ -79,6 +82,7 @@ fn gather_stand<H: Shelf>(
         (store H.holds H.faults H.lengths shelf.old) (store H.holds H.faults H.lengths shelf.new) }
     ensures level { IfErr result (λ ending. IfRefused ending IsOfOneEpoch) }
     ensures fits { IfOk result (StandFits plan.now) }
+    ensures bytes { IfOk result (λ base. HasBytes (H.holds shelf.old) name.now) }
 {
     let bytes = gather_bytes(alloc, shelf, Role::Checkpoint, name)?;
     match decode(alloc, plan, LAST_EPOCH, bytes.as_slice()) {

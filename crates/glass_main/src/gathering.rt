@@ -7,6 +7,7 @@ ghost use Rattle.glass_edges.specs.Refusals.{Gives};
 ghost use Rattle.run_plan.specs.RunFile.{run_file, IsLawfulRunFile, AreLawfulOrders};
 ghost use Rattle.threshold_table.specs.Tables.{rule_table, swap_table};
 ghost use Rattle.glass_main.specs.BankTables.{rules_read, swaps_read};
+ghost use Rattle.glass_main.specs.CheckpointBytes.{AreBytes};
 ghost use Rattle.glass_main.specs.Endings.{IsOfOneEpoch, IsReached, IsReachedAfter, IsReachedAfterRules};
 ghost use Rattle.glass_main.specs.Gathers.{Gathers, Fetches, gathered};
 ghost use Rattle.glass_main.specs.Outside.{store};
@@ -247,7 +248,7 @@ pub(crate) fn make_random(alloc: Global, lattice: Lattice, seed: u64) -> Result<
     Ok(couplings)
 }
 
-/// Fetches the bytes of a file that a run reads. A fetch that failed is not tried again.
+/// Fetches the bytes of a file that a run reads.
 pub(crate) fn gather_bytes<H: Shelf>(
     alloc: Global,
     shelf: &mut H,
@@ -259,9 +260,32 @@ pub(crate) fn gather_bytes<H: Shelf>(
         (store H.holds H.faults H.lengths shelf.old) (store H.holds H.faults H.lengths shelf.new) }
     // A fetch is refused for no format, and so for none of a checkpoint that is not at one epoch.
     ensures level { IfErr result (λ ending. IfRefused ending IsOfOneEpoch) }
+    ensures bytes { IfOk result AreBytes }
+{
+    let bytes = fetch_bytes(alloc, shelf, role, name)?;
+    are_bytes(bytes.as_slice());
+    Ok(bytes)
+}
+
+// Fetches the bytes of a file. A fetch that failed is not tried again.
+fn fetch_bytes<H: Shelf>(
+    alloc: Global,
+    shelf: &mut H,
+    role: Role,
+    name: &str,
+) -> Result<Items<u8>, Ending>
+    ensures asked { Gathers (option_map (model.bytes_at role name.now) (H.holds shelf.old))
+        (Fetches role) result
+        (store H.holds H.faults H.lengths shelf.old) (store H.holds H.faults H.lengths shelf.new) }
+    ensures level { IfErr result (λ ending. IfRefused ending IsOfOneEpoch) }
 {
     gathered(role, shelf.fetch(alloc, name, role.limit()))
 }
+
+// What a file holds are numbers below 256.
+fn are_bytes(bytes: &[u8])
+    ensures { AreBytes bytes.now }
+{}
 
 /// What is made of a fetch's answer.
 pub(crate) fn gathered(role: Role, fetched: Fetched) -> Result<Items<u8>, Ending>

@@ -6,10 +6,11 @@ ghost use Rattle.plane_sweep.specs.Packed.{StandFits, StandsFor};
 ghost use Rattle.run_plan.specs.RunFile.{AreLawfulOrders};
 ghost use Rattle.scalar_rule.specs.Opening.{opening};
 ghost use Rattle.glass_main.specs.Beginnings.{IsBaseOf, opened_by, resumed_by};
+ghost use Rattle.glass_main.specs.CheckpointBytes.{HasBytes, ResumesBytes};
 ghost use Rattle.glass_main.specs.Outside.{store};
 ghost use Rattle.glass_main.specs.Request as model;
 ghost use Rattle.glass_main.specs.ReadCommand.{name_bytes};
-ghost use Rattle.glass_main.specs.Resumes.{AreBytes, Begins, HasBytes, IsResumable, Resumes, ResumesBytes, ending_of};
+ghost use Rattle.glass_main.specs.Resumes.{Begins, IsResumable, Resumes, ending_of};
 
 use crate::ending::Ending;
 use crate::gathering::gather_bytes;
@@ -97,7 +98,6 @@ fn decode(alloc: Global, planned: &Planned, until: u64, bytes: &[u8]) -> Result<
     requires until { until ≤ last_epoch }
     ensures read { Resumes (IsBaseOf planned.now.plan) (resumed_by planned.now until bytes.now) result }
     ensures resumable { IfOk result (IsResumable planned.now until) }
-    ensures bytes { AreBytes bytes.now }
 {
     let plan = &planned.plan;
     let orders = &planned.orders;

@@ -8,12 +8,13 @@ ghost use Rattle.run_plan.specs.Amounts.{amount_refusal, row_count};
 ghost use Rattle.run_plan.specs.RunFile.{AreLawfulOrders};
 ghost use Rattle.scalar_rule.specs.Positions.{floor_of};
 ghost use Rattle.glass_main.specs.Beginnings.{Beginning, begins_at};
+ghost use Rattle.glass_main.specs.CheckpointBytes.{ResumesBytes};
 ghost use Rattle.glass_main.specs.CommandLine as commands;
 ghost use Rattle.glass_main.specs.Opened.{takes_of, saves_as, IsOpened, IsUnopened};
 ghost use Rattle.glass_main.specs.Outside.{output, store};
 ghost use Rattle.glass_main.specs.ReadCommand.{name_bytes, read_run_order, IsLawfulOrder};
 ghost use Rattle.glass_main.specs.Request as model;
-ghost use Rattle.glass_main.specs.Resumes.{IsResumable, ResumesBytes};
+ghost use Rattle.glass_main.specs.Resumes.{IsResumable};
 ghost use Rattle.glass_main.specs.Statuses.{Ends};
 
 use crate::asked::Asked;

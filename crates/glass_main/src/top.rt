@@ -1,12 +1,12 @@
 //! The top call.
 
 ghost use Rattle.std.specs.Prelude.{◌≡◌, ◌↔◌, Some, None, IfSome, IfOk};
+ghost use Rattle.glass_main.specs.CheckpointBytes.{ReadsBytes};
 ghost use Rattle.glass_main.specs.CommandLine.{Run, command_of, saved_name};
 ghost use Rattle.glass_main.specs.Endings.{ReadsNoFile};
 ghost use Rattle.glass_main.specs.LawfulRequests.{IsLawfulWork};
 ghost use Rattle.glass_main.specs.Outside.{output, store};
 ghost use Rattle.glass_main.specs.Request.{request};
-ghost use Rattle.glass_main.specs.Resumes.{GoesOnFromBytes};
 ghost use Rattle.glass_main.specs.RunWords.{RunOrder, SaysRun};
 ghost use Rattle.glass_main.specs.Statuses.{Ends, Answers, Does, Completes, TellsFaults};
 ghost use Rattle.glass_main.specs.Words.{texts};
@@ -87,6 +87,9 @@ pub fn glass<R: Threads + Wait + Sync, H: Shelf, O: Sink, E: Sink, G: Gate + Syn
     ensures lawful { result ≡ 0 → IfSome (request (texts words.now) (H.holds shelf.old)) (λ asked.
         IfOk asked IsLawfulWork) }
 
+    // The checkpoint that was read is a list of numbers below 256, as the laws on checkpoints ask.
+    ensures bytes { result ≡ 0 → ReadsBytes (command_of (texts words.now)) (H.holds shelf.old) }
+
     // Where the store did not fail a refusal is told, and where the output did not either the work is
     // done, but for want of memory.
     ensures complete { IfSome (request (texts words.now) (H.holds shelf.old)) (λ asked.
@@ -112,7 +115,7 @@ fn answer<R: Threads + Wait + Sync, H: Shelf, O: Sink, G: Gate + Sync>(
         (store H.holds H.faults H.lengths shelf.old) (store H.holds H.faults H.lengths shelf.new)
         (output O.taken O.faults out.old) (output O.taken O.faults out.new) }
     ensures untouched { ReadsNoFile (command_of (texts words.now)) → shelf.new ≡ shelf.old }
-    ensures bytes { result ≡ Ending.Done → GoesOnFromBytes (command_of (texts words.now)) (H.holds shelf.old) }
+    ensures bytes { result ≡ Ending.Done → ReadsBytes (command_of (texts words.now)) (H.holds shelf.old) }
 {
     match read_words(words) {
         None => Ending::Refused(Refusal::Words),

@@ -1,4 +1,4 @@
-use Rattle.std.proofs.Common.{arith, ◌≡◌, Ok, Err, List, map, sym, ap, ◌∙◌, subst}
+use Rattle.std.proofs.Common.{◌≡◌, Ok, Err, List, map, sym, ap, ◌∙◌, subst}
 use Rattle.std.specs.Arc.{arc_value}
 use Rattle.plane_sweep.specs.declared.stand.Stand.{Stand}
 use Rattle.run_checkpoint.specs.BankDecoding.{banks_decoded, AreEncoded}
@@ -33,9 +33,3 @@ returns-in-Err-clause-read c =
     let E : List Plan → Type 0 = λ ps. ¬ (e ≡ checkpoint.NoMemory) → banks_decoded ps c.args.until bytes ≡ Err e in
     let U : Ending → Type 0 = λ ending. Unresumed (banks_resumed_by planned c.args.until bytes) ending in
     subst U (sym c.ending_of.ensures) (refusal-ends (banks_resumed_by planned c.args.until bytes) e (banks-refused planned c.args.until bytes e (subst E same c.in-Err.ensures.exact.1)))
-
-pub returns-in-Ok-clause-bytes : goal.returns-in-Ok-clause-bytes
-returns-in-Ok-clause-bytes c = λ i. omega (arith, c.type_inv.bytes i)
-
-pub returns-in-Err-clause-bytes : goal.returns-in-Err-clause-bytes
-returns-in-Err-clause-bytes c = λ i. omega (arith, c.type_inv.bytes i)

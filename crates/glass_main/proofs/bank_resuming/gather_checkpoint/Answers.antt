@@ -1,7 +1,8 @@
 use Rattle.std.proofs.Common.{ℕ, List, subst}
 use Rattle.run_checkpoint.specs.BankEncoding.{BanksStand}
 use Rattle.glass_main.specs.ManyBanks.{banks_resumed_by}
-use Rattle.glass_main.specs.Resumes.{AreBytes, HasBytes, Resumes}
+use Rattle.glass_main.specs.CheckpointBytes.{HasBytes}
+use Rattle.glass_main.specs.Resumes.{Resumes}
 use Rattle.glass_main.specs.declared.role.Role.TheVariants.{Checkpoint}
 use Rattle.glass_main.proofs.ReadBytes.{has-bytes, ok-free}
 use Rattle.glass_main.proofs.Resumed.{begins-read, begins-unread}
@@ -22,4 +23,4 @@ pub returns-clause-bytes : goal.returns-clause-bytes
 returns-clause-bytes g c =
     let name = c.args.name.now in
     let held = g.H.Shelf.holds c.args.shelf.now in
-    ok-free c.decode.result (HasBytes held name) (has-bytes Checkpoint name held c.in-Ok.bytes c.in-Ok.ensures.asked.found (subst AreBytes c.as_slice.ensures c.decode.ensures.bytes))
+    ok-free c.decode.result (HasBytes held name) (has-bytes Checkpoint name held c.in-Ok.bytes c.in-Ok.ensures.asked.found c.in-Ok.ensures.bytes)

@@ -1,4 +1,4 @@
-use Rattle.std.proofs.Common.{arith, sym, subst}
+use Rattle.std.proofs.Common.{sym, subst}
 use Rattle.glass_main.proofs.Resumed.{base-resumes, base-refused, refusal-ends, encoded-reach}
 use Rattle.glass_main.specs.Beginnings.{resumed_by}
 use Rattle.glass_main.specs.Resumes.{Unresumed}
@@ -25,9 +25,3 @@ returns-in-Err-clause-read c =
     let U : Ending → Type 0 = λ e. Unresumed (resumed_by planned c.args.until c.args.bytes.now) e in
     subst U (sym c.ending_of.ensures) (refusal-ends (resumed_by planned c.args.until c.args.bytes.now) c.in-Err.refused
     (base-refused planned c.args.until c.args.bytes.now c.in-Err.refused c.in-Err.ensures.exact.1))
-
-pub returns-in-Ok-clause-bytes : goal.returns-in-Ok-clause-bytes
-returns-in-Ok-clause-bytes c = λ i. omega (arith, c.type_inv.bytes i)
-
-pub returns-in-Err-clause-bytes : goal.returns-in-Err-clause-bytes
-returns-in-Err-clause-bytes c = λ i. omega (arith, c.type_inv.bytes i)

@@ -16,3 +16,6 @@ pub returns-clause-lawful : goal.returns-clause-lawful
 returns-clause-lawful g c = λ zero.
     let done = done-of c.answer-ending.result (sym c.status.ensures ∙ zero) in
     request-lawful (texts c.args.words.now) (g.H.Shelf.holds c.args.shelf.now) (c.answer-ending.ensures.bytes done)
+
+pub returns-clause-bytes : goal.returns-clause-bytes
+returns-clause-bytes g c = λ zero. c.answer-ending.ensures.bytes (done-of c.answer-ending.result (sym c.status.ensures ∙ zero))

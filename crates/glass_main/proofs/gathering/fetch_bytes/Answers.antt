@@ -1,5 +1,5 @@
 use Rattle.glass_main.proofs.Fetching.{gathers_fetched, fetched-level}
-use Rattle.glass_main.proofs.gathering.gather_bytes.Goals as goal
+use Rattle.glass_main.proofs.gathering.fetch_bytes.Goals as goal
 
 pub returns : goal.returns
 returns g c =
