@@ -24,6 +24,7 @@ writes the same bytes.
 import argparse
 import contextlib
 import io
+import os
 import re
 import sys
 import tempfile
@@ -213,6 +214,8 @@ def make(options):
     betas = inverse_temperatures(options)
     if options.rule is None or betas is None:
         raise Refusal("a rule and --betas, --temperatures or --range are needed; --help says more")
+    if os.path.realpath(options.rules) == os.path.realpath(options.swaps):
+        raise Refusal(f"both tables would go to one file: {options.rules}")
     rules = [rule_record(options.rule, beta) for beta in betas]
     swaps = [swap_record(betas[k] - betas[k + 1], options.size) for k in range(len(betas) - 1)]
     write_text(options.rules, text_of(rules))
@@ -372,6 +375,11 @@ def test_calls(checks, folder):
     status, out, err = outcome(["heat", "--betas", "0.101", "0.1", *files])
     checks.same("a warning", (status, err.count("\n"), "pair 0 is cut at 4096 entries" in err), (0, 1, True))
     checks.same("no warning at size 4", outcome(["heat", "--betas", "0.101", "0.1", "--size", "4", *files])[2], "")
+    once = rules.read_bytes()
+    twice = ["--rules", str(rules), "--swaps", f"{folder}/./rules.csv"]
+    checks.same("both tables in one file", outcome(["heat", "--betas", "1", "0.5", *twice]),
+                (2, "", f"make_tables: both tables would go to one file: {rules}\n"))
+    checks.same("which is as it was", rules.read_bytes(), once)
     for words in (["--betas", "1"], ["--range", "1", "2", "--slots", "3"]):
         status, out, err = outcome(["heat", *words, "--rules", str(folder / "none" / "rules.csv")])
         checks.same("a folder that isn't there", (status, out, err.count("\n")), (2, "", 1))
