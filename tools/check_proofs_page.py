@@ -1,10 +1,11 @@
 #!/usr/bin/env python3
 """Holds docs/proofs.md to the sources.
 
-Each row of its tables names public calls and clauses, definitions, must-fail edits and tests. Each of these
-must exist in crates/, and each must-fail edit, test and public call of crates/ must be named on the page. A
-definition that is named behind a file of specs/ must stand in that file; so must those of the tables of nouns
-and of laws. The benchmarks' crates and those of tests alone owe no rows for their calls.
+Each row of its tables names public calls and clauses, definitions, edits and tests. Each of these must exist in
+crates/, or where edits are named as tried on demand in tests/more_edits/, and each edit, test and public call must
+be named on the page, an edit with the place where it stands. A definition that is named behind a file of specs/
+must stand in that file; so must those of the tables of nouns and of laws. The benchmarks' crates and those of tests
+alone owe no rows for their calls.
 
 --self-test runs the tests of this tool.
 
@@ -23,12 +24,18 @@ WITHOUT_ROWS = re.compile(r"bench_\w+|glass|\w+_tests|table_agreement")
 WORD = re.compile(r"[A-Za-z_][A-Za-z0-9_]*")
 # Names of edits and tests are sentences: they have an underscore.
 SENTENCE = re.compile(r"[a-z0-9]+(?:_[a-z0-9]+)+")
+# A crate in front of edits, what ends its part of a cell, or an edit, perhaps with a crate in brackets behind it.
+NAMED_EDIT = re.compile(r"in (?P<front>\w+):|(?P<end>;)|(?P<name>[a-z0-9]+(?:_[a-z0-9]+)+)(?: \[(?P<behind>\w+)\])?")
+# What stands in a cell in front of the edits that the gate leaves out.
+ON_DEMAND = "on demand:"
 # What a file of specs/ defines: definitions and fields of records, and behind spaces the cases of types.
 DEFINED = re.compile(r"^ *(?:(?:abbrev |unfoldable )?pub (?:record |data )?| +(?=\w+ :))(\w+)", re.M)
 # A definition in backticks, a semicolon, or a word that may be a crate, a file or what is not the page's ("std's").
 NAMED = re.compile(r"`(?P<code>[^`]*)`|(?P<end>;)|(?P<word>[A-Za-z_][A-Za-z0-9_]*(?:'s)?)")
 # The columns of a row.
 PROMISE, CALLS, DEFINITIONS, EDITS, TESTS, SILENCE = range(6)
+# An edit with its crate.
+Edit = Tuple[str, str]
 # Of the other tables that name definitions: the heads of their columns, and the crate of a definition without one.
 OTHER_TABLES = {("the noun", "its definition"): (1, ""),
                 ("the law read aloud", "function", "statement", "what it doesn't say"): (2, "model_laws")}
@@ -39,7 +46,8 @@ class Sources:
 
     def __init__(self, root: Path) -> None:
         self.crates: Set[str] = set()
-        self.edits: Set[str] = set()
+        self.edits: Set[Edit] = set()
+        self.more_edits: Set[Edit] = {(it.parent.name, it.stem) for it in root.glob("tests/more_edits/*/*.edit")}
         self.tests: Set[str] = set()
         self.clauses: Set[str] = set()
         self.words: Set[str] = set()
@@ -48,7 +56,7 @@ class Sources:
         self.calls: Dict[str, Set[str]] = {}
         for crate in sorted(it for it in (root / "crates").iterdir() if it.is_dir()):
             self.crates.add(crate.name)
-            self.edits |= {it.stem for it in crate.glob("must-fail/*.edit")}
+            self.edits |= {(crate.name, it.stem) for it in crate.glob("must-fail/*.edit")}
             code = {it: it.read_text(encoding="utf-8") for it in sorted(crate.glob("src/**/*.rt"))}
             for text in code.values():
                 self.read_code(text)
@@ -150,6 +158,30 @@ def named_clauses(cell: str) -> Set[str]:
     return clauses
 
 
+def crate_of(cells: List[str]) -> str:
+    """The crate of a row's first call; nothing where it names none."""
+    first_call = re.match(r"`(\w+)::", cells[CALLS])
+    return first_call[1] if first_call else ""
+
+
+def edits_in(part: str, crate: str, crates: Set[str]) -> Iterator[Edit]:
+    """The edits that part of a cell names, each with the crate behind it, else the one in front, else the given one."""
+    at = crate
+    for it in NAMED_EDIT.finditer(re.sub(r"\([^)]*\)|`[^`]*`", " ", part)):
+        if it["end"]:
+            at = crate
+        elif it["front"]:
+            at = it["front"] if it["front"] in crates else at
+        else:
+            yield it["behind"] or at, it["name"]
+
+
+def edits_of(cells: List[str], has: Sources) -> Tuple[Set[Edit], Set[Edit]]:
+    """The edits that a row names: those that the gate tries, and those that are tried on demand."""
+    tried, _, more = cells[EDITS].partition(ON_DEMAND)
+    return set(edits_in(tried, crate_of(cells), has.crates)), set(edits_in(more, crate_of(cells), has.crates))
+
+
 def faults_of_row(cells: List[str], has: Sources) -> Iterator[str]:
     """What a row names that the sources don't have."""
     names = has.crates | has.words
@@ -158,14 +190,15 @@ def faults_of_row(cells: List[str], has: Sources) -> Iterator[str]:
             yield f"no source has the word {word}"
     for clause in sorted(named_clauses(cells[CALLS]) - has.clauses - names):
         yield f"no contract has a clause {clause}"
-    for edit in SENTENCE.findall(without_asides(cells[EDITS])):
-        if edit not in has.edits | has.crates:
-            yield f"there is no edit {edit}"
+    tried, more = edits_of(cells, has)
+    for crate, edit in sorted(tried - has.edits):
+        yield f"{crate} has no edit {edit} in must-fail"
+    for crate, edit in sorted(more - has.more_edits):
+        yield f"tests/more_edits/{crate} has no edit {edit}"
     for test in SENTENCE.findall(without_asides(cells[TESTS])):
         if test not in has.tests | has.crates:
             yield f"there is no test {test}"
-    first_call = re.match(r"`(\w+)::", cells[CALLS])
-    yield from misplaced(cells[DEFINITIONS], first_call[1] if first_call else "", True, has)
+    yield from misplaced(cells[DEFINITIONS], crate_of(cells), True, has)
     if any(it in ("both", "same", "the same", "all") or it.startswith("all ") for it in cells[EDITS : TESTS + 1]):
         yield "edits or tests are not named but counted"
 
@@ -177,45 +210,59 @@ def differences(root: Path) -> List[str]:
     found = [f"{cells[PROMISE][:60]}: {it}" for cells in rows_of(page) for it in faults_of_row(cells, has)]
     for first, cell, crate in others_of(page):
         found += [f"{first[:60]}: {it}" for it in misplaced(cell, crate, False, has)]
-    found += [f"the edit {it} is not named" for it in sorted(has.edits - named)]
+    edits = [edits_of(cells, has) for cells in rows_of(page)]
+    tried, more = set().union(*(it for it, _ in edits)), set().union(*(it for _, it in edits))
+    found += [f"the edit {crate}/{it} is not named" for crate, it in sorted(has.edits - tried)]
+    found += [f"the edit {crate}/{it} is not named as tried on demand" for crate, it in sorted(has.more_edits - more)]
     found += [f"the test {it} is not named" for it in sorted(has.tests - named)]
     for crate, calls in has.calls.items():
         found += [f"the call {crate}::{it} is not named" for it in sorted(calls - named)]
     return found
 
 
+def make_small_repository(root: Path) -> None:
+    """Makes a repository of two crates and three edits, one of them tried on demand."""
+    for folder in ("docs", "crates/c/src", "crates/c/specs", "crates/c/must-fail", "crates/d/specs",
+                   "crates/d/must-fail", "tests/more_edits/c"):
+        (root / folder).mkdir(parents=True)
+    (root / "crates/c/src/lib.rt").write_text(
+        "pub use adding::f;\npub fn f()\n    ensures done { true }\n{\n}\n#[test]\nfn adds_two() {\n}\n"
+    )
+    (root / "crates/c/specs/Sums.antt").write_text("abbrev pub sum : N\npub data M : Type 0 where\n  one : M\n")
+    (root / "crates/c/specs/Twice.antt").write_text(
+        "use Rattle.c.specs.Sums.{sum}\nmodule _ where\n  abbrev pub twice : N\n  twice = sum\n"
+    )
+    (root / "crates/d/specs/Others.antt").write_text("abbrev pub other : N\n")
+    for edit in ("crates/c/must-fail/wrong_sum", "crates/d/must-fail/wrong_other", "tests/more_edits/c/no_sum"):
+        (root / f"{edit}.edit").write_text("")
+
+
 def self_test() -> int:
     """Tests the tool on a small repository. Returns the exit status."""
-    row = "| p | `c::f`: done | `sum` | wrong_sum | adds_two | time |\n"
+    row = "| p | `c::f`: done | `sum` | wrong_sum; in d: wrong_other; on demand: no_sum | adds_two | time |\n"
     nouns = row + "\n| the noun | its definition |\n|---|---|\n| n | c Sums `sum`; `one` |\n"
+    cases = [
+        (row, 0),
+        (row.replace("wrong_sum", "wrong_sun"), 2),
+        (row.replace("in d: wrong_other", "wrong_other [d]"), 0),
+        (row.replace("in d: wrong_other", "wrong_other"), 2),
+        (row.replace("on demand: no_sum", "no_sum"), 2),
+        (row.replace("wrong_sum; in d", "in d").replace("no_sum", "no_sum, wrong_sum"), 2),
+        (row.replace("adds_two", "adds_three"), 2),
+        (row.replace("done", "gone"), 1),
+        (row.replace("`sum`", "`product`"), 1),
+        (row.replace("c::f", "c").replace(": done", ""), 5),
+        (row.replace("`sum`", "Sums `sum`, `one`, Twice `twice`; d Others `other`"), 0),
+        (row.replace("`sum`", "Sums `sum`, Twice `twice`, `sum`"), 1),
+        (row.replace("`sum`", "d Others `other`, `sum`; Sums `sum`"), 1),
+        (row.replace("`sum`", "Others `other`"), 1),
+        (nouns, 0),
+        (nouns.replace("c Sums `sum`", "c Twice `sum`"), 2),
+        (nouns.replace("c Sums", "Sums"), 1),
+    ]
     with tempfile.TemporaryDirectory() as at:
         root = Path(at)
-        for folder in ("docs", "crates/c/src", "crates/c/specs", "crates/c/must-fail", "crates/d/specs"):
-            (root / folder).mkdir(parents=True)
-        (root / "crates/c/src/lib.rt").write_text(
-            "pub use adding::f;\npub fn f()\n    ensures done { true }\n{\n}\n#[test]\nfn adds_two() {\n}\n"
-        )
-        (root / "crates/c/specs/Sums.antt").write_text("abbrev pub sum : N\npub data M : Type 0 where\n  one : M\n")
-        (root / "crates/c/specs/Twice.antt").write_text(
-            "use Rattle.c.specs.Sums.{sum}\nmodule _ where\n  abbrev pub twice : N\n  twice = sum\n"
-        )
-        (root / "crates/d/specs/Others.antt").write_text("abbrev pub other : N\n")
-        (root / "crates/c/must-fail/wrong_sum.edit").write_text("")
-        cases = [
-            (row, 0),
-            (row.replace("wrong_sum", "wrong_sun"), 2),
-            (row.replace("adds_two", "adds_three"), 2),
-            (row.replace("done", "gone"), 1),
-            (row.replace("`sum`", "`product`"), 1),
-            (row.replace("c::f", "c").replace(": done", ""), 1),
-            (row.replace("`sum`", "Sums `sum`, `one`, Twice `twice`; d Others `other`"), 0),
-            (row.replace("`sum`", "Sums `sum`, Twice `twice`, `sum`"), 1),
-            (row.replace("`sum`", "d Others `other`, `sum`; Sums `sum`"), 1),
-            (row.replace("`sum`", "Others `other`"), 1),
-            (nouns, 0),
-            (nouns.replace("c Sums `sum`", "c Twice `sum`"), 2),
-            (nouns.replace("c Sums", "Sums"), 1),
-        ]
+        make_small_repository(root)
         for page, count in cases:
             (root / PAGE).write_text(page)
             found = differences(root)
