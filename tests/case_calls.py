@@ -1,5 +1,5 @@
 """One call of the program in the folder of a case, and what is otherwise about it than the case says."""
-import functools
+import contextlib
 import hashlib
 import resource
 import subprocess
@@ -25,18 +25,28 @@ class Ended(NamedTuple):
     err: bytes
 
 
+@contextlib.contextmanager
+def files_limited(room: Optional[int]) -> Iterator[None]:
+    """Limits the bytes of each file that this process, or one that it starts, writes meanwhile; not at all for none."""
+    before = resource.getrlimit(resource.RLIMIT_FSIZE)
+    resource.setrlimit(resource.RLIMIT_FSIZE, before if room is None else (room, before[1]))
+    try:
+        yield
+    finally:
+        resource.setrlimit(resource.RLIMIT_FSIZE, before)
+
+
 def call(program: str, step: Step, folder: Path) -> Ended:
     """Calls the program with the words of a step. Of an output that has room for some bytes alone the system takes
     these and no more; one of a mute step takes no line. The signal of a file that is too long stays ignored, as
     Python leaves it."""
     words = step["words"].split(" ") if isinstance(step["words"], str) else step["words"]
-    room = step.get("room")
-    limit = functools.partial(resource.setrlimit, resource.RLIMIT_FSIZE, (room, room)) if room is not None else None
     with tempfile.TemporaryFile() as out, open("/dev/full", "wb") as full:
         try:
-            done = subprocess.run([program, *words], cwd=folder, stdin=subprocess.DEVNULL, stdout=out,
-                                  stderr=full if step.get("mute") else subprocess.PIPE, check=False, timeout=TIMEOUT,
-                                  restore_signals=False, preexec_fn=limit)
+            with files_limited(step.get("room")):
+                done = subprocess.run([program, *words], cwd=folder, stdin=subprocess.DEVNULL, stdout=out,
+                                      stderr=full if step.get("mute") else subprocess.PIPE, check=False,
+                                      timeout=TIMEOUT, restore_signals=False)
         except subprocess.TimeoutExpired:
             return Ended(-1, b"", b"it did not return")
         out.seek(0)

@@ -7,8 +7,8 @@ from typing import Any, Dict, List
 CASES = Path(__file__).resolve().parent / "cases"
 # A part of bytes: so many times the same, a slice of a file, one byte of it changed in some bits, or a digest.
 TIMES = re.compile(r"([0-9a-f ]+)\* (\d+)")
-SLICE = re.compile(r"(\w+)\[(\d*):(\d*)\]")
-TURNED = re.compile(r"(\w+)\[(\d+)\]\^([0-9a-f]{2})")
+SLICE = re.compile(r"([\w.]+)\[(\d*):(\d*)\]")
+TURNED = re.compile(r"([\w.]+)\[(\d+)\]\^([0-9a-f]{2})")
 DIGEST = re.compile(r"sha256(?:\[(\d+):\])?")
 
 

@@ -89,7 +89,7 @@ def failures(program: str, file: Path) -> Iterator[List[str]]:
         with tempfile.TemporaryDirectory(prefix="glass_case_") as folder:
             try:
                 found = list(faults_of_case(program, case, table, Path(folder)))
-            except (WrongTable, OSError, LookupError) as wrong:
+            except (WrongTable, OSError, LookupError, ValueError) as wrong:
                 found = [f"{type(wrong).__name__}: {wrong}"]
         yield [f"{file.stem}: {case['name']}: {it}" for it in found]
 
