@@ -1,4 +1,5 @@
 """Rows of single samples of a run, by the program on a grid: what tests/cases holds digests of."""
+from functools import lru_cache
 from hashlib import sha256
 
 from reference.demo import demo_rows
@@ -50,6 +51,7 @@ class Tempered:
                     self.states[epoch + 1].append(own.state())
 
 
+@lru_cache(maxsize=None)
 def sixteen_temperatures():
     """The run of examples/glass_8: size 8, random couplings and start, two sweeps an epoch; some minutes."""
     rows, swaps = demo_rows(16)
