@@ -1,95 +1,208 @@
 #!/usr/bin/env python3
-"""Tells what the gate's time goes into, crate by crate, as a table.
+"""Runs the gate and tells what its time goes into, crate by crate.
 
-    rt ci 2>&1 | python3 tools/gate_times.py
+    python3 tools/gate_times.py [--write FILE] [COMMAND ..]
 
-Each line is passed on as it comes, and the table follows on the error output: when a crate was proved, in seconds from
-the start; how long after the last crate that it stands on, which is more than its own time where it had to wait for a
-processor; how long its must-fail edits took from their first line to their last; and when its tests had passed. A crate
-that an earlier run proved is told as kept.
+COMMAND is `.ci/run` where none is given; its output is passed on. Every half second the processes of the kit are looked
+at, and the processor time of each is put down for the crate that it works on: for its proof, for its tests, which are
+proved once more with the crate, for its must-fail edits, or for the program that is made of it. What a process took in
+the last half second of its life is missed. The table goes to FILE, or to the error output.
 
---self-test runs the tests of this tool."""
-import re
+It reads /proc, so it needs Linux. --self-test runs the tests of this tool.
+
+Status: that of COMMAND; 2 for a wrong word."""
+import os
+import platform
+import resource
+import subprocess
 import sys
+import threading
 import time
+from collections import defaultdict
 from pathlib import Path
-from typing import Dict, Iterable, List, Tuple
+from typing import Dict, List, NamedTuple, Optional, Sequence, Set, Tuple
 
-Stamped = Tuple[float, str]
+PARTS = ("proof", "tests", "edits", "program")
+SECONDS_BETWEEN = 0.5
+# Processor seconds, of a crate and a part.
+Spent = Dict[Tuple[str, str], float]
 
 
-def libraries_of(crates: str) -> Dict[str, List[str]]:
-    """The crates of crates.txt with those that each stands on."""
-    found: Dict[str, List[str]] = {}
-    for line in crates.splitlines():
-        name = re.match(r"(\w+)[^:#]*:(.*)", line.split("#")[0])
-        if name:
-            found[name[1]] = name[2].split()
+class Process(NamedTuple):
+    """A process of the kit: the words that it was started with, the folder that it works in, its processor seconds."""
+
+    words: Sequence[str]
+    folder: str
+    seconds: float
+
+
+def part_of(words: Sequence[str], folder: str) -> Optional[Tuple[str, str]]:
+    """The crate that a process works on and the part of the gate that it does; None where it is not the kit's prover."""
+    if "--crate-name" not in words or os.path.basename(words[0]) != "rattle":
+        return None
+    crate = words[words.index("--crate-name") + 1]
+    if "--test" in words:
+        return crate, "tests"
+    if os.path.basename(folder).startswith("rt-edit-"):
+        return crate, "edits"
+    return crate, "program" if "--crate-checked" in words else "proof"
+
+
+def descendants(parents: Dict[int, int], root: int) -> Set[int]:
+    """The processes below `root`, by the parent of each."""
+    found = {root}
+    for number in parents:
+        line = [number]
+        while line[-1] in parents and line[-1] not in found:
+            line.append(parents[line[-1]])
+        if line[-1] in found:
+            found.update(line)
     return found
 
 
-class Crate:
-    """When the gate spoke of a crate."""
+def processes(root: int) -> Dict[int, Process]:
+    """The kit's processes below the process `root`, by number. One that ends while it is looked at is left out."""
+    parents: Dict[int, int] = {}
+    found: Dict[int, Process] = {}
+    tick = os.sysconf("SC_CLK_TCK")
+    for entry in filter(str.isdigit, os.listdir("/proc")):
+        try:
+            fields = Path(f"/proc/{entry}/stat").read_text().rpartition(")")[2].split()
+            parents[int(entry)] = int(fields[1])
+            words = Path(f"/proc/{entry}/cmdline").read_bytes().decode(errors="replace").split("\0")
+            if os.path.basename(words[0]) == "rattle":
+                # Of the fields behind the name, the 12th and 13th are the user's and the system's time.
+                seconds = (int(fields[11]) + int(fields[12])) / tick
+                found[int(entry)] = Process(words, os.readlink(f"/proc/{entry}/cwd"), seconds)
+        except OSError:
+            continue
+    below = descendants(parents, root)
+    return {number: it for number, it in found.items() if number in below}
+
+
+class Account:
+    """What was spent, from the processes that were seen."""
 
     def __init__(self) -> None:
-        self.proved = self.tested = self.kept = None
-        self.edits: List[float] = []
+        self.seen: Dict[int, Tuple[Tuple[str, str], float]] = {}
+        self.spent: Spent = defaultdict(float)
+
+    def add(self, now: Dict[int, Process]) -> None:
+        """Takes the processes of a moment."""
+        for number, process in now.items():
+            place = part_of(process.words, process.folder)
+            if place is None:
+                continue
+            before = self.seen.get(number, (place, 0.0))
+            # A number may be a new process's.
+            earlier = before[1] if before[0] == place and before[1] <= process.seconds else 0.0
+            self.spent[place] += process.seconds - earlier
+            self.seen[number] = (place, process.seconds)
 
 
-def read(lines: Iterable[Stamped], names: Iterable[str]) -> Dict[str, Crate]:
-    """What each line says of a crate."""
-    crates = {name: Crate() for name in names}
-    for seconds, line in lines:
-        found = re.match(r"(?:rt: )?(?:crates/)?(\w+)\b(.*)", line)
-        if not found or found[1] not in crates:
-            continue
-        crate, rest = crates[found[1]], found[2]
-        if re.match(r" proved\b", rest):
-            crate.proved = seconds
-        elif re.match(r" is kept\b", rest):
-            crate.kept = seconds
-        elif "its tests passed" in rest:
-            crate.tested = seconds
-        elif "must-fail" in rest:
-            crate.edits.append(seconds)
-    return crates
+def table(spent: Spent) -> str:
+    """Processor minutes by crate and part, the dearest crate first, and their sums."""
+    crates = sorted({crate for crate, _ in spent}, key=lambda it: (-sum(spent.get((it, part), 0.0) for part in PARTS), it))
+    rows = [["crate", *PARTS, "all"]]
+    for crate in crates:
+        values = [spent.get((crate, part), 0.0) for part in PARTS]
+        rows.append([f"`{crate}`", *[f"{it / 60:.1f}" if it else "" for it in values], f"{sum(values) / 60:.1f}"])
+    sums = [sum(spent.get((crate, part), 0.0) for crate in crates) for part in PARTS]
+    rows.append(["all", *[f"{it / 60:.1f}" for it in sums], f"{sum(sums) / 60:.1f}"])
+    lines = ["| " + " | ".join(row) + " |" for row in rows]
+    return "\n".join([lines[0], "|---" * len(rows[0]) + "|", *lines[1:]])
 
 
-def table(crates: Dict[str, Crate], libraries: Dict[str, List[str]]) -> str:
-    """The table, in the order in which the crates were done."""
-    rows = ["| crate | proved at, s | after its libraries, s | edits, s | tests at, s |", "|---|---|---|---|---|"]
-    done = {name: it.proved if it.proved is not None else it.kept for name, it in crates.items()}
-    shown = lambda value: "" if value is None else f"{value:.0f}"
-    for name in sorted((it for it in crates if done[it] is not None), key=lambda it: done[it]):
-        crate = crates[name]
-        below = max((done[it] or 0.0 for it in libraries[name] if it in crates), default=0.0)
-        after = None if crate.proved is None else crate.proved - below
-        edits = crate.edits[-1] - crate.edits[0] if len(crate.edits) > 1 else None
-        proved = "kept" if crate.proved is None else shown(crate.proved)
-        rows.append(f"| `{name}` | {proved} | {shown(after)} | {shown(edits)} | {shown(crate.tested)} |")
-    return "\n".join(rows)
+def stolen(before: Sequence[int], after: Sequence[int]) -> float:
+    """The part of the processors' time that the host gave to others, by two readings of /proc/stat."""
+    spent = [late - early for early, late in zip(before, after)]
+    return spent[7] / sum(spent) if sum(spent) else 0.0
 
 
-def stamped(stream: Iterable[str]) -> Iterable[Stamped]:
-    """The lines with their times, each passed on."""
-    begun = time.monotonic()
-    for line in stream:
-        sys.stdout.write(line)
-        sys.stdout.flush()
-        yield time.monotonic() - begun, line.rstrip("\n")
+def readings() -> List[int]:
+    """The first line of /proc/stat: user, nice, system, idle, waiting, interrupts (2), stolen."""
+    with open("/proc/stat") as lines:
+        return [int(it) for it in next(lines).split()[1:9]]
+
+
+def processor() -> str:
+    """The processor's name."""
+    try:
+        with open("/proc/cpuinfo") as lines:
+            return next((line.partition(":")[2].strip() for line in lines if line.startswith("model name")), platform.machine())
+    except OSError:
+        return platform.machine()
+
+
+def output_of(words: Sequence[str]) -> str:
+    """The first line that a command prints, or nothing."""
+    ran = subprocess.run(words, stdout=subprocess.PIPE, stderr=subprocess.DEVNULL, text=True)
+    return ran.stdout.partition("\n")[0]
+
+
+def page(command: Sequence[str], clock: float, used: float, share: float, spent: Spent) -> str:
+    """The page: what ran where, how long it took, and the table."""
+    proved = sum(spent.values())
+    return f"""# What the gate costs
+
+Made by `python3 tools/gate_times.py --write docs/gate_times.md`; not written by hand.
+
+- `{" ".join(command)}` at {output_of(["git", "log", "-1", "--format=%h of %cs"])}, {output_of(["rt", "version"])}
+- {len(os.sched_getaffinity(0))} processors, {processor()}; the host gave {share:.0%} of their time to others
+- **{clock / 60:.0f} minutes by the clock, {used / 60:.0f} of the processor**: {proved / 60:.0f} of the prover, {(used - proved) / 60:.0f} all else
+
+Processor minutes. The proof of a crate with tests is in both columns, and each crate with edits is proved once more in theirs.
+
+{table(spent)}
+"""
+
+
+def run(command: Sequence[str], write: Optional[str]) -> int:
+    """Runs the command, looks at the kit's processes until it ends, and writes the page. Returns its status."""
+    account, ended = Account(), threading.Event()
+
+    begun, before = time.monotonic(), readings()
+    child = subprocess.Popen(list(command))
+
+    def watch() -> None:
+        while not ended.wait(SECONDS_BETWEEN):
+            account.add(processes(child.pid))
+
+    watcher = threading.Thread(target=watch, daemon=True)
+    watcher.start()
+    status = child.wait()
+    ended.set()
+    watcher.join()
+    times = resource.getrusage(resource.RUSAGE_CHILDREN)
+    used = times.ru_utime + times.ru_stime
+    text = page(command, time.monotonic() - begun, used, stolen(before, readings()), account.spent)
+    if write:
+        Path(write).write_text(text, encoding="utf-8")
+    else:
+        print(text, file=sys.stderr)
+    return status
 
 
 def self_test() -> int:
-    libraries = libraries_of("# layers\nlow: std\nmid may_wait=1: low\ntop: low mid\nold: low\n")
-    lines = [(10.0, "rt: low proved"), (12.0, "rt: low: trying its must-fail edits (2)"), (13.0, "rt: old is kept: an earlier run"),
-             (40.0, "crates/low/must-fail/a.edit: refused"), (55.0, "rt: mid proved"), (70.0, "rt: top: its tests passed"),
-             (65.0, "rt: top proved"), (66.0, "rt: 3 passed")]
-    wanted = ["| `low` | 10 | 10 | 28 |  |", "| `old` | kept |  |  |  |", "| `mid` | 55 | 45 |  |  |", "| `top` | 65 | 10 |  | 70 |"]
-    found = table(read(lines, libraries), libraries).splitlines()[2:]
-    if found != wanted:
-        print(f"gate_times: self-test: {found}", file=sys.stderr)
-        return 1
-    print("gate_times: 1 test passed")
+    """The tests of what the processes and the readings give."""
+    rattle = "/kit/bin/rattle"
+    assert part_of([rattle, "build", "--crate-name", "low", "-o", "x"], "/r/crates/low") == ("low", "proof")
+    assert part_of([rattle, "build", "--crate-name", "low", "--test"], "/r/crates/low") == ("low", "tests")
+    assert part_of([rattle, "check", "--crate-name", "low"], "/tmp/rt-edit-ab") == ("low", "edits")
+    assert part_of([rattle, "build", "--crate-name", "top", "--crate-checked", "x"], "/r") == ("top", "program")
+    assert part_of([rattle, "fmt", "--check"], "/r") is None and part_of(["python3", "--crate-name", "low"], "/r") is None
+    assert descendants({5: 3, 3: 2, 2: 1, 9: 8, 8: 1, 7: 5}, 3) == {3, 5, 7}
+    account = Account()
+    words = [rattle, "build", "--crate-name", "low"]
+    for seconds in (30.0, 60.0):
+        account.add({7: Process(words, "/r", seconds), 8: Process([*words, "--test"], "/r", 30.0)})
+    account.add({7: Process(words, "/r", 30.0)})
+    assert account.spent == {("low", "proof"): 90.0, ("low", "tests"): 30.0}
+    wanted = ["| crate | proof | tests | edits | program | all |", "|---|---|---|---|---|---|",
+              "| `low` | 1.5 | 0.5 |  |  | 2.0 |", "| all | 1.5 | 0.5 | 0.0 | 0.0 | 2.0 |"]
+    assert table(account.spent).splitlines() == wanted
+    assert stolen([0] * 8, [1, 0, 1, 1, 0, 0, 0, 1]) == 0.25
+    print("gate_times: the self-test passed")
     return 0
 
 
@@ -99,12 +212,16 @@ def main(words: List[str]) -> int:
         return 0
     if words == ["--self-test"]:
         return self_test()
-    if words:
+    write = None
+    if words[:1] == ["--write"]:
+        if len(words) < 2:
+            print("gate_times: --write takes a file's name", file=sys.stderr)
+            return 2
+        write, words = words[1], words[2:]
+    if words and words[0].startswith("-"):
         print(f"gate_times: what is {words[0]}? --help says more", file=sys.stderr)
         return 2
-    libraries = libraries_of((Path(__file__).resolve().parent.parent / "crates.txt").read_text(encoding="utf-8"))
-    print(table(read(stamped(sys.stdin), libraries), libraries), file=sys.stderr)
-    return 0
+    return run(words or ["bash", ".ci/run"], write)
 
 
 if __name__ == "__main__":

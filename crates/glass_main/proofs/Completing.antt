@@ -1,6 +1,6 @@
 -- A call whose ending fits what is asked for does it, or tells its refusal, where neither a fault nor want of memory ended it.
 use Rattle.std.proofs.Common.{◌≡◌, ℕ, List, Option, Some, None, IfSome, Result, Ok, Err, inl, inr, ap, ◌∙◌}
-use Rattle.glass_main.specs.CommandLine.{Command, saved_name}
+use Rattle.command_words.specs.CommandLine.{Command, saved_name}
 use Rattle.glass_main.specs.Outside.{Output, Store}
 use Rattle.glass_main.specs.Request.{Work, request_for}
 use Rattle.glass_main.specs.Statuses.{refusal_status, status_of, IsTold, Fits, Printed, Kept, Ends, Completes}

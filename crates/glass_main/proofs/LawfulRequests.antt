@@ -12,14 +12,14 @@ use Rattle.run_plan.specs.Amounts.{amount_refusal}
 use Rattle.scalar_rule.specs.declared.sample.Sample.{Sample}
 use Rattle.glass_main.specs.Beginnings.{Beginning, Level, Uneven, opened_by, begins_at, resumed_by}
 use Rattle.glass_main.specs.CheckpointBytes.{AreBytes, ResumesBytes, ReadsBytes}
-use Rattle.glass_main.specs.CommandLine.{LinesOrder, Command, Plain, Check, Run, Average, Demo, Lines, Potts, Age, command_of}
+use Rattle.command_words.specs.CommandLine.{LinesOrder, Command, Plain, Check, Run, Average, Demo, Lines, Potts, Age, command_of}
 use Rattle.glass_main.specs.LawfulRequests.{IsLawfulPlanned, AreLawfulBanks, AreLawfulPlans, IsLawfulRun, IsLawfulRunOfBanks, IsLawfulWork}
 use Rattle.glass_main.specs.ManyBanks.{PlannedBanks, banks_opened_by, banks_resumed_by, starts_at, banks_amount_refusal}
 use Rattle.glass_main.specs.Request.{Work, CheckWork, RunWork, BanksWork, AverageWork, LinesWork, AgeWork, and_then, told_as, bytes_in, bytes_at, plan_at, plans_at, read_at, beginning_at, banks_beginning_at, run_work, banks_work, until_of, run_from, banks_from, run_of, run_at, has_banks, averages_at, stand_at, saved_at, request_for, request}
-use Rattle.glass_main.specs.RunWords.{RunOrder, Until, MaySay, values_in}
+use Rattle.command_words.specs.RunWords.{RunOrder, Until, MaySay, values_in}
 use Rattle.glass_main.specs.StopLaws.{IsEncodingOf, IsBeginning, reached_by}
 use Rattle.glass_main.specs.ResumeLaws.{AreBeginnings}
-use Rattle.glass_main.specs.Words.{is_number, number_word}
+use Rattle.command_words.specs.Words.{is_number, number_word}
 use Rattle.glass_main.specs.declared.planned.Planned.{Planned}
 use Rattle.glass_main.specs.declared.plans.Plans.{Plans}
 use Rattle.glass_main.specs.declared.plans.Plans.TheVariants.{One, Banks}
@@ -34,7 +34,7 @@ use Rattle.glass_main.proofs.OneOfBanks.{stepped, same-ok}
 use Rattle.glass_main.proofs.ReadBytes.{held-is}
 use Rattle.glass_main.proofs.ReadRuns.{accepted-banks}
 use Rattle.glass_main.proofs.ReadStops.{accepted}
-use Rattle.glass_main.proofs.SaidRuns.{command_of-run}
+use Rattle.command_words.proofs.SaidRuns.{command_of-run}
 
 -- ---- the last epoch
 

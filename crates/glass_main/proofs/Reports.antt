@@ -8,7 +8,7 @@ use Rattle.glass_edges.specs.declared.shelf.Fetched.TheVariants as answer
 use Rattle.sample_average.specs.Averages.{AveragesView}
 use Rattle.sample_average.specs.ReadReport.{averages_in, most_report_bytes}
 use Rattle.sample_average.specs.declared.refused.ReportRefused.{ReportRefused}
-use Rattle.glass_main.specs.CommandLine.{AverageOrder, Average}
+use Rattle.command_words.specs.CommandLine.{AverageOrder, Average}
 use Rattle.glass_main.specs.Endings.{IsOfAverages, TellsLength}
 use Rattle.glass_main.specs.Gathers.{gathered}
 use Rattle.glass_main.specs.Outside.{Output, Store}

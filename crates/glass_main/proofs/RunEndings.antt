@@ -7,8 +7,8 @@ use Rattle.glass_main.specs.declared.plans.Plans.{Plans}
 use Rattle.glass_main.specs.declared.refusal.Refusal.{Refusal}
 use Rattle.glass_main.specs.declared.ending.Ending.{Ending}
 use Rattle.glass_main.specs.declared.ending.Ending.TheVariants.{Done, Refused, Unread, Unwritten, Unsaved, NoMemory}
-use Rattle.glass_main.specs.CommandLine.{Run}
-use Rattle.glass_main.specs.RunWords.{RunOrder}
+use Rattle.command_words.specs.CommandLine.{Run}
+use Rattle.command_words.specs.RunWords.{RunOrder}
 use Rattle.glass_main.specs.Endings.{IsOfAmount, TellsLength, FetchesCheckpoint, MayFetch}
 use Rattle.glass_main.proofs.Fetching.{of-file-wider}
 use Rattle.glass_main.specs.Opened.{IsUnopened, IsOfOpenRun}

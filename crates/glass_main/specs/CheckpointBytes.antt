@@ -2,7 +2,7 @@
 use Rattle.std.specs.Prelude.{ℕ, ◌<◌, List, slice_index, Option, Some, None, IfSome}
 use Rattle.std.specs.FinMap as finmap
 use Rattle.glass_edges.specs.Contents.{Files}
-use Rattle.glass_main.specs.CommandLine.{Command, Plain, Check, Run, Average, Demo, Lines, Potts, Age}
+use Rattle.command_words.specs.CommandLine.{Command, Plain, Check, Run, Average, Demo, Lines, Potts, Age}
 
 -- numbers below 256
 abbrev pub AreBytes : List ℕ → Type 0

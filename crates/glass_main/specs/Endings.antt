@@ -23,8 +23,8 @@ use Rattle.sample_average.specs.Averages.{IsRefusal}
 use Rattle.sample_average.specs.declared.refused.ReportRefused.{ReportRefused}
 use Rattle.sample_average.specs.declared.refused.ReportRefused.TheVariants as report
 use Rattle.scalar_rule.specs.Plan as rule
-use Rattle.glass_main.specs.RunWords.{RunOrder}
-use Rattle.glass_main.specs.CommandLine.{Command, Plain, Check, Run, Average, Demo, Lines, Potts, Age}
+use Rattle.command_words.specs.RunWords.{RunOrder}
+use Rattle.command_words.specs.CommandLine.{Command, Plain, Check, Run, Average, Demo, Lines, Potts, Age}
 use Rattle.glass_main.specs.Request.{limit_of, and_then, banked, IsAccepted, run_file_at, rules_at, swaps_at, tables_at, plan_at, plans_at, has_banks}
 use Rattle.glass_main.specs.declared.role.Role.{Role}
 use Rattle.glass_main.specs.declared.role.Role.TheVariants as roles

@@ -1,10 +1,4 @@
 -- what public contracts say: the words, what is asked for, how a call ends
-pub mod Words
-pub mod PottsWords
-pub mod AgeWords
-pub mod RunWords
-pub mod RunReading
-pub mod CommandLine
 pub mod Texts
 pub mod PottsRun
 pub mod AgeRun
@@ -19,17 +13,10 @@ pub mod Statuses
 pub mod CheckpointBytes
 pub mod StopLaws
 pub mod ResumeLaws
-pub mod AmountLaws
-pub mod LengthLaws
 pub mod LawfulRequests
-pub mod NextRuns
-pub mod LawfulRuns
 pub mod SavedLaws
 pub mod SampleLaws
 -- how the code's commands and plans are read, what plans keep, and what the steps inside say: for proofs alone
-pub mod ReadPotts
-pub mod ReadAge
-pub mod ReadCommand
 pub mod KeptPlans
 pub mod Gathers
 pub mod BankTables

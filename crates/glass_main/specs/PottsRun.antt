@@ -6,9 +6,9 @@ use Rattle.potts_glass.specs.PottsStates.{PottsView, opened, swept}
 use Rattle.potts_glass.specs.PottsText.{potts_text}
 use Rattle.spin_model.specs.Couplings.{plus, random}
 use Rattle.spin_model.specs.Steps.{steps}
-use Rattle.glass_main.specs.PottsWords.{PottsOrder}
-use Rattle.glass_main.specs.declared.potts_words.PottsCouplings.{PottsCouplings}
-use Rattle.glass_main.specs.declared.potts_words.PottsCouplings.TheVariants.{Plus, Random}
+use Rattle.command_words.specs.PottsWords.{PottsOrder}
+use Rattle.command_words.specs.declared.potts_words.PottsCouplings.{PottsCouplings}
+use Rattle.command_words.specs.declared.potts_words.PottsCouplings.TheVariants.{Plus, Random}
 
 -- the couplings of all samples: all +1, or those of the seed
 unfoldable pub couplings_made : PottsCouplings → ℕ → ℕ → CouplingsView

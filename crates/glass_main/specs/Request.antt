@@ -28,10 +28,10 @@ use Rattle.scalar_rule.specs.Plan.{Plan}
 use Rattle.scalar_rule.specs.declared.sample.Sample.{Sample}
 use Rattle.sample_average.specs.Averages.{AveragesView, averages_text}
 use Rattle.sample_average.specs.ReadReport.{averages_in, most_report_bytes}
-use Rattle.glass_main.specs.RunWords.{RunOrder}
-use Rattle.glass_main.specs.CommandLine.{PlainOrder, AverageOrder, LinesOrder, Command, Plain, Check, Run, Average, Demo, Lines, Potts, Age, command_of}
+use Rattle.command_words.specs.RunWords.{RunOrder}
+use Rattle.command_words.specs.CommandLine.{PlainOrder, AverageOrder, LinesOrder, Command, Plain, Check, Run, Average, Demo, Lines, Potts, Age, command_of}
 use Rattle.glass_main.specs.PottsRun.{potts_report}
-use Rattle.glass_main.specs.PottsWords.{PottsOrder}
+use Rattle.command_words.specs.PottsWords.{PottsOrder}
 use Rattle.glass_main.specs.AgeRun.{age_text}
 use Rattle.glass_main.specs.Beginnings.{Beginning, opened_by, resumed_by, begins_at}
 use Rattle.glass_main.specs.ManyBanks.{PlannedBanks, bank_count, bank_plans, banks_opened_by, banks_resumed_by, starts_at, banks_amount_refusal, banks_text, banks_at, banks_bytes}

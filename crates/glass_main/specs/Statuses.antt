@@ -2,7 +2,7 @@
 use Rattle.std.specs.Prelude.{◌≡◌, ◌⊎◌, ℕ, ◌<◌, ◌≤◌, List, Option, IfSome, Result, Ok, Err, Some, None}
 use Rattle.glass_edges.specs.Causes.{Rose}
 use Rattle.glass_edges.specs.Contents.{appended, AppendsPrefix, Placed, SameElsewhere}
-use Rattle.glass_main.specs.CommandLine.{Command, saved_name}
+use Rattle.command_words.specs.CommandLine.{Command, saved_name}
 use Rattle.glass_main.specs.Endings.{Reads, TellsLength}
 use Rattle.glass_main.specs.Outside.{Output, Store}
 use Rattle.glass_main.specs.Request.{Work, limit_of, IsAccepted, Gives, GivesAsked, request_for}

@@ -15,7 +15,7 @@ use Rattle.report_text.specs.Lines.{kind_text}
 use Rattle.glass_engine.specs.Summary.{summary}
 use Rattle.overlap_lines.specs.LineText.{lines_text}
 use Rattle.plane_sweep.specs.Packed.{part}
-use Rattle.glass_main.specs.CommandLine.{PlainOrder}
+use Rattle.command_words.specs.CommandLine.{PlainOrder}
 use Rattle.glass_main.specs.declared.plans.Plans.{Plans}
 use Rattle.glass_main.specs.declared.plans.Plans.TheVariants.{One, Banks}
 use Rattle.glass_main.specs.declared.saved_state.SavedState.{SavedState}

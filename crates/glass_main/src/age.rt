@@ -8,12 +8,12 @@ ghost use Rattle.plane_sweep.specs.Packed.{StandFits, StandsFor};
 ghost use Rattle.run_plan.specs.RunFile.{AreLawfulOrders};
 ghost use Rattle.scalar_rule.specs.Opening.{opening};
 ghost use Rattle.glass_main.specs.AgeRun.{age_text};
-ghost use Rattle.glass_main.specs.CommandLine as commands;
+ghost use Rattle.command_words.specs.CommandLine as commands;
 ghost use Rattle.glass_main.specs.Outside.{output, store};
-ghost use Rattle.glass_main.specs.ReadAge.{read_age_order, IsLawfulAge};
+ghost use Rattle.command_words.specs.ReadAge.{read_age_order, IsLawfulAge};
 ghost use Rattle.glass_main.specs.Statuses.{Ends};
 
-use crate::age_words::AgeOrder;
+use command_words::AgeOrder;
 use crate::ending::Ending;
 use crate::gathering::gather_plan;
 use crate::planned::Planned;

@@ -1,6 +1,6 @@
 //! A run that is asked for.
 
-use crate::run_words::RunOrder;
+use command_words::RunOrder;
 
 /// A run that is asked for: by its words, and by what its files say, of one bank or of several.
 #[derive(Drop)]

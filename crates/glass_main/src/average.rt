@@ -2,14 +2,14 @@
 
 ghost use Rattle.std.specs.Prelude.{◌≡◌, ◌≤◌, ◌<◌, length, option_map, Some, IfOk, IfErr, IfSome, OnOk};
 ghost use Rattle.sample_average.specs.ReadReport.{most_report_bytes};
-ghost use Rattle.glass_main.specs.CommandLine as commands;
+ghost use Rattle.command_words.specs.CommandLine as commands;
 ghost use Rattle.glass_main.specs.Outside as outside;
 ghost use Rattle.glass_main.specs.Outside.{output, store};
-ghost use Rattle.glass_main.specs.ReadCommand.{read_average_order, IsLawfulAverage};
+ghost use Rattle.command_words.specs.ReadCommand.{read_average_order, IsLawfulAverage};
 ghost use Rattle.glass_main.specs.Request.{averages_at, bytes_at};
 ghost use Rattle.glass_main.specs.Statuses.{Ends};
 
-use crate::average_words::AverageOrder;
+use command_words::AverageOrder;
 use crate::ending::Ending;
 use crate::gathering::gathered;
 use crate::refusal::Refusal;

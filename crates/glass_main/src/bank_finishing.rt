@@ -11,12 +11,12 @@ ghost use Rattle.glass_main.specs.BanksOpened.{AreReady, AreRunsOf};
 ghost use Rattle.glass_main.specs.ManyBanks as model;
 ghost use Rattle.glass_main.specs.Opened.{IsOfOpenRun};
 ghost use Rattle.glass_main.specs.Outside.{output, store};
-ghost use Rattle.glass_main.specs.ReadCommand.{name_bytes, IsLawfulOrder};
+ghost use Rattle.command_words.specs.ReadCommand.{name_bytes, IsLawfulOrder};
 ghost use Rattle.glass_main.specs.Request.{BanksWork};
 ghost use Rattle.glass_main.specs.Statuses.{Printed, Saved, Unsought, Unplaced, Kept, Wrote};
 
 use crate::ending::Ending;
-use crate::run_words::RunOrder;
+use command_words::RunOrder;
 use glass_edges::{Fault, Gate, Shelf, Sink};
 use glass_engine::{Banks, BanksDone, drive_banks, print_banks, save_banks};
 use report_sheets::Sheets;

@@ -6,7 +6,7 @@ ghost use Rattle.run_checkpoint.specs.BankEncoding.{BanksFit, BanksStand};
 ghost use Rattle.glass_main.specs.CheckpointBytes.{HasBytes, ResumesBytes};
 ghost use Rattle.glass_main.specs.ManyBanks.{banks_opened_by, banks_resumed_by, openings_from};
 ghost use Rattle.glass_main.specs.Outside.{store};
-ghost use Rattle.glass_main.specs.ReadCommand.{name_bytes};
+ghost use Rattle.command_words.specs.ReadCommand.{name_bytes};
 ghost use Rattle.glass_main.specs.Request as model;
 ghost use Rattle.glass_main.specs.Resumes.{AreResumable, Begins, Resumes};
 

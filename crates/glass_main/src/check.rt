@@ -4,7 +4,7 @@
 ghost use Rattle.std.specs.Prelude.{◌≡◌, ◌+◌, ◌≤◌, [], ◌++◌, length, Some, OnOk, OnErr};
 ghost use Rattle.glass_edges.specs.Causes.{HasCause};
 ghost use Rattle.glass_edges.specs.Contents.{appended, AppendsPrefix};
-ghost use Rattle.glass_main.specs.CommandLine.{Check};
+ghost use Rattle.command_words.specs.CommandLine.{Check};
 ghost use Rattle.glass_main.specs.Outside.{output, store};
 ghost use Rattle.glass_main.specs.Statuses.{Ends};
 ghost use Rattle.glass_main.specs.Texts.{check_text, plan_line, plan_sizes, plan_dynamics, digest_word};

@@ -4,15 +4,15 @@ ghost use Rattle.std.specs.Prelude.{◌≡◌, option_map, Some, IfOk, IfErr};
 ghost use Rattle.plane_sweep.specs.Packed.{StandFits};
 ghost use Rattle.run_plan.specs.RunFile.{AreLawfulOrders};
 ghost use Rattle.glass_main.specs.CheckpointBytes.{HasBytes};
-ghost use Rattle.glass_main.specs.CommandLine as commands;
+ghost use Rattle.command_words.specs.CommandLine as commands;
 ghost use Rattle.glass_main.specs.Endings.{IsOfOneEpoch, IsReachedSaved};
 ghost use Rattle.glass_main.specs.Gathers.{Fetches, Gathers};
 ghost use Rattle.glass_main.specs.Outside.{output, store};
-ghost use Rattle.glass_main.specs.ReadCommand.{read_lines_order};
+ghost use Rattle.command_words.specs.ReadCommand.{read_lines_order};
 ghost use Rattle.glass_main.specs.Request as model;
 ghost use Rattle.glass_main.specs.Statuses.{Ends, IfRefused};
 
-use crate::correlation_words::LinesOrder;
+use command_words::LinesOrder;
 use crate::ending::Ending;
 use crate::gathering::{gather_bytes, gather_plan};
 use crate::refusal::Refusal;

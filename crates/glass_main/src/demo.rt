@@ -5,7 +5,7 @@ ghost use Rattle.std.specs.Arc.{arc_value};
 ghost use Rattle.glass_edges.specs.Causes.{HasCause};
 ghost use Rattle.glass_edges.specs.Contents.{appended, AppendsPrefix};
 ghost use Rattle.spin_model.specs.Limits.{greatest_demo};
-ghost use Rattle.glass_main.specs.CommandLine as commands;
+ghost use Rattle.command_words.specs.CommandLine as commands;
 ghost use Rattle.glass_main.specs.DemoRun.{IsDemoRun};
 ghost use Rattle.glass_main.specs.Outside.{output, store};
 ghost use Rattle.glass_main.specs.Statuses.{Ends};

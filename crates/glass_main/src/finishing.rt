@@ -8,13 +8,13 @@ ghost use Rattle.glass_engine.specs.Runs.{IsEnd};
 ghost use Rattle.glass_main.specs.Beginnings.{Beginning};
 ghost use Rattle.glass_main.specs.Opened.{saves_as, text_at, bytes_at, IsRunOf, IsOfOpenRun};
 ghost use Rattle.glass_main.specs.Outside.{output, store};
-ghost use Rattle.glass_main.specs.ReadCommand.{name_bytes, IsLawfulOrder};
+ghost use Rattle.command_words.specs.ReadCommand.{name_bytes, IsLawfulOrder};
 ghost use Rattle.glass_main.specs.Request.{RunWork};
 ghost use Rattle.glass_main.specs.Statuses.{Printed, Saved, Unsought, Unplaced, Kept, Wrote};
 ghost use Rattle.glass_main.specs.declared.planned.Planned as model;
 
 use crate::ending::Ending;
-use crate::run_words::RunOrder;
+use command_words::RunOrder;
 use glass_edges::{Fault, Gate, Shelf, Sink};
 use glass_engine::{
     Done, Run, drive, level_checkpoint_is_serial, level_report_is_serial, print_report, save,

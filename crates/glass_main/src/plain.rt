@@ -6,13 +6,13 @@ ghost use Rattle.glass_edges.specs.Contents.{appended, AppendsPrefix};
 ghost use Rattle.scalar_rule.specs.Sums.{energy};
 ghost use Rattle.spin_model.specs.Couplings.{plus};
 ghost use Rattle.spin_model.specs.Lattice.{volume};
-ghost use Rattle.glass_main.specs.CommandLine.{Plain};
+ghost use Rattle.command_words.specs.CommandLine.{Plain};
 ghost use Rattle.glass_main.specs.Outside.{output, store};
-ghost use Rattle.glass_main.specs.ReadCommand.{read_order};
+ghost use Rattle.command_words.specs.ReadCommand.{read_order};
 ghost use Rattle.glass_main.specs.Statuses.{Ends};
 ghost use Rattle.glass_main.specs.Texts.{plain_header, energy_line, plain_text, plain_spins};
 
-use crate::command_line::PlainOrder;
+use command_words::PlainOrder;
 use crate::ending::Ending;
 use crate::spin_text::put_spin_line;
 use glass_edges::{Fault, Line, Shelf, Sink};

@@ -4,15 +4,15 @@
 ghost use Rattle.std.specs.Prelude.{◌≡◌, ◌≤◌, Some, IfOk, OnOk, OnErr};
 ghost use Rattle.glass_edges.specs.Causes.{HasCause};
 ghost use Rattle.glass_edges.specs.Contents.{appended, AppendsPrefix};
-ghost use Rattle.glass_main.specs.CommandLine as commands;
+ghost use Rattle.command_words.specs.CommandLine as commands;
 ghost use Rattle.glass_main.specs.Outside.{output, store};
 ghost use Rattle.glass_main.specs.PottsRun.{couplings_made, potts_opened, potts_report, potts_swept};
-ghost use Rattle.glass_main.specs.ReadPotts.{read_potts_order, IsLawfulPotts};
+ghost use Rattle.command_words.specs.ReadPotts.{read_potts_order, IsLawfulPotts};
 ghost use Rattle.glass_main.specs.Statuses.{Ends};
 
 use crate::ending::Ending;
 use crate::gathering::{make_plus, make_random};
-use crate::potts_words::{PottsCouplings, PottsOrder};
+use command_words::{PottsCouplings, PottsOrder};
 use coupling_set::Couplings;
 use glass_edges::{Fault, NoMemory, Shelf, Sink};
 use potts_glass::{Potts as Glass, PottsRow, write_potts};

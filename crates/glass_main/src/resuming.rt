@@ -9,7 +9,7 @@ ghost use Rattle.glass_main.specs.Beginnings.{IsBaseOf, opened_by, resumed_by};
 ghost use Rattle.glass_main.specs.CheckpointBytes.{HasBytes, ResumesBytes};
 ghost use Rattle.glass_main.specs.Outside.{store};
 ghost use Rattle.glass_main.specs.Request as model;
-ghost use Rattle.glass_main.specs.ReadCommand.{name_bytes};
+ghost use Rattle.command_words.specs.ReadCommand.{name_bytes};
 ghost use Rattle.glass_main.specs.Resumes.{Begins, IsResumable, Resumes, ending_of};
 
 use crate::ending::Ending;

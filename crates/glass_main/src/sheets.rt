@@ -3,7 +3,7 @@
 ghost use Rattle.std.specs.Prelude.{◌≤◌};
 ghost use Rattle.spin_model.specs.Limits.{last_epoch};
 
-use crate::run_words::RunOrder;
+use command_words::RunOrder;
 use glass_edges::NoMemory;
 use report_sheets::Sheets;
 use run_plan::{Orders, row_count};

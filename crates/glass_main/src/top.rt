@@ -2,19 +2,19 @@
 
 ghost use Rattle.std.specs.Prelude.{◌≡◌, ◌↔◌, Some, None, IfSome, IfOk};
 ghost use Rattle.glass_main.specs.CheckpointBytes.{ReadsBytes};
-ghost use Rattle.glass_main.specs.CommandLine.{Run, command_of, saved_name};
+ghost use Rattle.command_words.specs.CommandLine.{Run, command_of, saved_name};
 ghost use Rattle.glass_main.specs.Endings.{ReadsNoFile};
 ghost use Rattle.glass_main.specs.LawfulRequests.{IsLawfulWork};
 ghost use Rattle.glass_main.specs.Outside.{output, store};
 ghost use Rattle.glass_main.specs.Request.{request};
-ghost use Rattle.glass_main.specs.RunWords.{RunOrder, SaysRun};
+ghost use Rattle.command_words.specs.RunWords.{RunOrder, SaysRun};
 ghost use Rattle.glass_main.specs.Statuses.{Ends, Answers, Does, Completes, TellsFaults};
-ghost use Rattle.glass_main.specs.Words.{texts};
+ghost use Rattle.command_words.specs.Words.{texts};
 
 use crate::age::age;
 use crate::average::average;
 use crate::check::check;
-use crate::command_line::{Command, read_words};
+use command_words::{Command, read_words};
 use crate::correlation::correlation_lines;
 use crate::demo::demo;
 use crate::ending::{Ending, status};

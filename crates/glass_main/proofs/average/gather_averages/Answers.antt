@@ -1,7 +1,7 @@
 use Rattle.std.proofs.Common.{rules, ◌≡◌}
 use Rattle.sample_average.specs.declared.refused.ReportRefused.TheVariants as report
 use Rattle.glass_main.specs.Outside.{Output}
-use Rattle.glass_main.specs.ReadCommand.{read_average_order}
+use Rattle.command_words.specs.ReadCommand.{read_average_order}
 use Rattle.glass_main.specs.declared.refusal.Refusal.TheVariants.{Report}
 use Rattle.glass_main.proofs.Reports.{averages-found, report-refused, ends-refused}
 use Rattle.glass_main.proofs.average.gather_averages.Goals as goal

@@ -1,4 +1,4 @@
-use Rattle.glass_main.specs.ReadCommand.{read_average_order}
+use Rattle.command_words.specs.ReadCommand.{read_average_order}
 use Rattle.glass_main.proofs.Reports.{fetches-report}
 use Rattle.glass_main.proofs.average.gather_report.Goals as goal
 

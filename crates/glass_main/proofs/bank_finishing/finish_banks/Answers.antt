@@ -5,7 +5,7 @@ use Rattle.glass_engine.specs.BankRuns.{runs_report, runs_checkpoint}
 use Rattle.glass_engine.specs.Runs.{RunView}
 use Rattle.glass_engine.specs.declared.run.SaveKind.TheVariants as saves
 use Rattle.glass_main.specs.Outside.{Store, store}
-use Rattle.glass_main.specs.ReadCommand.{name_bytes}
+use Rattle.command_words.specs.ReadCommand.{name_bytes}
 use Rattle.glass_main.specs.Statuses.{Saved}
 use Rattle.glass_main.proofs.BankRuns.{all-done}
 use Rattle.glass_main.proofs.bank_finishing.finish_banks.Goals as goal

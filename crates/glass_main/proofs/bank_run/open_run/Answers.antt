@@ -13,7 +13,7 @@ use Rattle.glass_main.proofs.Amounts.{refused-amount}
 use Rattle.glass_main.proofs.BankRuns.{first-at, amount-none, banks-told, have-slots, opened-ready, opened-runs}
 use Rattle.glass_main.specs.BanksOpened.{is_named}
 use Rattle.glass_main.specs.ManyBanks.{PlannedBanks, banks_amount_refusal, starts_at, stands_at}
-use Rattle.glass_main.specs.ReadCommand.{name_bytes}
+use Rattle.command_words.specs.ReadCommand.{name_bytes}
 use Rattle.glass_main.specs.Request.{BanksWork, banks_work}
 use Rattle.glass_main.specs.declared.bank_finishing.OpenedBanks.{OpenedBanks}
 use Rattle.glass_main.proofs.bank_run.open_run.Goals as goal

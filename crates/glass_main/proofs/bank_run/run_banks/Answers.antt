@@ -9,10 +9,10 @@ use Rattle.glass_main.specs.KeptPlans.{banks_view}
 use Rattle.glass_main.specs.ManyBanks.{PlannedBanks, banks_amount_refusal, starts_at, stands_at}
 use Rattle.glass_main.specs.Opened.{IsUnopened}
 use Rattle.glass_main.specs.Outside.{output, store}
-use Rattle.glass_main.specs.ReadCommand.{read_run_order}
+use Rattle.command_words.specs.ReadCommand.{read_run_order}
 use Rattle.glass_main.specs.Request.{BanksWork, banks_beginning_at, banks_work, until_of}
 use Rattle.glass_main.specs.Resumes.{Begins}
-use Rattle.glass_main.specs.RunWords.{RunOrder}
+use Rattle.command_words.specs.RunWords.{RunOrder}
 use Rattle.glass_main.specs.Statuses.{Wrote}
 use Rattle.glass_main.specs.declared.plans.Plans.TheVariants.{Banks}
 use Rattle.glass_main.proofs.bank_run.run_banks.Goals as goal

@@ -3,7 +3,7 @@ use Rattle.glass_edges.specs.Contents.{appended, AppendsPrefix}
 use Rattle.glass_engine.specs.Runs.{RunView}
 use Rattle.glass_main.specs.Opened.{IsRunOf}
 use Rattle.glass_main.specs.Outside.{Output, Store, output, store}
-use Rattle.glass_main.specs.ReadCommand.{name_bytes}
+use Rattle.command_words.specs.ReadCommand.{name_bytes}
 use Rattle.glass_main.specs.Statuses.{IsGiven}
 use Rattle.glass_main.proofs.OpenedRuns.{run-comes, run-gives}
 use Rattle.glass_main.proofs.finishing.finish_run.Goals as goal

@@ -4,7 +4,7 @@ use Rattle.std.proofs.lemmas.Result.{on_ok_weaker}
 use Rattle.glass_edges.specs.Contents.{Placed}
 use Rattle.glass_main.specs.Opened.{saves_as, bytes_at}
 use Rattle.glass_main.specs.Outside.{store}
-use Rattle.glass_main.specs.ReadCommand.{name_bytes}
+use Rattle.command_words.specs.ReadCommand.{name_bytes}
 use Rattle.glass_main.specs.Statuses.{Saved}
 use Rattle.glass_main.proofs.OpenedRuns.{bytes-of}
 use Rattle.glass_main.proofs.finishing.save_run.Goals as goal

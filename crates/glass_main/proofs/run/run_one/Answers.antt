@@ -10,7 +10,7 @@ use Rattle.glass_main.proofs.StoppedRuns.{base-floor}
 use Rattle.glass_main.specs.Beginnings.{Beginning, Uneven, IsBaseOf}
 use Rattle.glass_main.specs.Opened.{IsUnopened}
 use Rattle.glass_main.specs.Outside.{output, store}
-use Rattle.glass_main.specs.ReadCommand.{read_run_order}
+use Rattle.command_words.specs.ReadCommand.{read_run_order}
 use Rattle.glass_main.specs.Request.{RunWork, beginning_at, run_work, until_of}
 use Rattle.glass_main.specs.Resumes.{Begins}
 use Rattle.glass_main.specs.Statuses.{Wrote}

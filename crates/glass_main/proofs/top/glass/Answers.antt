@@ -1,9 +1,9 @@
 use Rattle.std.proofs.Common.{sym, ◌∙◌}
-use Rattle.glass_main.specs.Words.{texts}
+use Rattle.command_words.specs.Words.{texts}
 use Rattle.glass_main.proofs.Completing.{completes}
 use Rattle.glass_main.proofs.LawfulRequests.{request-lawful}
 use Rattle.glass_main.proofs.ReadBytes.{done-of}
-use Rattle.glass_main.proofs.SaidRuns.{command_of-run}
+use Rattle.command_words.proofs.SaidRuns.{command_of-run}
 use Rattle.glass_main.proofs.top.glass.Goals as goal
 
 pub returns-clause-complete : goal.returns-clause-complete

@@ -1,0 +1,7 @@
+pub mod Numbers
+pub mod AgeTimes
+pub mod SaidWords
+pub mod SaidOnce
+pub mod SaidOptions
+pub mod SaidItems
+pub mod SaidRuns

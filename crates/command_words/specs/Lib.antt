@@ -1,0 +1,9 @@
+pub mod Words
+pub mod PottsWords
+pub mod AgeWords
+pub mod RunWords
+pub mod RunReading
+pub mod CommandLine
+pub mod ReadPotts
+pub mod ReadAge
+pub mod ReadCommand

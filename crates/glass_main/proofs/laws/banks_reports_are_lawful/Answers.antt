@@ -1,5 +1,0 @@
-use Rattle.glass_main.proofs.BankReports.{banks-lawful}
-use Rattle.glass_main.proofs.laws.banks_reports_are_lawful.Goals as goal
-
-pub returns : goal.returns
-returns c = λ planned starts until plans count begins rising within. banks-lawful planned starts until plans count begins rising within

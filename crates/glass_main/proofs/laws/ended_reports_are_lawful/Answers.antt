@@ -1,5 +1,0 @@
-use Rattle.glass_main.proofs.UnevenReports.{ended-lawful}
-use Rattle.glass_main.proofs.laws.ended_reports_are_lawful.Goals as goal
-
-pub returns : goal.returns
-returns c = λ run d end kept. ended-lawful run d end kept

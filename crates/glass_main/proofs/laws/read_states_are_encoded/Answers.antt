@@ -1,5 +1,0 @@
-use Rattle.glass_main.proofs.SavedStates.{read-encoded}
-use Rattle.glass_main.proofs.laws.read_states_are_encoded.Goals as goal
-
-pub returns : goal.returns
-returns c = λ plan bytes base lawful are is. read-encoded plan bytes base lawful are is

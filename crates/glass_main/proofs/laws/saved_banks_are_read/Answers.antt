@@ -1,5 +1,0 @@
-use Rattle.glass_main.proofs.ReadRuns.{saved-banks-read}
-use Rattle.glass_main.proofs.laws.saved_banks_are_read.Goals as goal
-
-pub returns : goal.returns
-returns c = λ planned epoch until states plans are time. saved-banks-read planned epoch until states plans are time

@@ -1,5 +1,0 @@
-use Rattle.glass_main.proofs.RunReports.{stopped-lawful}
-use Rattle.glass_main.proofs.laws.stopped_reports_are_lawful.Goals as goal
-
-pub returns : goal.returns
-returns c = λ planned from until takes came lawful orders begins kept within comes. stopped-lawful planned from until takes came lawful orders begins kept within comes

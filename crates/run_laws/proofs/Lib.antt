@@ -1,0 +1,9 @@
+pub mod ReportRows
+pub mod ReportSpins
+pub mod LawfulReports
+pub mod UnevenReports
+pub mod RunReports
+pub mod BankReports
+pub mod AcceptedParts
+pub mod CheckpointLengths
+pub mod NextRuns

@@ -1,0 +1,4 @@
+pub mod AmountLaws
+pub mod LengthLaws
+pub mod NextRuns
+pub mod LawfulRuns
