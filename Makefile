@@ -1,8 +1,12 @@
-# make            builds the program as ./glass, for this processor
+# make            leaves the program as ./glass, for this processor: takes it from dist/ where that is built of these
+#                 sources, else proves and builds it
 # make PROCESSOR=x86-64
-#                 builds it for each processor of the kind, make PROCESSOR=x86-64-v2 for nearly all of the last fifteen
-#                 years; make clean, then make, builds it for this one again
-# make run        builds it and runs the study of examples/ising_4
+#                 one for each processor of the kind, make PROCESSOR=x86-64-v2 for nearly all of the last fifteen
+#                 years; make clean, then make, is for this one again
+# make run        the same, and runs the study of examples/ising_4
+# make prove      proves and builds the program in any case
+# make try        builds it without any proof and runs `glass demo 1` with checks, for those who change something
+# make dist       proves the program, and builds what dist/ has
 # make install    puts the program, the tools and the manual page below PREFIX, which is /usr/local
 # make uninstall  takes them away from there
 # make clean      removes the program; what was proved is kept
@@ -24,7 +28,7 @@ MODULES := $(wildcard tools/*.py)
 REFERENCE := $(wildcard tools/reference/*.py)
 PACKAGE := $(wildcard tools/glass_analysis/*.py)
 
-.PHONY: all run install uninstall clean always
+.PHONY: all run prove try dist install uninstall clean always
 all: glass
 
 # Where a processor is named the program is built anew, since the one that is there may be for another.
@@ -33,6 +37,17 @@ glass: $(SOURCES) crates.txt tools/build $(if $(PROCESSOR),always)
 
 run: glass
 	@examples/ising_4/study
+
+prove:
+	@tools/build --prove $(if $(PROCESSOR),--cpu $(PROCESSOR))
+
+# The kit's limit is 60 seconds, which a busy machine takes.
+try:
+	@echo "Nothing is proved: the program is built as it stands, and stops where a check of its run fails."
+	@cd crates/glass && rt try --seconds 600 -- demo 1
+
+dist:
+	@tools/build --dist
 
 install: $(PROGRAM)
 	install -d $(BIN) $(SHARE)/tools/glass_analysis $(MAN)
