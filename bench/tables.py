@@ -8,7 +8,7 @@
     python3 bench/tables.py --self-test         the tests of this tool
 
 Each file of bench/results begins with the columns machine, commit, date (YYYY-MM-DD), load and turns; what is measured has
-its unit as the end of its name (ms, us, ns, ps, s, mb, kb, percent) or is a ratio, and all other columns say of what it is.
+its unit as the end of its name (min, s, ms, us, ns, ps, mb, kb, percent) or is a ratio, and all other columns say of what it is.
 The commit is the one whose page had the figure first; the program is that of this commit or of one just before.
 
 Status: 0; 1 where --check finds a table that differs; 2 for a wrong word or file, with a line."""
@@ -25,7 +25,7 @@ from exit_status import status_of  # noqa: E402
 from make_tables import Checks, OneLineParser, Refusal  # noqa: E402
 
 HEAD = ["machine", "commit", "date", "load", "turns"]
-UNITS = ("ms", "us", "ns", "ps", "s", "mb", "kb", "percent")
+UNITS = ("min", "s", "ms", "us", "ns", "ps", "mb", "kb", "percent")
 RATIOS = ("ratio", "times", "four_runs_times", "two_workers", "four_workers", "eight_workers", "two_pieces", "four_pieces")
 MARK = re.compile(r"(<!-- table (\w+) -->\n)(.*?)(<!-- end -->)", re.DOTALL)
 Row = Dict[str, str]
