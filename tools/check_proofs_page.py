@@ -2,8 +2,9 @@
 """Holds docs/proofs.md to the sources.
 
 Each row of its tables names public calls and clauses, definitions, edits and tests. Each of these must exist in
-crates/, or where edits are named as tried on demand in tests/more_edits/, and each edit, test and public call must
-be named on the page, an edit with the place where it stands. A definition that is named behind a file of specs/
+crates/, or where edits are named as tried on demand in tests/more_edits/, or where tests are named as cases in
+tests/cases/, and each edit, test, case and public call must be named on the page, an edit, a test and a case with
+the place where it stands. A definition that is named behind a file of specs/
 must stand in that file; so must those of the tables of nouns and of laws. The benchmarks' crates and those of tests
 alone owe no rows for their calls.
 
@@ -28,6 +29,11 @@ SENTENCE = re.compile(r"[a-z0-9]+(?:_[a-z0-9]+)+")
 NAMED_EDIT = re.compile(r"in (?P<front>\w+):|(?P<end>;)|(?P<name>[a-z0-9]+(?:_[a-z0-9]+)+)(?: \[(?P<behind>\w+)\])?")
 # What stands in a cell in front of the edits that the gate leaves out.
 ON_DEMAND = "on demand:"
+# Tests, and in brackets behind them the place where they stand.
+NAMED_TESTS = re.compile(r"([^\[\];]+)(?:\[(\w+)\])?")
+# That place, of cases that run against the built program, and how a table of them names one.
+CASES = "cases"
+NAME_OF_CASE = re.compile(r'^name = "(\w+)"$', re.M)
 # What a file of specs/ defines: definitions and fields of records, and behind spaces the cases of types.
 DEFINED = re.compile(r"^ *(?:(?:abbrev |unfoldable )?pub (?:record |data )?| +(?=\w+ :))(\w+)", re.M)
 # A definition in backticks, a semicolon, or a word that may be a crate, a file or what is not the page's ("std's").
@@ -49,6 +55,8 @@ class Sources:
         self.edits: Set[Edit] = set()
         self.more_edits: Set[Edit] = {(it.parent.name, it.stem) for it in root.glob("tests/more_edits/*/*.edit")}
         self.tests: Set[str] = set()
+        self.cases: Set[str] = {name for it in root.glob("tests/cases/*.toml")
+                                for name in NAME_OF_CASE.findall(it.read_text(encoding="utf-8"))}
         self.clauses: Set[str] = set()
         self.words: Set[str] = set()
         self.files: Dict[Tuple[str, str], Set[str]] = {}
@@ -182,6 +190,15 @@ def edits_of(cells: List[str], has: Sources) -> Tuple[Set[Edit], Set[Edit]]:
     return set(edits_in(tried, crate_of(cells), has.crates)), set(edits_in(more, crate_of(cells), has.crates))
 
 
+def tests_of(cells: List[str]) -> Tuple[Set[str], Set[str]]:
+    """The tests of crates that a row names, and the cases of tests/cases."""
+    tests: Set[str] = set()
+    cases: Set[str] = set()
+    for names, place in NAMED_TESTS.findall(re.sub(r"\([^)]*\)|`[^`]*`", " ", cells[TESTS])):
+        (cases if place == CASES else tests).update(SENTENCE.findall(names))
+    return tests, cases
+
+
 def faults_of_row(cells: List[str], has: Sources) -> Iterator[str]:
     """What a row names that the sources don't have."""
     names = has.crates | has.words
@@ -195,9 +212,11 @@ def faults_of_row(cells: List[str], has: Sources) -> Iterator[str]:
         yield f"{crate} has no edit {edit} in must-fail"
     for crate, edit in sorted(more - has.more_edits):
         yield f"tests/more_edits/{crate} has no edit {edit}"
-    for test in SENTENCE.findall(without_asides(cells[TESTS])):
-        if test not in has.tests | has.crates:
-            yield f"there is no test {test}"
+    tests, cases = tests_of(cells)
+    for test in sorted(tests - has.tests):
+        yield f"there is no test {test}"
+    for case in sorted(cases - has.cases):
+        yield f"tests/cases has no case {case}"
     yield from misplaced(cells[DEFINITIONS], crate_of(cells), True, has)
     if any(it in ("both", "same", "the same", "all") or it.startswith("all ") for it in cells[EDITS : TESTS + 1]):
         yield "edits or tests are not named but counted"
@@ -214,16 +233,18 @@ def differences(root: Path) -> List[str]:
     tried, more = set().union(*(it for it, _ in edits)), set().union(*(it for _, it in edits))
     found += [f"the edit {crate}/{it} is not named" for crate, it in sorted(has.edits - tried)]
     found += [f"the edit {crate}/{it} is not named as tried on demand" for crate, it in sorted(has.more_edits - more)]
-    found += [f"the test {it} is not named" for it in sorted(has.tests - named)]
+    tests = [tests_of(cells) for cells in rows_of(page)]
+    found += [f"the test {it} is not named" for it in sorted(has.tests.difference(*(it for it, _ in tests)))]
+    found += [f"the case {it} is not named" for it in sorted(has.cases.difference(*(it for _, it in tests)))]
     for crate, calls in has.calls.items():
         found += [f"the call {crate}::{it} is not named" for it in sorted(calls - named)]
     return found
 
 
 def make_small_repository(root: Path) -> None:
-    """Makes a repository of two crates and three edits, one of them tried on demand."""
+    """Makes a repository of two crates, three edits, one of them tried on demand, and a case."""
     for folder in ("docs", "crates/c/src", "crates/c/specs", "crates/c/must-fail", "crates/d/specs",
-                   "crates/d/must-fail", "tests/more_edits/c"):
+                   "crates/d/must-fail", "tests/more_edits/c", "tests/cases"):
         (root / folder).mkdir(parents=True)
     (root / "crates/c/src/lib.rt").write_text(
         "pub use adding::f;\npub fn f()\n    ensures done { true }\n{\n}\n#[test]\nfn adds_two() {\n}\n"
@@ -233,13 +254,14 @@ def make_small_repository(root: Path) -> None:
         "use Rattle.c.specs.Sums.{sum}\nmodule _ where\n  abbrev pub twice : N\n  twice = sum\n"
     )
     (root / "crates/d/specs/Others.antt").write_text("abbrev pub other : N\n")
+    (root / "tests/cases/sums.toml").write_text('[[case]]\nname = "one_and_one"\n')
     for edit in ("crates/c/must-fail/wrong_sum", "crates/d/must-fail/wrong_other", "tests/more_edits/c/no_sum"):
         (root / f"{edit}.edit").write_text("")
 
 
 def self_test() -> int:
     """Tests the tool on a small repository. Returns the exit status."""
-    row = "| p | `c::f`: done | `sum` | wrong_sum; in d: wrong_other; on demand: no_sum | adds_two | time |\n"
+    row = "| p | `c::f`: done | `sum` | wrong_sum; in d: wrong_other; on demand: no_sum | one_and_one [cases]; adds_two | time |\n"
     nouns = row + "\n| the noun | its definition |\n|---|---|\n| n | c Sums `sum`; `one` |\n"
     cases = [
         (row, 0),
@@ -249,6 +271,11 @@ def self_test() -> int:
         (row.replace("on demand: no_sum", "no_sum"), 2),
         (row.replace("wrong_sum; in d", "in d").replace("no_sum", "no_sum, wrong_sum"), 2),
         (row.replace("adds_two", "adds_three"), 2),
+        (row.replace("adds_two", "adds_two [d]"), 0),
+        (row.replace("one_and_one", "one_and_two"), 2),
+        (row.replace("one_and_one [cases]", "one_and_one"), 2),
+        (row.replace("; adds_two", ""), 1),
+        (row.replace("[cases]; adds_two", ", adds_two [cases]"), 2),
         (row.replace("done", "gone"), 1),
         (row.replace("`sum`", "`product`"), 1),
         (row.replace("c::f", "c").replace(": done", ""), 5),

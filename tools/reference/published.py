@@ -16,6 +16,8 @@ ROOT = Path(__file__).resolve().parents[2]
 sys.path.insert(0, str(ROOT / "tools"))
 sys.dont_write_bytecode = True
 import reference.definitions as rule  # noqa: E402
+from reference.grid import Tempering  # noqa: E402
+from reference.samples import digest_of_rows, glass_sample, sixteen_temperatures  # noqa: E402
 
 FULL = 2 ** 32
 UP, DOWN, BOARD = (0,) * 6 + (FULL,), (0,) * 7, (FULL,) * 3 + (0,) * 4
@@ -73,30 +75,65 @@ def random_banks():
     return rule.banks_report(banks, 130, 1, False, 2), rule.banks_checkpoint(banks, 2)
 
 
-def sixteen_report():
-    """The report of sixteen temperatures at size 8, all 64 samples one after the other."""
-    plan, every, until = glass(8, 16, 2, 20240611), 10, 20
-    found = {}
-    for b in range(64):
-        s = rule.opening(plan, "random", 0, b)
-        for e in range(until):
-            if rule.is_recorded(every, e):
-                found[e, b] = rule.epoch_records(plan, s)
-            s = rule.epoch(plan, s)
-    text = rule.header_line(plan, 64, 0, until) + rule.rows_in_order(lambda b, f: found[f, b], 64, every, 0, until)
-    return sha256((text + rule.end_line(until)).encode()).hexdigest()
+def damaged_in_a_spin_word():
+    """What the same should end with once the last sample of one of its spin words is changed."""
+    body = bytearray(level_bytes(1)[:-32])
+    body[400] ^= 1
+    return sha256(body).hexdigest()
 
 
-TESTS = "crates/glass_tests/src/"
-BANKS, ALONE = TESTS + "banks.rt", TESTS + "banks_alone.rt"
+def greatest_plan_digest():
+    """That of the smallest plan with the greatest size in place of its own."""
+    return plan_digest(rule.Plan(64, "heat", (DOWN,), (), rule.couplings_view(64, {}), 1, 7))
+
+
+def digest_of_text(text):
+    return sha256(text.encode()).hexdigest()
+
+
+def sixteen_text(first, last, *epochs):
+    """The SHA-256 of a report of the sixteen temperatures from an epoch to another with the rows of some epochs."""
+    rows = "".join(sixteen_temperatures().rows[epoch] for epoch in epochs)
+    return digest_of_text(f"glass 1 size=8 slots=16 samples=64 rule=metropolis from={first} to={last}\n{rows}end,{last}\n")
+
+
+def sixteen_checkpoint(epoch):
+    return rule.encoding(glass(8, 16, 2, 20240611), sixteen_temperatures().states[epoch].__getitem__)[-32:].hex()
+
+
+def rows_alone(size, kind, seed):
+    """The digest of the rows of four samples of a run, each by itself."""
+    samples = (0, 31, 32, 63)
+    return digest_of_rows([glass_sample(size, kind, 2, seed, b) for b in samples], samples, 4, 2)
+
+
+def rows_of_banks(sweeps, samples):
+    """The digest of the rows of the samples below one, over three epochs."""
+    below = range(samples)
+    return digest_of_rows([glass_sample(4, "metropolis", sweeps, 611, b) for b in below], below, 3, 1)
+
+
+def rows_of_second_bank():
+    """The digest of the rows of samples 64 and 127 at sixteen temperatures."""
+    rows, swaps = rule.demo_rows(16)
+    own = [Tempering(8, "metropolis", rows, swaps, 2, 20240611, b, "random", b % 64, 1) for b in (64, 127)]
+    return digest_of_rows(own, (64, 127), 20, 10)
+
+
+CASES = "tests/cases/"
+BANKS, ALONE, RESUMING = CASES + "banks.toml", CASES + "banks_alone.toml", CASES + "resuming.toml"
+SIXTEEN = CASES + "sixteen_temperatures.toml"
 SHORT = {
-    "smallest_plan": (lambda: plan_digest(ferromagnet([DOWN], [])), [TESTS + "check.rt", "crates/run_plan_tests/src/plans.rt"]),
+    "smallest_plan": (lambda: plan_digest(ferromagnet([DOWN], [])),
+                      [CASES + "check.toml", CASES + "couplings.toml", "crates/run_plan_tests/src/plans.rt"]),
     "two_slots_plan": (lambda: plan_digest(ferromagnet([BOARD, UP], [[FULL]])),
-                       ["crates/run_checkpoint_tests/src/known.rt", TESTS + "resuming.rt"]),
-    "other_seed_plan": (lambda: plan_digest(ferromagnet([BOARD, UP], [[FULL]], 8)), [TESTS + "resuming.rt"]),
-    "level_at_1": (lambda: level_digest(1), [TESTS + "resuming.rt", "crates/run_checkpoint_tests/src/known.rt"]),
-    "damaged_at_1": (damaged_digest, [TESTS + "resuming.rt"]),
-    "level_at_2": (lambda: level_digest(2), [TESTS + "resuming.rt", "crates/glass_engine_tests/src/saving.rt"]),
+                       ["crates/run_checkpoint_tests/src/known.rt", RESUMING]),
+    "other_seed_plan": (lambda: plan_digest(ferromagnet([BOARD, UP], [[FULL]], 8)), [RESUMING]),
+    "level_at_1": (lambda: level_digest(1), [RESUMING, CASES + "damage.toml", "crates/run_checkpoint_tests/src/known.rt"]),
+    "damaged_at_1": (damaged_digest, [RESUMING]),
+    "damaged_spins_at_1": (damaged_in_a_spin_word, [CASES + "damage.toml"]),
+    "greatest_plan": (greatest_plan_digest, [CASES + "check.toml"]),
+    "level_at_2": (lambda: level_digest(2), [RESUMING, "crates/glass_engine_tests/src/saving.rt"]),
     "demo_plan": (lambda: plan_digest(glass(16, 8, 4, 1)), ["crates/run_plan_tests/src/demo.rt"]),
     "glass_8_plan": (lambda: plan_digest(glass(8, 16, 2, 20240611)),
                      ["examples/glass_8/README.md", "crates/table_agreement/src/sixteen_temperatures.rt"]),
@@ -106,7 +143,18 @@ SHORT = {
     "three_banks_report": (lambda: sha256(random_banks()[0].encode()).hexdigest(), [ALONE]),
     "three_banks_at_2": (lambda: random_banks()[1][-32:].hex(), [ALONE]),
 }
-LONG = {"sixteen": (sixteen_report, [TESTS + "sixteen_temperatures.rt", "examples/glass_8/README.md"])}
+LONG = {
+    "sixteen": (lambda: sixteen_text(0, 20, 9, 19), [SIXTEEN, "examples/glass_8/README.md"]),
+    "sixteen_to_10": (lambda: sixteen_text(0, 10, 9), [SIXTEEN]),
+    "sixteen_from_10": (lambda: sixteen_text(10, 20, 19), [SIXTEEN]),
+    "sixteen_at_10": (lambda: sixteen_checkpoint(10), [SIXTEEN]),
+    "sixteen_at_20": (lambda: sixteen_checkpoint(20), [SIXTEEN]),
+    "second_bank": (rows_of_second_bank, [ALONE]),
+    "four_banks": (lambda: rows_of_banks(2, 256), [ALONE]),
+    "first_64": (lambda: rows_of_banks(1, 64), [ALONE]),
+    **{f"alone_{size}_{kind}_{seed}": (lambda how=(size, kind, seed): rows_alone(*how), [CASES + "samples_alone.toml"])
+       for size in (4, 6, 8, 16) for kind in ("heat", "metropolis") for seed in range(611, 616)},
+}
 
 
 def stands_in(value, text):

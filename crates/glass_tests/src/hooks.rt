@@ -1,10 +1,6 @@
 //! What the hook of a run sees of its slots and its workers.
 
-use crate::called::call_with_hook;
-use crate::checkpoints::{RULES, two_slots};
-use crate::endings::{ended, holds};
-use crate::files::{RUN, changed, store};
-use crate::report::HOTTER_FIRST;
+use crate::called::{NEVER, RUN, call, holds, store};
 use glass_edges::Gate;
 use std::sync::Wait;
 use std::sync::atomic::{AtomicU64, Ordering};
@@ -26,14 +22,13 @@ impl Gate for Entries {
     }
 }
 
-// Fails where a run of two slots and two epochs prints otherwise, or does not enter its hook once for each slot
-// and epoch.
+// Fails where a run of two slots and two epochs does not enter its hook once for each slot and epoch.
 fn enters_once<R: AllocGlobal + Threads + Wait + Sync>(rt: &R, line: &str) -> Result<(), Fail> {
     let gate = Entries {
         entered: AtomicU64::new(0),
     };
-    let called = call_with_hook(rt, line, &mut two_slots(rt)?, &gate)?;
-    ended(rt, line, &called, 0, HOTTER_FIRST, "")?;
+    let called = call(rt, line, &mut store(rt, RUN, NEVER)?, &gate, NEVER, NEVER)?;
+    holds(line, called.status == 0)?;
     holds(line, gate.entered.load(Ordering::SeqCst) == 0x0303)
 }
 
@@ -43,6 +38,21 @@ fn run_enters_its_hook_once_for_each_slot_and_epoch(rt: HostRuntime) -> Result<(
     enters_once(&rt, "run run.toml --workers 1")?;
     enters_once(&rt, "run run.toml --workers 2")
 }
+
+/// The same run file, of 65 samples and without spins: two banks.
+const RUN_OF_65: &str = "size = 4
+rule = \"heat\"
+rules = \"rules.csv\"
+swaps = \"swaps.csv\"
+couplings = \"plus\"
+sweeps = 1
+seed = 7
+samples = 65
+epochs = 2
+every = 1000
+start = \"up\"
+spins = false
+";
 
 /// A hook whose first entry of two in each of four epochs returns only once the second came, or after so many
 /// looks. It counts the entries in each epoch, and those that the second missed; after one it waits no more.
@@ -88,18 +98,16 @@ fn no_meetings() -> Meetings {
 // many entries in an epoch.
 fn meet_in_every_epoch<R: AllocGlobal + Threads + Wait + Sync>(
     rt: &R,
-    samples: &str,
+    run: &str,
     entries: u64,
 ) -> Result<(), Fail> {
     let gate = no_meetings();
-    let run = changed(rt, RUN, "samples = 1", samples)?;
-    let mut shelf = store(rt, run.as_str(), RULES, "4294967296\n")?;
     let line = "run run.toml --workers 2 --until 4";
-    let called = call_with_hook(rt, line, &mut shelf, &gate)?;
+    let called = call(rt, line, &mut store(rt, run, NEVER)?, &gate, NEVER, NEVER)?;
     holds(line, called.status == 0)?;
-    holds(samples, gate.missed.load(Ordering::SeqCst) == 0)?;
+    holds("missed", gate.missed.load(Ordering::SeqCst) == 0)?;
     for came in &gate.came {
-        holds(samples, came.load(Ordering::SeqCst) == entries)?;
+        holds("entries", came.load(Ordering::SeqCst) == entries)?;
     }
     Ok(())
 }
@@ -107,6 +115,6 @@ fn meet_in_every_epoch<R: AllocGlobal + Threads + Wait + Sync>(
 // One thread can't pass it, nor can a run that leaves an epoch of a bank to one thread.
 #[test]
 fn two_workers_overlap_in_every_epoch(rt: HostRuntime) -> Result<(), Fail> {
-    meet_in_every_epoch(&rt, "samples = 1", 2)?;
-    meet_in_every_epoch(&rt, "samples = 65", 4)
+    meet_in_every_epoch(&rt, RUN, 2)?;
+    meet_in_every_epoch(&rt, RUN_OF_65, 4)
 }
