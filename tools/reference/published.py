@@ -122,24 +122,23 @@ def rows_of_second_bank():
 
 CASES = "tests/cases/"
 BANKS, ALONE, RESUMING = CASES + "banks.toml", CASES + "banks_alone.toml", CASES + "resuming.toml"
-SIXTEEN = CASES + "sixteen_temperatures.toml"
+SIXTEEN, READING = CASES + "sixteen_temperatures.toml", CASES + "reading_checkpoints.toml"
 SHORT = {
     "smallest_plan": (lambda: plan_digest(ferromagnet([DOWN], [])),
-                      [CASES + "check.toml", CASES + "couplings.toml", "crates/run_plan_tests/src/plans.rt"]),
+                      [CASES + "check.toml", CASES + "couplings.toml", CASES + "reading_run_files.toml"]),
     "two_slots_plan": (lambda: plan_digest(ferromagnet([BOARD, UP], [[FULL]])),
-                       ["crates/run_checkpoint_tests/src/known.rt", RESUMING]),
+                       [READING, RESUMING]),
     "other_seed_plan": (lambda: plan_digest(ferromagnet([BOARD, UP], [[FULL]], 8)), [RESUMING]),
-    "level_at_1": (lambda: level_digest(1), [RESUMING, CASES + "damage.toml", "crates/run_checkpoint_tests/src/known.rt"]),
+    "level_at_1": (lambda: level_digest(1), [RESUMING, CASES + "damage.toml", READING]),
     "damaged_at_1": (damaged_digest, [RESUMING]),
     "damaged_spins_at_1": (damaged_in_a_spin_word, [CASES + "damage.toml"]),
     "greatest_plan": (greatest_plan_digest, [CASES + "check.toml"]),
-    "level_at_2": (lambda: level_digest(2), [RESUMING, "crates/glass_engine_tests/src/saving.rt"]),
-    "demo_plan": (lambda: plan_digest(glass(16, 8, 4, 1)), ["crates/run_plan_tests/src/demo.rt"]),
+    "level_at_2": (lambda: level_digest(2), [RESUMING]),
     "glass_8_plan": (lambda: plan_digest(glass(8, 16, 2, 20240611)),
-                     ["examples/glass_8/README.md", "crates/table_agreement/src/sixteen_temperatures.rt"]),
-    "one_slot_plan": (lambda: plan_digest(ferromagnet([UP], [])), ["crates/run_checkpoint_tests/src/known.rt"]),
+                     ["examples/glass_8/README.md", SIXTEEN]),
+    "one_slot_plan": (lambda: plan_digest(ferromagnet([UP], [])), [READING]),
     "two_banks_plan": (lambda: rule.banks_digest([ferromagnet([UP], [])] * 2).hex(), [BANKS]),
-    "two_banks_at_1": (last_bytes_of_65, [BANKS, "crates/glass_engine_tests/src/banks.rt"]),
+    "two_banks_at_1": (last_bytes_of_65, [BANKS, READING]),
     "three_banks_report": (lambda: sha256(random_banks()[0].encode()).hexdigest(), [ALONE]),
     "three_banks_at_2": (lambda: random_banks()[1][-32:].hex(), [ALONE]),
 }
