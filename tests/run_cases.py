@@ -12,7 +12,7 @@ Status: 0 where all passed, 1 where one failed, with a line on the error output 
 import sys
 import tempfile
 from pathlib import Path
-from typing import Any, Dict, Iterator, List
+from typing import Any, Dict, Iterator, List, Set
 
 sys.dont_write_bytecode = True
 from case_calls import call, faults_of, faults_of_sum, files_now, shorter_rooms  # noqa: E402
@@ -27,7 +27,7 @@ Table = Dict[str, Any]
 GIVEN = {"files", "change", "pad", "lost", "folders"}
 EXPECTED = {"status", "out", "begins", "sha256", "rows", "line", "line_begins", "saved"}
 CALLED = {"words", "room", "mute", "each_room"}
-OF_CASE = {"name", "each", "steps", "adds_up"}
+OF_CASE = {"name", "steps", "adds_up"}
 
 
 def joined(case: Table, row: Any) -> Table:
@@ -42,12 +42,13 @@ def joined(case: Table, row: Any) -> Table:
 
 
 def parts_of(table: Table) -> Iterator[Table]:
-    """The cases of a table, one for each row of those that have a list."""
+    """The cases of a table, one for each row of those that have a list. One whose list is empty keeps it, a key that is
+    refused."""
     for case in table["case"]:
-        yield from (joined(case, row) for row in case.get("each", [{}]))
+        yield from [joined(case, row) for row in case.get("each", [{}])] or [case]
 
 
-def known(keys: Table, allowed: set) -> None:
+def known(keys: Table, allowed: Set[str]) -> None:
     """Refuses a key that no case has."""
     if set(keys) - allowed:
         raise WrongTable(f"unknown keys: {', '.join(sorted(set(keys) - allowed))}")
@@ -71,6 +72,8 @@ def faults_of_case(program: str, case: Table, table: Table, folder: Path) -> Ite
     """Runs a case in an empty folder, and yields what is otherwise than expected."""
     named, outputs = table.get("named", {}), []
     known(case, GIVEN | OF_CASE if "steps" in case else GIVEN | OF_CASE | CALLED | EXPECTED)
+    if not case.get("steps", [case]) or "name" not in case:
+        raise WrongTable("a case without steps or a name")
     give({"files": table.get("files", {})}, named, folder)
     give(case, named, folder)
     for step in case.get("steps", [case]):
@@ -87,11 +90,13 @@ def failures(program: str, file: Path) -> Iterator[List[str]]:
     known(table, {"files", "named", "case"})
     for case in parts_of(table):
         with tempfile.TemporaryDirectory(prefix="glass_case_") as folder:
+            found: List[str] = []
             try:
-                found = list(faults_of_case(program, case, table, Path(folder)))
+                for fault in faults_of_case(program, case, table, Path(folder)):
+                    found.append(fault)
             except (WrongTable, OSError, LookupError, ValueError) as wrong:
-                found = [f"{type(wrong).__name__}: {wrong}"]
-        yield [f"{file.stem}: {case['name']}: {it}" for it in found]
+                found.append(f"{type(wrong).__name__}: {wrong}")
+        yield [f"{file.stem}: {case.get('name')}: {it}" for it in found]
 
 
 def run_tables(program: str, files: List[Path]) -> int:

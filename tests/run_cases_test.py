@@ -65,11 +65,12 @@ CASES: List[Tuple[str, List[Tuple[str, str]]]] = [
     ('lost = ["f"]\nfolders = ["g"]\nfiles.h = { times = 2, from = 5, text = "#," }\nwords = "show h"\nout = "5,6,"\n',
      [("from = 5", "from = 4"), ("times = 2", "times = 3")]),
     ('words = "say ab 0"\nout = "ab"\neach = [{}, "say ab 0", { words = "say b 0", out = "b" }]\n',
-     [("say b 0", "say c 0"), ('{}, "say ab 0"', '{}, "say ac 0"'), ("{},", "{ status = 1 },")]),
+     [("say b 0", "say c 0"), ('{}, "say ab 0"', '{}, "say ac 0"'), ("{},", "{ status = 1 },"),
+      ('[{}, "say ab 0", { words = "say b 0", out = "b" }]', "[]")]),
     (f'steps = [{{ words = "say row,1\\\\n 0", out = "row,1\\n" }}, {{ words = "say row,2\\\\n 0", out = "row,2\\n" }}]\n'
      'adds_up = { first = "a\\n", last = "b\\n", sha256 = "d756fb53f37abcca44d8cea0a32c73caa3257d1a7af0666677b76d7cda670d4c" }\n',
      [('first = "a', 'first = "b'), ('out = "row,1', 'out = "row,2'), ("adds_up", "adds"), ('last = "b', 'last = "c')]),
-    ('words = "say ab 0"\nout = "ab"\n', [("out =", "output ="), ("words =", "status ="), ('"ab"', '{ data = "none" }')]),
+    ('words = "say ab 0"\nout = "ab"\n', [('words = "say ab 0"\nout = "ab"', "steps = []"), ("out =", "output ="), ("words =", "status ="), ('"ab"', '{ data = "none" }')]),
 ]
 
 

@@ -55,10 +55,13 @@ def damaged_digest():
     return sha256(body).hexdigest()
 
 
-def last_bytes_of_65():
-    """Those of the checkpoint of 65 samples of one slot after an epoch."""
-    plan = ferromagnet([UP], [])
-    banks = [rule.Bank(plan, lambda b, g=g: rule.opening(plan, "up", g, b)) for g in range(2)]
+def last_bytes_of_65(negative=()):
+    """Those of the checkpoint of 65 samples of one slot after an epoch; all bonds of some samples are negative."""
+    banks = []
+    for g in range(2):
+        signs = rule.of_bank(lambda b: lambda n: b in negative, g)
+        plan = rule.Plan(4, "heat", (UP,), (), rule.couplings_view(4, signs), 1, 7)
+        banks.append(rule.Bank(plan, lambda b, plan=plan, g=g: rule.opening(plan, "up", g, b)))
     return rule.banks_checkpoint(banks, 1)[-32:].hex()
 
 
@@ -139,6 +142,7 @@ SHORT = {
     "one_slot_plan": (lambda: plan_digest(ferromagnet([UP], [])), [READING]),
     "two_banks_plan": (lambda: rule.banks_digest([ferromagnet([UP], [])] * 2).hex(), [BANKS]),
     "two_banks_at_1": (last_bytes_of_65, [BANKS, READING]),
+    "two_banks_of_a_file_at_1": (lambda: last_bytes_of_65((64,)), [BANKS]),
     "three_banks_report": (lambda: sha256(random_banks()[0].encode()).hexdigest(), [ALONE]),
     "three_banks_at_2": (lambda: random_banks()[1][-32:].hex(), [ALONE]),
 }
