@@ -178,7 +178,8 @@ def main(words):
             folder.mkdir()
             case.write(folder)
             whole_run(program, folder, case)
-        stopped_run(program, Path(name) / "Metropolis", cases[1], 4)
+        for takes in (1, 2, 4, 5):
+            stopped_run(program, Path(name) / "Metropolis", cases[1], takes)
         resumed_run(program, Path(name) / "two banks", cases[5], 1)
         for case in cases[3:5]:
             overlaps(program, Path(name) / case.name, case, 2, (0, 3))
