@@ -111,14 +111,20 @@ def exact_thresholds(rule: str, beta: Fraction) -> List[Decimal]:
     return [probability(4 * beta * (satisfied - 3)) for satisfied in (4, 5, 6)]
 
 
+def pair_roundings(tables: Tables, pair: int, betas: Sequence[Fraction], whole: bool = True) -> Iterator[Rounding]:
+    """Those of a pair's record, with the first entry past its end where the whole range of gaps is asked for."""
+    step = 4 * (betas[pair] - betas[pair + 1])
+    for half_gap, entry in tables.entries(pair):
+        if whole or half_gap <= len(tables.swaps[pair]):
+            yield Rounding(abs(entry - probability(half_gap * step)), f"the entry of pair {pair} for the gap {2 * half_gap}")
+
+
 def roundings(tables: Tables, betas: Sequence[Fraction]) -> Iterator[Rounding]:
     for slot, row in enumerate(tables.rows):
         for place, exact in enumerate(exact_thresholds(tables.rule, betas[slot])):
             yield Rounding(abs(row[place] - exact), f"threshold {place} of slot {slot}")
     for pair in range(len(tables.swaps)):
-        step = 4 * (betas[pair] - betas[pair + 1])
-        for half_gap, entry in tables.entries(pair):
-            yield Rounding(abs(entry - probability(half_gap * step)), f"the entry of pair {pair} for the gap {2 * half_gap}")
+        yield from pair_roundings(tables, pair, betas)
 
 
 def greatest_rounding(tables: Tables, betas: Sequence[Fraction]) -> Rounding:
@@ -233,9 +239,11 @@ def first_missing(tables: Tables, pair: int, betas: Sequence[Fraction]) -> Decim
 
 
 def short_records(tables: Tables, betas: Sequence[Fraction]) -> List[str]:
-    """A line where records end before an entry that would be 1 or more, with the one that leaves out the likeliest swap."""
+    """A line where records end before an entry that is more than twice as far off as all that they have, with the one that
+    leaves out the likeliest swap. So a record that was rounded down to its end isn't told."""
     missing = [(first_missing(tables, pair, betas), pair) for pair in range(len(tables.swaps)) if tables.is_short(pair)]
-    short = [it for it in missing if it[0] >= Decimal("0.5")]
+    with localcontext(Context(prec=DIGITS)):
+        short = [it for it in missing if it[0] > 2 * max(pair_roundings(tables, it[1], betas, False)).draws + 1]
     if not short:
         return []
     chance, pair = max(short)

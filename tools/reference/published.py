@@ -31,6 +31,17 @@ def glass(size, slots, sweeps, seed):
     return rule.Plan(size, "metropolis", tuple(rows), tuple(swaps), rule.couplings_view(size, signs), sweeps, seed)
 
 
+def long_glass_8():
+    """The plan of examples/glass_8: its records go on to the greatest gap of size 8, or to their last entry above 0."""
+    plan, swaps = glass(8, 16, 2, 20240611), []
+    for record in plan.swaps:
+        entries = list(record)
+        while len(entries) < 3 * 8 ** 3 // 2 and entries[-1] * record[0] // FULL > 0:
+            entries.append(entries[-1] * record[0] // FULL)
+        swaps.append(tuple(entries))
+    return plan._replace(swaps=tuple(swaps))
+
+
 def plan_digest(plan):
     return sha256(rule.canonical(plan)).hexdigest()
 
@@ -99,7 +110,8 @@ SHORT = {
     "level_at_2": (lambda: level_digest(2), [TESTS + "resuming.rt", "crates/glass_engine_tests/src/saving.rt"]),
     "demo_plan": (lambda: plan_digest(glass(16, 8, 4, 1)), ["crates/run_plan_tests/src/demo.rt"]),
     "glass_8_plan": (lambda: plan_digest(glass(8, 16, 2, 20240611)),
-                     ["examples/glass_8/README.md", "crates/table_agreement/src/sixteen_temperatures.rt"]),
+                     ["crates/table_agreement/src/sixteen_temperatures.rt"]),
+    "long_glass_8_plan": (lambda: plan_digest(long_glass_8()), ["examples/glass_8/README.md"]),
     "one_slot_plan": (lambda: plan_digest(ferromagnet([UP], [])), ["crates/run_checkpoint_tests/src/known.rt"]),
     "two_banks_plan": (lambda: rule.banks_digest([ferromagnet([UP], [])] * 2).hex(), [BANKS]),
     "two_banks_at_1": (last_bytes_of_65, [BANKS, "crates/glass_engine_tests/src/banks.rt"]),
