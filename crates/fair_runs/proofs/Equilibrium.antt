@@ -21,7 +21,6 @@ use Rattle.run_decisions.proofs.Epochs.{slot-below}
 use Rattle.run_decisions.proofs.Lawful.{run-lawful, measured-lawful}
 use Rattle.model_laws.specs.Weights.{weight}
 use Rattle.model_laws.specs.Energies.{turned}
-use Rattle.model_laws.specs.Balance as Balance
 use Rattle.model_laws.specs.Balance.{turns, turning_draws, weight_of, more_satisfied}
 use Rattle.model_laws.specs.ExchangeBalance.{pair_weight, half_difference}
 use Rattle.model_laws.specs.Stationary.{AreThresholds}
@@ -36,7 +35,7 @@ use Rattle.fair_runs.proofs.Decided.{UpdatesFairly, update-fair, ExchangesFairly
 
 near-by-rule : (rule : Rule) (r a b : ℕ) (d : Dynamics) (spins : List Bool) (i : ℕ) → d.rule ≡ rule → IsLawfulSize d.size → length spins ≡ volume d.size → i < volume d.size
     → AreThresholds r a b rule d.thresholds
-    → Balance.AreNear (r * (weight_of a b d spins + weight_of a b d (turned spins i))) (turning_draws d spins i * weight_of a b d spins) (turning_draws d (turned spins i) i * weight_of a b d (turned spins i))
+    → AreNear (r * (weight_of a b d spins + weight_of a b d (turned spins i))) (turning_draws d spins i * weight_of a b d spins) (turning_draws d (turned spins i) i * weight_of a b d (turned spins i))
 near-by-rule HeatBath r a b d spins i rule lawful sized within belong =
     heat-balances r a b d spins i rule lawful sized within (belong (aligned d.size d.bonds spins i) (aligned-few d spins i))
 near-by-rule Metropolis r a b d spins i rule lawful sized within belong =
@@ -52,7 +51,7 @@ unfolding passing sum_to count_below
 passing-counts p zero = refl
 passing-counts p (suc n) = let before = passing-counts p n in omega arith
 
-as-near : (r x y t s w v : ℕ) → x ≡ t → y ≡ s → Balance.AreNear r (t * w) (s * v) → AreNear r (x * w) (y * v)
+as-near : (r x y t s w v : ℕ) → x ≡ t → y ≡ s → AreNear r (t * w) (s * v) → AreNear r (x * w) (y * v)
 as-near r x y t s w v one other near = rw (one, other) (record { above = near.above; below = near.below })
 
 -- ---- the decisions of a plan

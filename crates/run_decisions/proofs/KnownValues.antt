@@ -1,10 +1,10 @@
 -- Values that were worked out with pencil and paper, so that a wrong definition of the words does not check.
-use Rattle.std.proofs.Common.{◌≡◌, ℕ, ◌+◌, Bool, true, false, List, [], ◌∷◌, length, refl}
-use Rattle.std.specs.Prelude.{take, drop, replicate, map, slice_index}
+use Rattle.std.proofs.Common.{◌≡◌, true, false, [], ◌∷◌, length, refl}
+use Rattle.std.specs.Prelude.{take, drop, map}
 use Rattle.spin_model.specs.Steps.{count_below, table}
 use Rattle.threshold_table.specs.declared.rule_table.RuleKind.TheVariants as kinds
 use Rattle.scalar_rule.specs.Plan.{Plan}
-use Rattle.run_decisions.specs.Decisions.{Update, Exchange, SweepGenerator, ExchangeGenerator, address_of, decide, slot_of, places_of, turns_of, exchanges, epoch_decisions, run_decisions, measured_decisions, label_of}
+use Rattle.run_decisions.specs.Decisions.{Update, Exchange, SweepGenerator, ExchangeGenerator, address_of, slot_of, places_of, turns_of, exchanges, epoch_decisions, run_decisions, measured_decisions, label_of}
 
 -- size 4, three slots, two sweeps; an entry of 5 for the gap 6 of the first pair and of 9 for that of the second
 abbrev plan : Plan
