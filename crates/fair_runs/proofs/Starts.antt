@@ -19,8 +19,7 @@ use Rattle.run_decisions.specs.Decisions.{Decision, IsDecisionOf, slot_of, place
 use Rattle.run_decisions.proofs.Epochs.{slot-below}
 use Rattle.model_laws.specs.Weights.{weight}
 use Rattle.model_laws.specs.Energies.{turned}
-use Rattle.model_laws.specs.Balance.{turns, turning_draws, keeping_draws, updated_by}
-use Rattle.model_laws.specs.Balance as Balance
+use Rattle.model_laws.specs.Balance.{IsMetropolisThreshold, turns, turning_draws, keeping_draws, updated_by}
 use Rattle.model_laws.specs.Stationary.{AreThresholds}
 use Rattle.model_laws.proofs.Balancing.{update-turns}
 use Rattle.fair_runs.specs.Equilibrium.{over_configurations, over_states, product_to, BelongTo, boltzmann, partition, total}
@@ -119,7 +118,7 @@ grid-exact j few k many small = at k many small
     small_powers : (j * j ≤ 1048576) × (j * j * j ≤ 1073741824)
     small_powers = cube-small j few
 
-    at : (k : ℕ) → 4 ≤ k → k ≤ 6 → Balance.IsMetropolisThreshold 0 j 1024 (j * 2 ^ 22 ∷ j * j * 2 ^ 12 ∷ j * j * j * 2 ^ 2 ∷ []) k
+    at : (k : ℕ) → 4 ≤ k → k ≤ 6 → IsMetropolisThreshold 0 j 1024 (j * 2 ^ 22 ∷ j * j * 2 ^ 12 ∷ j * j * j * 2 ^ 2 ∷ []) k
     at zero many small = absurd (omega arith)
     at (suc zero) many small = absurd (omega arith)
     at (suc (suc zero)) many small = absurd (omega arith)
