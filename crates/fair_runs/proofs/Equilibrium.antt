@@ -21,7 +21,7 @@ use Rattle.run_decisions.proofs.Epochs.{slot-below}
 use Rattle.run_decisions.proofs.Lawful.{run-lawful, measured-lawful}
 use Rattle.model_laws.specs.Weights.{weight}
 use Rattle.model_laws.specs.Energies.{turned}
-use Rattle.model_laws.specs.Balance.{turns, turning_draws, weight_of, more_satisfied}
+use Rattle.model_laws.specs.Balance.{turns, turning_draws, weight_of}
 use Rattle.model_laws.specs.ExchangeBalance.{pair_weight, half_difference}
 use Rattle.model_laws.specs.Stationary.{AreThresholds}
 use Rattle.model_laws.proofs.Reached.{aligned-few}

@@ -1,8 +1,8 @@
 -- Values that were worked out with pencil and paper, so that a wrong definition of the words does not check.
-use Rattle.std.proofs.Common.{◌≡◌, ℕ, ◌+◌, ◌*◌, ◌^◌, Bool, true, false, not, List, [], ◌∷◌, length, refl}
+use Rattle.std.proofs.Common.{◌≡◌, ◌+◌, ◌*◌, ◌^◌, true, false, not, [], ◌∷◌, refl}
 use Rattle.std.specs.Prelude.{map, take, count_by}
 use Rattle.spin_model.specs.Steps.{table}
-use Rattle.finite_chance.specs.Sums.{sum_to, sum_lists}
+use Rattle.finite_chance.specs.Sums.{sum_lists}
 use Rattle.fair_runs.specs.Equilibrium.{over_configurations, product_to, state_weight}
 use Rattle.fair_runs.specs.Trapped.{layer, layered, layered_opposite}
 

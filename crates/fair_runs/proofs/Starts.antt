@@ -19,7 +19,7 @@ use Rattle.run_decisions.specs.Decisions.{Decision, IsDecisionOf, slot_of, place
 use Rattle.run_decisions.proofs.Epochs.{slot-below}
 use Rattle.model_laws.specs.Weights.{weight}
 use Rattle.model_laws.specs.Energies.{turned}
-use Rattle.model_laws.specs.Balance.{IsMetropolisThreshold, turns, turning_draws, keeping_draws, updated_by}
+use Rattle.model_laws.specs.Balance.{IsMetropolisThreshold, turns, updated_by}
 use Rattle.model_laws.specs.Stationary.{AreThresholds}
 use Rattle.model_laws.proofs.Balancing.{update-turns}
 use Rattle.fair_runs.specs.Equilibrium.{over_configurations, over_states, product_to, BelongTo, boltzmann, partition, total}
