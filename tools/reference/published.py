@@ -33,6 +33,17 @@ def glass(size, slots, sweeps, seed):
     return rule.Plan(size, "metropolis", tuple(rows), tuple(swaps), rule.couplings_view(size, signs), sweeps, seed)
 
 
+def long_glass_8():
+    """The plan of examples/glass_8: its records go on to the greatest gap of size 8, or to their last entry above 0."""
+    plan, swaps = glass(8, 16, 2, 20240611), []
+    for record in plan.swaps:
+        entries = list(record)
+        while len(entries) < 3 * 8 ** 3 // 2 and entries[-1] * record[0] // FULL > 0:
+            entries.append(entries[-1] * record[0] // FULL)
+        swaps.append(tuple(entries))
+    return plan._replace(swaps=tuple(swaps))
+
+
 def plan_digest(plan):
     return sha256(rule.canonical(plan)).hexdigest()
 
@@ -138,7 +149,8 @@ SHORT = {
     "greatest_plan": (greatest_plan_digest, [CASES + "check.toml"]),
     "level_at_2": (lambda: level_digest(2), [RESUMING]),
     "glass_8_plan": (lambda: plan_digest(glass(8, 16, 2, 20240611)),
-                     ["examples/glass_8/README.md", SIXTEEN]),
+                     [SIXTEEN]),
+    "long_glass_8_plan": (lambda: plan_digest(long_glass_8()), ["examples/glass_8/README.md"]),
     "one_slot_plan": (lambda: plan_digest(ferromagnet([UP], [])), [READING]),
     "two_banks_plan": (lambda: rule.banks_digest([ferromagnet([UP], [])] * 2).hex(), [BANKS]),
     "two_banks_at_1": (last_bytes_of_65, [BANKS, READING]),
