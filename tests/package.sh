@@ -94,7 +94,8 @@ else
     echo "package: fakeroot is missing, so nothing was installed by dpkg"
 fi
 
-mkdir "$place/elsewhere" && tar -C "$place/elsewhere" -xf "$archive" || fail "tar"
+mkdir "$place/elsewhere" || exit 1
+tar -C "$place/elsewhere" -xf "$archive" || fail "tar"
 at=$(echo "$place"/elsewhere/glass-*)
 use "$at"
 # Which of the two programs is started, also through a link.

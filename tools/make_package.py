@@ -155,7 +155,8 @@ def write_debian(stage: Path, into: Path, version: str, glibc: str) -> Path:
     # As dpkg-gencontrol counts: whole kibibytes of each file, and one for each folder and link.
     size = sum(1 if path.is_symlink() else -(-path.stat().st_size // 1024) for path in files)
     size += sum(1 for path in stage.rglob("*") if path.is_dir() and not path.is_symlink())
-    (control / "control").write_text(CONTROL.format(version=version, maintainer=MAINTAINER, size=size, glibc=glibc), encoding="utf-8")
+    text = CONTROL.format(version=version, maintainer=MAINTAINER, size=size, glibc=glibc)
+    (control / "control").write_text(text, encoding="utf-8")
     sums = (f"{run(['md5sum', str(path)]).split()[0]}  {path.relative_to(stage)}\n" for path in files if not path.is_symlink())
     (control / "md5sums").write_text("".join(sums), encoding="utf-8")
     made = into / f"glass_{version}_amd64.deb"
