@@ -16,6 +16,7 @@ Status: 0 where both are made, 2 for a wrong word or what can't be packed, with 
 import argparse
 import gzip
 import os
+import re
 import shutil
 import subprocess
 import sys
@@ -97,11 +98,21 @@ def escaped(text: str) -> str:
     return "\n".join("\\&" + line if line[:1] in (".", "'") else line for line in lines)
 
 
+def installed(text: str, names: List[str]) -> str:
+    """A tool's own text, with the tools as they are called once they are installed."""
+    for name in names:
+        module = name.partition("-")[2].replace("-", "_")
+        text = re.sub(rf"(?:python3 )?tools/{module}\.py", name, text)
+        text = re.sub(rf"^usage: {module}\b", f"usage: {name}", text)
+    return text
+
+
 def write_pages(stage: Path, day: str) -> None:
     """A manual page for each tool, of what it says itself; all pages packed."""
     manual = stage / "usr/share/man/man1"
-    for tool in sorted((stage / "usr/bin").glob("glass-*")):
-        text = run([str(tool), "--help"], env={**os.environ, "COLUMNS": "80"})
+    tools = sorted((stage / "usr/bin").glob("glass-*"))
+    for tool in tools:
+        text = installed(run([str(tool), "--help"], env={**os.environ, "COLUMNS": "80"}), [tool.name for tool in tools])
         about = next(part for part in text.split("\n\n") if not part.startswith("usage:"))
         sentence = " ".join(about.split()).partition(". ")[0].rstrip(".").replace("`", "")
         page = PAGE.format(title=tool.name.upper(), day=day, name=escaped(tool.name),
