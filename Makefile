@@ -33,7 +33,7 @@ REFERENCE := $(wildcard tools/reference/*.py)
 PACKAGE := $(wildcard tools/glass_analysis/*.py)
 # What studies leave beside the examples is nobody else's.
 EXAMPLES := $(shell find examples -type f ! -path '*/seed_*' ! -name 'report*' ! -name 'tw_*' ! -name aging.png ! -name '*.pyc')
-PAGES := README.md CHANGELOG.md $(shell find docs -type f ! -name glass.1)
+PAGES := README.md CHANGELOG.md CITATION.cff $(shell find docs -type f ! -name glass.1)
 
 .PHONY: all run prove try dist install uninstall package clean always
 all: glass

@@ -1,0 +1,234 @@
+#!/usr/bin/env python3
+"""Makes the tables of bench/README.md from the measurements in bench/results, and tells how a figure went over time.
+
+    python3 bench/tables.py --write             the page gets its tables
+    python3 bench/tables.py --check             the page has them, else status 1
+    python3 bench/tables.py --show NAME         a file of bench/results as a table, the latest measurements alone
+    python3 bench/tables.py --trend NAME        all measurements of the file, case by case in the order of their days
+    python3 bench/tables.py --self-test         the tests of this tool
+
+Each file of bench/results begins with the columns machine, commit, date (YYYY-MM-DD), load and turns; what is measured has
+its unit as the end of its name (min, s, ms, us, ns, ps, mb, kb, percent) or is a ratio, and all other columns say of what it is.
+The commit is the one whose page had the figure first; the program is that of this commit or of one just before.
+
+Status: 0; 1 where --check finds a table that differs; 2 for a wrong word or file, with a line."""
+import argparse
+import csv
+import re
+import sys
+from pathlib import Path
+from typing import Callable, Dict, Iterable, List, NamedTuple, Optional, Sequence, Tuple
+
+HERE = Path(__file__).resolve().parent
+sys.path.insert(0, str(HERE.parent / "tools"))
+from exit_status import status_of  # noqa: E402
+from make_tables import Checks, OneLineParser, Refusal  # noqa: E402
+
+HEAD = ["machine", "commit", "date", "load", "turns"]
+UNITS = ("min", "s", "ms", "us", "ns", "ps", "mb", "kb", "percent")
+RATIOS = ("ratio", "times", "four_runs_times", "two_workers", "four_workers", "eight_workers", "two_pieces", "four_pieces")
+MARK = re.compile(r"(<!-- table (\w+) -->\n)(.*?)(<!-- end -->)", re.DOTALL)
+Row = Dict[str, str]
+
+
+def is_measured(column: str) -> bool:
+    """Whether a column has what was measured; else it says of what."""
+    return column in RATIOS or column.rpartition("_")[2] in UNITS or column.startswith(("ms_", "mb_"))
+
+
+def read_results(name: str, folder: Path = HERE / "results") -> List[Row]:
+    """The rows of a file of results; refuses one that is no such file."""
+    path = folder / f"{name}.csv"
+    if not path.is_file():
+        raise Refusal(f"{name} is none of {', '.join(sorted(file.stem for file in folder.glob('*.csv')))}")
+    with open(path, newline="", encoding="utf-8") as text:
+        reader = csv.DictReader(text)
+        if list(reader.fieldnames or [])[: len(HEAD)] != HEAD:
+            raise Refusal(f"{path.name} does not begin with the columns {', '.join(HEAD)}")
+        rows = list(reader)
+    for number, row in enumerate(rows, 2):
+        if None in row or None in row.values():
+            raise Refusal(f"{path.name} line {number} has another number of fields than the first line")
+    return rows
+
+
+def case_of(row: Row) -> Tuple[str, ...]:
+    """What a row is a measurement of."""
+    return tuple(value for column, value in row.items() if column not in HEAD and not is_measured(column))
+
+
+def latest(rows: Sequence[Row]) -> List[Row]:
+    """Of each case the rows of its last day."""
+    days: Dict[Tuple[str, ...], str] = {}
+    for row in rows:
+        days[case_of(row)] = max(days.get(case_of(row), ""), row["date"])
+    return [row for row in rows if row["date"] == days[case_of(row)]]
+
+
+# ---------------------------------------------------------------- tables of the page
+
+
+def ratio(ours: str, theirs: str, digits: int) -> Callable[[Row], str]:
+    """A cell with a time of ours and how many times the other program's it is."""
+
+    def cell(row: Row) -> str:
+        if not row[ours]:
+            return ""
+        return f"{float(row[ours]):.{digits}f} · {float(row[ours]) / float(row[theirs]):.2f}"
+
+    return cell
+
+
+class Table(NamedTuple):
+    """A table of the page: a file's latest rows that have the values `only`, with `keys` as the first columns, the values
+    of `across` as the others, and what `cell` says of each."""
+
+    file: str
+    keys: Tuple[str, ...]
+    across: str
+    cell: Callable[[Row], str]
+    only: Tuple[Tuple[str, str], ...] = ()
+
+
+TABLES = {
+    "whole_runs": Table("whole_runs", ("processor", "rule", "sweeps"), "size", ratio("glass_ms", "cpp_ms", 0)),
+    "workers": Table("workers", ("sweeps",), "size", lambda row: row["times"]),
+    "workers_bound": Table("workers", ("sweeps",), "size", lambda row: row["four_runs_times"]),
+    "packed_sweep": Table("packed_sweep", ("processor", "rule"), "size", ratio("glass_ps", "c_ps", 1)),
+    "packed_sums": Table("packed_sums", ("function",), "size", ratio("glass_ns", "c_ns", 0), (("processor", "x86-64-v3"),)),
+    "potts": Table("potts", ("processor",), "size", ratio("glass_ps", "c_ps", 0)),
+    "banks": Table("banks", ("processor",), "size", ratio("ms_256", "ms_64", 0)),
+}
+
+
+def in_order(values: Iterable[str]) -> List[str]:
+    """Values once each, in the order in which they come."""
+    return list(dict.fromkeys(values))
+
+
+def lines_of(header: Sequence[str], rows: Iterable[Sequence[str]]) -> str:
+    """A table of the page's markup."""
+    lines = [header, ["---"] * len(header), *rows]
+    return "".join(f"| {' | '.join(line)} |\n" for line in lines)
+
+
+def page_table(table: Table, rows: Sequence[Row]) -> str:
+    """A table of the page, of all rows of its file."""
+    chosen = latest([row for row in rows if all(row[column] == value for column, value in table.only)])
+    columns = in_order(row[table.across] for row in chosen)
+    body = []
+    for key in in_order(tuple(row[column] for column in table.keys) for row in chosen):
+        cells = [[table.cell(row) for row in chosen if tuple(row[name] for name in table.keys) == key
+                  and row[table.across] == column] for column in columns]
+        body.append([*key, *(", ".join(filter(None, cell)) for cell in cells)])
+    return lines_of([*table.keys, *(f"{table.across} {column}" for column in columns)], body)
+
+
+def with_tables(page: str) -> str:
+    """The page with each marked table as it is made; refuses a mark that is none of ours."""
+
+    def made(found: "re.Match[str]") -> str:
+        name = found.group(2)
+        if name not in TABLES:
+            raise Refusal(f"{name} is no table of the page")
+        return found.group(1) + page_table(TABLES[name], read_results(TABLES[name].file)) + found.group(4)
+
+    missing = set(TABLES) - {name for _, name, _, _ in MARK.findall(page)}
+    if missing:
+        raise Refusal(f"the page has no place for {', '.join(sorted(missing))}")
+    return MARK.sub(made, page)
+
+
+# ---------------------------------------------------------------- what was measured, as text
+
+
+def show(rows: Sequence[Row]) -> str:
+    return lines_of(list(rows[0]), (list(row.values()) for row in latest(rows)))
+
+
+def trend(rows: Sequence[Row]) -> str:
+    """Each case and what was measured of it, in the order of days; the quotient is that of the last and the first
+    measurement of one machine, and "-" where there is one alone."""
+    measured = [column for column in rows[0] if is_measured(column)]
+    said = [column for column in rows[0] if column not in HEAD and column not in measured]
+    body = []
+    for case in in_order(case_of(row) for row in rows):
+        of_case = sorted((row for row in rows if case_of(row) == case), key=lambda row: row["date"])
+        for row in of_case:
+            first = next(other for other in of_case if other["machine"] == row["machine"])
+            body.append([*case, row["date"], row["machine"], row["commit"], *(row[name] or "-" for name in measured),
+                         quotient(row, first, measured[0])])
+    return lines_of([*said, "date", "machine", "commit", *measured, "of the first"], body)
+
+
+def quotient(row: Row, first: Row, column: str) -> str:
+    """How many times the first measurement of its machine a row's is, by its first measured column."""
+    if row is first or not row[column] or not first[column]:
+        return "-"
+    return f"{float(row[column]) / float(first[column]):.2f}"
+
+
+# ---------------------------------------------------------------- tests and words
+
+
+def refusal(work: Callable[[], object]) -> str:
+    """What a piece of work is refused with, or nothing."""
+    try:
+        work()
+    except Refusal as fault:
+        return str(fault)
+    return ""
+
+
+def self_test() -> int:
+    checks = Checks("tables")
+    head = dict(commit="c", load="quiet", turns="1")
+    rows = [dict(machine="A", date="2026-11-27", **head, size="8", glass_ms="20", cpp_ms="10"),
+            dict(machine="B", date="2026-11-29", **head, size="8", glass_ms="12", cpp_ms="16"),
+            dict(machine="A", date="2026-11-28", **head, size="8", glass_ms="15", cpp_ms="10"),
+            dict(machine="A", date="2026-11-28", **head, size="16", glass_ms="30", cpp_ms="40")]
+    checks.same("the last day of each case", [row["glass_ms"] for row in latest(rows)], ["12", "30"])
+    table = Table("f", ("load",), "size", ratio("glass_ms", "cpp_ms", 0))
+    wanted = "| load | size 8 | size 16 |\n| --- | --- | --- |\n| quiet | 12 · 0.75 | 30 · 0.75 |\n"
+    checks.same("a table of the page", page_table(table, rows), wanted)
+    last = [line.rpartition(" | ")[2] for line in trend(rows).splitlines()[2:]]
+    checks.same("of the first of its machine", last, ["- |", "0.75 |", "- |", "- |"])
+    for column, wanted_answer in (("glass_ms", True), ("size", False), ("ratio", True), ("what", False), ("mb_64", True)):
+        checks.same(f"{column} is measured", is_measured(column), wanted_answer)
+    for file in sorted((HERE / "results").glob("*.csv")):
+        checks.same(f"{file.name} is read", bool(read_results(file.stem)), True)
+    checks.same("a name that is no file", refusal(lambda: read_results("no_such_file"))[:23], "no_such_file is none of")
+    checks.same("a page without its marks", refusal(lambda: with_tables("text"))[:25], "the page has no place for")
+    return checks.end()
+
+
+def write_or_check(is_check: bool) -> int:
+    page = HERE / "README.md"
+    text = page.read_text(encoding="utf-8")
+    made = with_tables(text)
+    if is_check and made != text:
+        print("bench/README.md: its tables are not those of bench/results; bench/tables.py --write makes them", file=sys.stderr)
+        return 1
+    if not is_check:
+        page.write_text(made, encoding="utf-8")
+    return 0
+
+
+def main(words: Optional[Sequence[str]] = None) -> int:
+    parser = OneLineParser(prog="tables", description=__doc__, formatter_class=argparse.RawDescriptionHelpFormatter)
+    asked = parser.add_mutually_exclusive_group(required=True)
+    for flag in ("--write", "--check", "--self-test"):
+        asked.add_argument(flag, action="store_true")
+    asked.add_argument("--show", metavar="NAME")
+    asked.add_argument("--trend", metavar="NAME")
+    said = parser.parse_args(words)
+    if said.self_test:
+        return self_test()
+    if said.show or said.trend:
+        print((show if said.show else trend)(read_results(said.show or said.trend)), end="")
+        return 0
+    return write_or_check(said.check)
+
+
+if __name__ == "__main__":
+    sys.exit(status_of("tables", main))
