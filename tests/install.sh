@@ -20,7 +20,9 @@ fail() {
 make -s install DESTDIR="$place/stage" PREFIX=/opt/glass PROGRAM="$program" || fail "make install"
 at=$place/stage/opt/glass
 cmp "$program" "$at/bin/glass" || fail "the program is another"
-[ -f "$at/share/man/man1/glass.1" ] || fail "there is no manual page"
+for file in man/man1/glass.1 bash-completion/completions/glass doc/glass/docs/manual/tutorial.md doc/glass/examples/ising_4/study; do
+    [ -f "$at/share/$file" ] || fail "there is no $file"
+done
 # The variables of whoever tests are none of an installed tool's.
 unset GLASS PYTHONDONTWRITEBYTECODE
 for tool in "$at"/bin/glass-*; do

@@ -41,7 +41,9 @@ fi
 # Uses what lies below the prefix $1.
 use() {
     local at=$1 tool
-    "$program" demo 1 > "$place/demo" && "$at/bin/glass" demo 1 | cmp - "$place/demo" || fail "$at/bin/glass demo 1"
+    # A spin turns against its neighbours surely: checkerboard order, in which all 192 bonds are unsatisfied.
+    "$at/bin/glass" plain 4 1 7 4294967296 4294967296 4294967296 0 0 0 0 >"$place/said" || fail "$at/bin/glass plain"
+    grep -qx 'energy,192' "$place/said" || fail "$at/bin/glass plain told something else: $(cat "$place/said")"
     "$at/bin/glass" no command 2>"$place/said"
     [ $? = 2 ] || fail "the status of $at/bin/glass is not the program's"
     for tool in "$at"/bin/glass-*; do
@@ -92,7 +94,8 @@ else
     echo "package: fakeroot is missing, so nothing was installed by dpkg"
 fi
 
-mkdir "$place/elsewhere" && tar -C "$place/elsewhere" -xf "$archive" || fail "tar"
+mkdir "$place/elsewhere" || exit 1
+tar -C "$place/elsewhere" -xf "$archive" || fail "tar"
 at=$(echo "$place"/elsewhere/glass-*)
 use "$at"
 # Which of the two programs is started, also through a link.

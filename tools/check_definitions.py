@@ -1,6 +1,7 @@
 #!/usr/bin/env python3
-"""Holds the independent program in tools/reference to the definitions: each definition that the main theorem stands on
-has its counterpart of the same name, in the module that the table below names beside its file.
+"""Holds the independent program in tools/reference to the definitions: each definition that the main theorem stands on,
+and of those of runs as decisions, has its counterpart of the same name, in the module that the table below names beside
+its file.
 
 --self-test runs the tests of this tool.
 
@@ -27,6 +28,9 @@ PATHS = {
     "run_checkpoint/specs/UnevenEncoding": "checkpoint", "glass_engine/specs/Report": "report",
     "report_text/specs/Lines": "report", "run_checkpoint/specs/Lengths": "checkpoint",
     "glass_engine/specs/Banks": "banks", "run_checkpoint/specs/BankEncoding": "banks",
+    "finite_chance/specs/Sums": "chance", "finite_chance/specs/Chains": "chance",
+    "run_decisions/specs/Decisions": "decisions",
+    "fair_runs/specs/Equilibrium": "fair",
 }
 # Definitions that the independent program writes otherwise, or that no run asks for.
 OTHERWISE = {
@@ -52,7 +56,7 @@ DEFINED = re.compile(r"^(?:abbrev |unfoldable )?pub (?:record |data )?([A-Za-z_]
 def defined_in(specs: str) -> List[str]:
     """The public definitions of a file, without the conditions: these are words that begin with a verb."""
     names = list(dict.fromkeys(DEFINED.findall(specs)))
-    return [it for it in names if not re.match(r"(?:Is|Are|Has|Have|Keeps|Fits)[A-Z]", it)]
+    return [it for it in names if not re.match(r"(?:Is|Are|Has|Have|Keeps|Fits|Belong)[A-Z]", it)]
 
 
 def written_in(code: str) -> Set[str]:

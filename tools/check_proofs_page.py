@@ -21,7 +21,7 @@ import source_check
 
 PAGE = "docs/proofs.md"
 # Crates whose calls nobody outside calls.
-WITHOUT_ROWS = re.compile(r"bench_\w+|glass|\w+_tests|table_agreement")
+WITHOUT_ROWS = re.compile(r"bench_\w+|glass|\w+_tests")
 WORD = re.compile(r"[A-Za-z_][A-Za-z0-9_]*")
 # Names of edits and tests are sentences: they have an underscore.
 SENTENCE = re.compile(r"[a-z0-9]+(?:_[a-z0-9]+)+")

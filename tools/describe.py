@@ -4,7 +4,7 @@
     python3 tools/describe.py checkpoint report.txt disorder.couplings run.toml seed-0001
 
 It knows checkpoints of all three kinds, couplings files, reports, what `glass average` prints, run files, and
-the folders of tools/long_run.py. Lengths and digests are computed, each line of a report is looked at, and of a
+the folders of tools/long_run.py. Of a run file it tells how near the tables beside it are to temperatures. Lengths and digests are computed, each line of a report is looked at, and of a
 folder each part is compared with its record and the report with the one that the parts make.
 
 Status 0 where all are whole, 1 where one is damaged or unknown, 2 for wrong words or what can't be read, 9 where the
@@ -32,6 +32,7 @@ from jackknife import SumsFile  # noqa: E402
 from long_run_folder import Fault, RunFolder, digest_of, read_keys  # noqa: E402
 from long_run_report import check_reports, write_joined  # noqa: E402
 from make_tables import Checks, OneLineParser, Refusal, outcome  # noqa: E402
+from table_rounding import tables_of, told  # noqa: E402
 
 DIGEST_BYTES = 32
 LINE = "  "
@@ -142,9 +143,19 @@ def averages(path: Path) -> List[str]:
             f"rows {read.rows}"]
 
 
+def table_facts(path: Path) -> List[str]:
+    """How near the tables beside a run file are to temperatures, and what follows for the run."""
+    try:
+        facts, warnings = told(tables_of(path))
+    except Refusal as refusal:
+        return [f"its tables aren't looked at: {refusal}"]
+    return facts + [f"warning: {warning}" for warning in warnings]
+
+
 def run_file(path: Path) -> List[str]:
     keys = read_keys(path)
-    return ["run file (glass check judges it)", ", ".join(f"{key} {json.dumps(value)}" for key, value in keys.items())]
+    return ["run file (glass check judges it)", ", ".join(f"{key} {json.dumps(value)}" for key, value in keys.items()),
+            *table_facts(path)]
 
 
 def run_folder(path: Path) -> List[str]:

@@ -100,12 +100,18 @@ def read_manifest(top: Path = TOP) -> Dict:
 
 
 def write_manifest(kit: str, commit: str, top: Path = TOP) -> None:
-    """Says of the programs in dist/ that they were built of the tree's sources."""
+    """Says of the programs in dist/ that they were built of the tree's sources. Where it said so before of an earlier
+    commit, that stays, so that who makes the same bytes again changes nothing."""
     programs = {processor: file_of(processor, top).read_bytes() for processor in PROCESSORS}
     manifest = {"commit": commit, "glibc": max(map(oldest_glibc, programs.values()), key=numbers), "kit": kit,
                 "programs": {processor: sum_of(data) for processor, data in programs.items()},
                 "sources": sum_of(sources(top).encode())}
-    (top / FOLDER / MANIFEST).write_text(json.dumps(manifest, indent=2) + "\n", encoding="utf-8")
+    try:
+        before = read_manifest(top)
+    except NotTaken:
+        before = {}
+    if {**before, "commit": commit} != manifest:
+        (top / FOLDER / MANIFEST).write_text(json.dumps(manifest, indent=2) + "\n", encoding="utf-8")
 
 
 def clean_commit(top: Path = TOP) -> str:

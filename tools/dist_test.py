@@ -49,6 +49,16 @@ def why_not(change: Callable[[Path], object]) -> Optional[str]:
         return None if found == WANTS + dist.WIDE.encode() else "other bytes"
 
 
+def commit_after(change: Callable[[Path], object]) -> str:
+    """The commit that the manifest names after a change and a second making."""
+    with tempfile.TemporaryDirectory() as folder:
+        top = Path(folder)
+        tree(top)
+        change(top)
+        dist.write_manifest("a kit", "another commit", top)
+        return dist.read_manifest(top)["commit"]
+
+
 def written(path: str, text: str) -> Callable[[Path], object]:
     """A change: a file gets this text."""
     def change(top: Path) -> None:
@@ -102,6 +112,9 @@ def test_manifest(checks: Checks) -> None:
                 "the SHA-256 of dist/glass-x86-64-v3 is not that of its manifest")
     checks.same("no file", why_not(lambda top: dist.file_of(dist.WIDE, top).unlink()),
                 "dist/glass-x86-64-v3 can't be read: No such file or directory")
+    checks.same("made again at another commit", commit_after(lambda top: None), "0123456789abcdef")
+    checks.same("made again of other sources", commit_after(written("crates/low/src/kept.rt", "another")), "another commit")
+    checks.same("made again over a damaged manifest", commit_after(written("dist/manifest.json", "{")), "another commit")
     checks.same("the other program changed", why_not(written("dist/glass-x86-64", "ELF")), None)
 
 

@@ -16,6 +16,7 @@ Status: 0 where both are made, 2 for a wrong word or what can't be packed, with 
 import argparse
 import gzip
 import os
+import re
 import shutil
 import subprocess
 import sys
@@ -97,11 +98,21 @@ def escaped(text: str) -> str:
     return "\n".join("\\&" + line if line[:1] in (".", "'") else line for line in lines)
 
 
+def installed(text: str, names: List[str]) -> str:
+    """A tool's own text, with the tools as they are called once they are installed."""
+    for name in names:
+        module = name.partition("-")[2].replace("-", "_")
+        text = re.sub(rf"(?:python3 )?tools/{module}\.py", name, text)
+        text = re.sub(rf"^usage: {module}\b", f"usage: {name}", text)
+    return text
+
+
 def write_pages(stage: Path, day: str) -> None:
     """A manual page for each tool, of what it says itself; all pages packed."""
     manual = stage / "usr/share/man/man1"
-    for tool in sorted((stage / "usr/bin").glob("glass-*")):
-        text = run([str(tool), "--help"], env={**os.environ, "COLUMNS": "80"})
+    tools = sorted((stage / "usr/bin").glob("glass-*"))
+    for tool in tools:
+        text = installed(run([str(tool), "--help"], env={**os.environ, "COLUMNS": "80"}), [tool.name for tool in tools])
         about = next(part for part in text.split("\n\n") if not part.startswith("usage:"))
         sentence = " ".join(about.split()).partition(". ")[0].rstrip(".").replace("`", "")
         page = PAGE.format(title=tool.name.upper(), day=day, name=escaped(tool.name),
@@ -155,7 +166,8 @@ def write_debian(stage: Path, into: Path, version: str, glibc: str) -> Path:
     # As dpkg-gencontrol counts: whole kibibytes of each file, and one for each folder and link.
     size = sum(1 if path.is_symlink() else -(-path.stat().st_size // 1024) for path in files)
     size += sum(1 for path in stage.rglob("*") if path.is_dir() and not path.is_symlink())
-    (control / "control").write_text(CONTROL.format(version=version, maintainer=MAINTAINER, size=size, glibc=glibc), encoding="utf-8")
+    text = CONTROL.format(version=version, maintainer=MAINTAINER, size=size, glibc=glibc)
+    (control / "control").write_text(text, encoding="utf-8")
     sums = (f"{run(['md5sum', str(path)]).split()[0]}  {path.relative_to(stage)}\n" for path in files if not path.is_symlink())
     (control / "md5sums").write_text("".join(sums), encoding="utf-8")
     made = into / f"glass_{version}_amd64.deb"

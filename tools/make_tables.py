@@ -4,11 +4,15 @@
     python3 tools/make_tables.py heat --betas 0.3 0.22165463 0.2 0.1
     python3 tools/make_tables.py metropolis --temperatures 0.8 1.0 1.2 1.4
     python3 tools/make_tables.py metropolis --range 1.1 3 --slots 12 --size 8 --acceptance
+    python3 tools/make_tables.py --check run.toml
 
 Slot 0 is the coldest: temperatures rise strictly from slot to slot, inverse temperatures fall.
 They are in units of the coupling, plain decimals such as 0.2217 or 2.5e-1, and are taken exactly.
 --range takes --slots temperatures in geometric steps, with --acceptance such that exchanges of neighbours on
 a lattice of --size are about equally probable, and prints them.
+
+--check tells how near the tables of a run are to temperatures, these or those that fit best, and how far from
+equilibrium their rounding can lead the run; and it warns where swap records are too short for the lattice.
 
 An entry is 2^32 times a probability, to the nearest whole number:
   heat bath    2^32 / (1 + exp(-2 beta h)),  h = 2a - 6, for a = 0 to 6 aligned neighbours
@@ -183,6 +187,7 @@ def parser_of_words():
                         help="leave out swap entries for gaps that a lattice of this size can't have")
     parser.add_argument("--rules", default="rules.csv", metavar="FILE", help="the rule table (rules.csv)")
     parser.add_argument("--swaps", default="swaps.csv", metavar="FILE", help="the swap table (swaps.csv)")
+    parser.add_argument("--check", metavar="RUN", help="look at the tables of this run file, and write none")
     parser.add_argument("--self-test", action="store_true", help="compare with values computed another way")
     return parser
 
@@ -206,6 +211,14 @@ def place(options):
     except Unlawful as fault:
         raise Refusal(str(fault)) from None
     return told
+
+
+def check(options):
+    import table_rounding
+    try:
+        table_rounding.tell("make_tables", options.check, inverse_temperatures(options))
+    except table_rounding.Refusal as fault:
+        raise Refusal(str(fault)) from None
 
 
 def make(options):
@@ -239,7 +252,7 @@ def main(words=None):
         options = parser_of_words().parse_args(words)
         if options.self_test:
             return self_test()
-        make(options)
+        (check if options.check else make)(options)
     except Refusal as refusal:
         print(f"make_tables: {refusal}", file=sys.stderr)
         return 2

@@ -1,5 +1,6 @@
 #!/usr/bin/env python3
-"""Runs the built program and holds every byte of it to the definitions: text, digest, report, checkpoints of all kinds.
+"""Runs the built program and holds every byte of it to the definitions: text, digest, report, checkpoints of all kinds,
+correlation lines and two-time overlaps.
 
     python3 tools/reference/against_program.py ./glass
 
@@ -15,6 +16,7 @@ sys.path.insert(0, str(Path(__file__).resolve().parents[1]))
 sys.dont_write_bytecode = True
 import couplings as couplings_files  # noqa: E402
 import reference.definitions as rule  # noqa: E402
+from reference.overlaps import age_text, lines_text  # noqa: E402
 
 DONE = []
 # A file has the couplings of so many samples; those behind them are J = +1.
@@ -139,6 +141,15 @@ def stopped_run(program, folder, case, takes):
     same(f"{case.name}: resumed checkpoint", (folder / "end").read_bytes(), rule.encoding(plan, lambda b: case.at(b, case.epochs)))
 
 
+def overlaps(program, folder, case, wait, times):
+    """The lines of the state that a whole run saved, and the overlaps of an aging run."""
+    text = lines_text(case.plan, lambda b: case.at(b, case.epochs), case.samples, case.epochs)
+    same(f"{case.name}: lines", ran(program, folder, "lines", "run.toml", "end"), text.encode())
+    words = [str(it) for it in (wait, len(times), *times)]
+    text = age_text(case.plan, case.start, case.samples, wait, times)
+    same(f"{case.name}: age", ran(program, folder, "age", "run.toml", *words), text.encode())
+
+
 def plain(program, folder):
     for words in (["4", "3", "7", "0", "100000000", "900000000", "2147483648", "3300000000", "4200000000", "4294967296"],
                   ["6", "2", "9223372036854775807", "1", "2", "3", "2147483648", "4294967293", "4294967294", "4294967295"]):
@@ -156,6 +167,8 @@ def main(words):
     cases = [Case("heat bath", 4, "heat", 2, "random", 64, 2, 1, "random"),
              Case("Metropolis", 4, "metropolis", 3, "random", 3, 2, 2, "random"),
              Case("ferromagnet", 4, "metropolis", 1, "plus", 2, 3, 1, "up"),
+             Case("size 6 by heat bath", 6, "heat", 2, "random", 2, 2, 1, "random", 2),
+             Case("size 6 by Metropolis", 6, "metropolis", 3, "random", 3, 2, 1, "random"),
              Case("two banks", 4, "metropolis", 2, "random", 70, 2, 1, "random"),
              Case("three banks of a file", 4, "heat", 1, "file:j.bin", 130, 1, 1, "up")]
     with tempfile.TemporaryDirectory() as name:
@@ -165,8 +178,11 @@ def main(words):
             folder.mkdir()
             case.write(folder)
             whole_run(program, folder, case)
-        stopped_run(program, Path(name) / "Metropolis", cases[1], 4)
-        resumed_run(program, Path(name) / "two banks", cases[3], 1)
+        for takes in (1, 2, 4, 5):
+            stopped_run(program, Path(name) / "Metropolis", cases[1], takes)
+        resumed_run(program, Path(name) / "two banks", cases[5], 1)
+        for case in cases[3:5]:
+            overlaps(program, Path(name) / case.name, case, 2, (0, 3))
     print(f"against_program: {len(DONE)} comparisons, each of every byte, agree")
 
 

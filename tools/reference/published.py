@@ -33,6 +33,17 @@ def glass(size, slots, sweeps, seed):
     return rule.Plan(size, "metropolis", tuple(rows), tuple(swaps), rule.couplings_view(size, signs), sweeps, seed)
 
 
+def long_glass_8():
+    """The plan of examples/glass_8: its records go on to the greatest gap of size 8, or to their last entry above 0."""
+    plan, swaps = glass(8, 16, 2, 20240611), []
+    for record in plan.swaps:
+        entries = list(record)
+        while len(entries) < 3 * 8 ** 3 // 2 and entries[-1] * record[0] // FULL > 0:
+            entries.append(entries[-1] * record[0] // FULL)
+        swaps.append(tuple(entries))
+    return plan._replace(swaps=tuple(swaps))
+
+
 def plan_digest(plan):
     return sha256(rule.canonical(plan)).hexdigest()
 
@@ -55,10 +66,13 @@ def damaged_digest():
     return sha256(body).hexdigest()
 
 
-def last_bytes_of_65():
-    """Those of the checkpoint of 65 samples of one slot after an epoch."""
-    plan = ferromagnet([UP], [])
-    banks = [rule.Bank(plan, lambda b, g=g: rule.opening(plan, "up", g, b)) for g in range(2)]
+def last_bytes_of_65(negative=()):
+    """Those of the checkpoint of 65 samples of one slot after an epoch; all bonds of some samples are negative."""
+    banks = []
+    for g in range(2):
+        signs = rule.of_bank(lambda b: lambda n: b in negative, g)
+        plan = rule.Plan(4, "heat", (UP,), (), rule.couplings_view(4, signs), 1, 7)
+        banks.append(rule.Bank(plan, lambda b, plan=plan, g=g: rule.opening(plan, "up", g, b)))
     return rule.banks_checkpoint(banks, 1)[-32:].hex()
 
 
@@ -122,24 +136,25 @@ def rows_of_second_bank():
 
 CASES = "tests/cases/"
 BANKS, ALONE, RESUMING = CASES + "banks.toml", CASES + "banks_alone.toml", CASES + "resuming.toml"
-SIXTEEN = CASES + "sixteen_temperatures.toml"
+SIXTEEN, READING = CASES + "sixteen_temperatures.toml", CASES + "reading_checkpoints.toml"
 SHORT = {
     "smallest_plan": (lambda: plan_digest(ferromagnet([DOWN], [])),
-                      [CASES + "check.toml", CASES + "couplings.toml", "crates/run_plan_tests/src/plans.rt"]),
+                      [CASES + "check.toml", CASES + "couplings.toml", CASES + "reading_run_files.toml"]),
     "two_slots_plan": (lambda: plan_digest(ferromagnet([BOARD, UP], [[FULL]])),
-                       ["crates/run_checkpoint_tests/src/known.rt", RESUMING]),
+                       [READING, RESUMING]),
     "other_seed_plan": (lambda: plan_digest(ferromagnet([BOARD, UP], [[FULL]], 8)), [RESUMING]),
-    "level_at_1": (lambda: level_digest(1), [RESUMING, CASES + "damage.toml", "crates/run_checkpoint_tests/src/known.rt"]),
+    "level_at_1": (lambda: level_digest(1), [RESUMING, CASES + "damage.toml", READING]),
     "damaged_at_1": (damaged_digest, [RESUMING]),
     "damaged_spins_at_1": (damaged_in_a_spin_word, [CASES + "damage.toml"]),
     "greatest_plan": (greatest_plan_digest, [CASES + "check.toml"]),
-    "level_at_2": (lambda: level_digest(2), [RESUMING, "crates/glass_engine_tests/src/saving.rt"]),
-    "demo_plan": (lambda: plan_digest(glass(16, 8, 4, 1)), ["crates/run_plan_tests/src/demo.rt"]),
+    "level_at_2": (lambda: level_digest(2), [RESUMING]),
     "glass_8_plan": (lambda: plan_digest(glass(8, 16, 2, 20240611)),
-                     ["examples/glass_8/README.md", "crates/table_agreement/src/sixteen_temperatures.rt"]),
-    "one_slot_plan": (lambda: plan_digest(ferromagnet([UP], [])), ["crates/run_checkpoint_tests/src/known.rt"]),
+                     [SIXTEEN]),
+    "long_glass_8_plan": (lambda: plan_digest(long_glass_8()), ["examples/glass_8/README.md"]),
+    "one_slot_plan": (lambda: plan_digest(ferromagnet([UP], [])), [READING]),
     "two_banks_plan": (lambda: rule.banks_digest([ferromagnet([UP], [])] * 2).hex(), [BANKS]),
-    "two_banks_at_1": (last_bytes_of_65, [BANKS, "crates/glass_engine_tests/src/banks.rt"]),
+    "two_banks_at_1": (last_bytes_of_65, [BANKS, READING]),
+    "two_banks_of_a_file_at_1": (lambda: last_bytes_of_65((64,)), [BANKS]),
     "three_banks_report": (lambda: sha256(random_banks()[0].encode()).hexdigest(), [ALONE]),
     "three_banks_at_2": (lambda: random_banks()[1][-32:].hex(), [ALONE]),
 }

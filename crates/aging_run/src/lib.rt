@@ -6,8 +6,6 @@ mod aging;
 mod keeping;
 mod laws;
 mod lines;
-#[cfg(test)]
-mod tests;
 mod writing;
 
 pub use aging::{Aging, open_aging};

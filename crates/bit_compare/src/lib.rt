@@ -12,5 +12,3 @@ mod addition;
 mod comparison;
 mod count;
 mod subtraction;
-#[cfg(test)]
-mod tests;

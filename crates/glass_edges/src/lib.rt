@@ -24,8 +24,6 @@ mod sealed;
 mod shelf;
 mod sink;
 mod stream_sink;
-#[cfg(test)]
-mod tests;
 
 pub use decimal::{is_numeral, value_of};
 pub use file_name::is_file_name;

@@ -13,11 +13,11 @@ ghost use Rattle.glass_main.specs.Outside.{output, store};
 ghost use Rattle.command_words.specs.ReadAge.{read_age_order, IsLawfulAge};
 ghost use Rattle.glass_main.specs.Statuses.{Ends};
 
-use command_words::AgeOrder;
 use crate::ending::Ending;
 use crate::gathering::gather_plan;
 use crate::planned::Planned;
 use aging_run::{Aging, open_aging, text_is_of_the_states, write_aging};
+use command_words::AgeOrder;
 use glass_edges::{Fault, NoMemory, Shelf, Sink};
 use std::alloc::Global;
 use std::thread::Threads;

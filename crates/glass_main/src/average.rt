@@ -9,11 +9,11 @@ ghost use Rattle.command_words.specs.ReadCommand.{read_average_order, IsLawfulAv
 ghost use Rattle.glass_main.specs.Request.{averages_at, bytes_at};
 ghost use Rattle.glass_main.specs.Statuses.{Ends};
 
-use command_words::AverageOrder;
 use crate::ending::Ending;
 use crate::gathering::gathered;
 use crate::refusal::Refusal;
 use crate::role::Role;
+use command_words::AverageOrder;
 use glass_edges::{Shelf, Sink};
 use plain_list::Items;
 use sample_average::{Averages, ReportRefused, read_report, write_averages};

@@ -12,12 +12,12 @@ ghost use Rattle.command_words.specs.ReadCommand.{read_lines_order};
 ghost use Rattle.glass_main.specs.Request as model;
 ghost use Rattle.glass_main.specs.Statuses.{Ends, IfRefused};
 
-use command_words::LinesOrder;
 use crate::ending::Ending;
 use crate::gathering::{gather_bytes, gather_plan};
 use crate::refusal::Refusal;
 use crate::role::Role;
 use crate::saved_state::SavedState;
+use command_words::LinesOrder;
 use glass_edges::{Shelf, Sink};
 use overlap_lines::write_lines;
 use plane_sweep::Stand;

@@ -12,9 +12,9 @@ ghost use Rattle.command_words.specs.ReadCommand.{read_order};
 ghost use Rattle.glass_main.specs.Statuses.{Ends};
 ghost use Rattle.glass_main.specs.Texts.{plain_header, energy_line, plain_text, plain_spins};
 
-use command_words::PlainOrder;
 use crate::ending::Ending;
 use crate::spin_text::put_spin_line;
+use command_words::PlainOrder;
 use glass_edges::{Fault, Line, Shelf, Sink};
 use lattice_geometry::Lattice;
 use scalar_rule::{PlainOut, plain_run};

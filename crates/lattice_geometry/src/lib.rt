@@ -3,7 +3,5 @@
 #![tactic(auto)]
 
 mod lattice;
-#[cfg(test)]
-mod tests;
 
 pub use lattice::{Lattice, SizeRefused};

@@ -12,7 +12,5 @@ mod lane_rule;
 mod laws;
 mod ready_rule;
 mod row_order;
-#[cfg(test)]
-mod tests;
 mod vectors;
 mod word_rule;

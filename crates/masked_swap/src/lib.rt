@@ -6,6 +6,4 @@ pub use decision::decide;
 pub use trade::exchange;
 
 mod decision;
-#[cfg(test)]
-mod tests;
 mod trade;

@@ -6,6 +6,7 @@ use Rattle.std.proofs.lemmas.Bool.{cases_lt, cases_Bool}
 use Rattle.std.proofs.lemmas.Int.{ints}
 use Rattle.std.proofs.lemmas.Nat.{pow-add}
 use Rattle.std.proofs.lemmas.List.{set-get_or, length-set}
+use Rattle.finite_chance.specs.Chains.{AreNear}
 use Rattle.spin_model.specs.Couplings.{Bonds}
 use Rattle.spin_model.specs.Lattice.{IsLawfulSize, volume, bond_count}
 use Rattle.spin_model.specs.SiteRule.{Rule, HeatBath, Metropolis, new_spin, is_flipped}
@@ -17,7 +18,7 @@ use Rattle.scalar_rule.proofs.BondCounts.{satisfied-up, satisfied-down}
 use Rattle.scalar_rule.proofs.HalfSweeps.{updated}
 use Rattle.model_laws.specs.Energies.{turned}
 use Rattle.model_laws.specs.Weights.{weight}
-use Rattle.model_laws.specs.Balance.{AreNear, site_weight, IsMetropolisThreshold, IsHeatBathThreshold, updated_by, turns, turning_draws, keeping_draws, weight_of, more_satisfied, Balances, IsExactAt}
+use Rattle.model_laws.specs.Balance.{site_weight, IsMetropolisThreshold, IsHeatBathThreshold, updated_by, turns, turning_draws, keeping_draws, weight_of, more_satisfied, Balances, IsExactAt}
 use Rattle.spin_model.proofs.Counts.{count-most}
 use Rattle.model_laws.proofs.Turning.{spin-turned, aligned-turned, satisfied-turned, unsatisfied-turned}
 use Rattle.model_laws.proofs.DrawCounts.{count-same, count-less, count-others, flips-all, flips-some, update-writes, update-spin}

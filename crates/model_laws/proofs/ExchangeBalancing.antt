@@ -4,6 +4,7 @@ use Rattle.std.specs.Prelude.{nat_lt, max}
 use Rattle.std.proofs.Math.Nat.{mul-le-mul_left}
 use Rattle.std.proofs.lemmas.Bool.{cases_order, le-leb, lt-leb}
 use Rattle.std.proofs.lemmas.Nat.{pow-add, mul-pow}
+use Rattle.finite_chance.specs.Chains.{AreNear}
 use Rattle.spin_model.specs.Couplings.{Bonds}
 use Rattle.spin_model.specs.Lattice.{IsLawfulSize, bond_count}
 use Rattle.spin_model.specs.Steps.{count_below}
@@ -11,7 +12,6 @@ use Rattle.threshold_table.specs.Tables.{swap_threshold}
 use Rattle.scalar_rule.specs.Exchange.{is_swapped}
 use Rattle.scalar_rule.specs.Sums.{unsatisfied}
 use Rattle.scalar_rule.proofs.EnergyParity.{unsatisfied-same}
-use Rattle.model_laws.specs.Balance.{AreNear}
 use Rattle.model_laws.specs.ExchangeBalance.{IsSwapEntry, pair_weight, half_difference}
 use Rattle.model_laws.proofs.DrawCounts.{count-all, count-same, count-less}
 use Rattle.model_laws.proofs.Balancing.{unsatisfied-small, other-way, wider, near-same, near-metropolis, exactly}

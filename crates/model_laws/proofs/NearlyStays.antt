@@ -5,12 +5,13 @@ use Rattle.std.proofs.Math.Nat.{pow-zero, pow-suc, mul-le-mul_left}
 use Rattle.std.proofs.lemmas.Bool.{cases_lt}
 use Rattle.std.proofs.lemmas.List.{length-set}
 use Rattle.std.proofs.lemmas.List.Elements.{All-head, All-tail}
+use Rattle.finite_chance.specs.Chains.{AreNear}
 use Rattle.spin_model.specs.Lattice.{IsLawfulSize, volume}
 use Rattle.spin_model.specs.SiteRule.{Rule, HeatBath, Metropolis}
 use Rattle.scalar_rule.specs.Neighbours.{spin, aligned, satisfied}
 use Rattle.scalar_rule.specs.Sweep.{Dynamics}
 use Rattle.model_laws.specs.Energies.{turned}
-use Rattle.model_laws.specs.Balance.{AreNear, turns, turning_draws, keeping_draws, weight_of, site_weight}
+use Rattle.model_laws.specs.Balance.{turns, turning_draws, keeping_draws, weight_of, site_weight}
 use Rattle.model_laws.specs.Stationary.{after_update, after_updates, AreThresholds}
 use Rattle.model_laws.proofs.Turning.{satisfied-turned}
 use Rattle.model_laws.proofs.DrawCounts.{count-others}

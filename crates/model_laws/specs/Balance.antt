@@ -1,6 +1,7 @@
 -- Detailed balance by counting draws. A draw is one of 2 ^ 32 equally likely words; how many of them turn a spin, times
 -- the weight of the configuration, is how many turn it back, times the weight of the other.
 use Rattle.std.specs.Prelude.{◌≡◌, ℕ, ◌+◌, ◌-◌, ◌*◌, ◌^◌, ◌<◌, ◌≤◌, max, Bool, true, false, not, if◌then◌else◌, List, length, slice_index}
+use Rattle.finite_chance.specs.Chains.{AreNear}
 use Rattle.spin_model.specs.Lattice.{IsLawfulSize, volume, colour}
 use Rattle.spin_model.specs.SiteRule.{Rule, HeatBath, Metropolis, new_spin}
 use Rattle.spin_model.specs.Steps.{count_below}
@@ -49,11 +50,6 @@ UpdatesTurnOrKeep = (d : Dynamics) (spins : List Bool) (i u : ℕ) → i < lengt
     → updated_by d spins i u ≡ (if turns d spins i u then turned spins i else spins)
 
 -- ---- thresholds that belong to a temperature
-
--- two numbers are at most r apart
-pub record AreNear (r x y : ℕ) : Type 0 where
-  pub above : x ≤ y + r
-  pub below : y ≤ x + r
 
 -- the weight of a spin with k satisfied bonds, against the weight with 6 - k of the other: (b / a) ^ (k - 3)
 abbrev pub site_weight : ℕ → ℕ → ℕ → ℕ

@@ -1,6 +1,7 @@
 -- Detailed balance of the exchange of two neighbouring temperatures, by counting draws. The state of a pair is the
 -- configuration of the colder slot and that of the hotter, each weighted at its slot's own temperature.
 use Rattle.std.specs.Prelude.{◌≡◌, ℕ, ◌+◌, ◌-◌, ◌*◌, ◌/◌, ◌^◌, ◌<◌, ◌≤◌, max, Bool, List}
+use Rattle.finite_chance.specs.Chains.{AreNear}
 use Rattle.spin_model.specs.Couplings.{Bonds}
 use Rattle.spin_model.specs.Lattice.{IsLawfulSize}
 use Rattle.spin_model.specs.Steps.{count_below}
@@ -8,7 +9,6 @@ use Rattle.threshold_table.specs.Tables.{swap_threshold}
 use Rattle.scalar_rule.specs.Exchange.{is_swapped}
 use Rattle.scalar_rule.specs.Sums.{unsatisfied}
 use Rattle.model_laws.specs.Weights.{weight}
-use Rattle.model_laws.specs.Balance.{AreNear}
 
 -- of the 2 ^ 32 draws, how many swap the slots of a pair, by the unsatisfied bonds of the colder and of the hotter
 abbrev pub swapping_draws : List (List ℕ) → ℕ → ℕ → ℕ → ℕ

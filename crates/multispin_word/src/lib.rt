@@ -6,6 +6,4 @@ pub use planes::Planes;
 pub use word::{below, bit, broadcast, choose, joined, only, swap_masked, with_bit};
 
 mod planes;
-#[cfg(test)]
-mod tests;
 mod word;

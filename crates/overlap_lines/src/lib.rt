@@ -9,6 +9,4 @@ mod counting;
 mod printing;
 mod shifting;
 mod slots;
-#[cfg(test)]
-mod tests;
 mod turning;

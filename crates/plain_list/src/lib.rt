@@ -4,7 +4,5 @@
 #![tactic(auto)]
 
 mod items;
-#[cfg(test)]
-mod tests;
 
 pub use items::Items;

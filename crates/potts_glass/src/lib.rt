@@ -8,8 +8,6 @@ mod report;
 mod start;
 mod surroundings;
 mod sweeping;
-#[cfg(test)]
-mod tests;
 mod update;
 
 pub use potts::Potts;

@@ -4,8 +4,6 @@
 mod hashing;
 mod rows;
 mod seeding;
-#[cfg(test)]
-mod tests;
 mod wheel;
 
 pub use hashing::{add_u32, add_u64};

@@ -6,8 +6,6 @@ mod round;
 mod sheet;
 mod sheets;
 mod source;
-#[cfg(test)]
-mod tests;
 mod turn;
 mod writer;
 

@@ -5,8 +5,6 @@ mod digits;
 mod lines;
 mod spin_line;
 mod summary_lines;
-#[cfg(test)]
-mod tests;
 
 pub use digits::spin_digit;
 pub use lines::{add_row, end, header, kind_word, row};

@@ -17,6 +17,3 @@ pub use readers::{read_rule, read_swap};
 pub use refused::TableRefused;
 pub use rule_table::{RuleKind, RuleRow, RuleTable, SlotRule};
 pub use swap_table::SwapTable;
-
-#[cfg(test)]
-mod tests;

@@ -21,6 +21,3 @@ pub use laws::{
     each_item_in_work_has_one_seat, each_number_has_one_seat, known_words_are_not_below_seen_words,
 };
 pub use pass::{Pass, Tried};
-
-#[cfg(test)]
-mod tests;

@@ -1,0 +1,5 @@
+pub mod Sums
+pub mod Steps
+pub mod Chains
+pub mod Counts
+pub mod KnownValues

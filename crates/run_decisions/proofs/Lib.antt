@@ -1,0 +1,13 @@
+pub mod Places
+pub mod WordsMoved
+pub mod Swept
+pub mod AllSwept
+pub mod Exchanges
+pub mod Epochs
+pub mod Runs
+pub mod Lists
+pub mod Distinct
+pub mod Lawful
+pub mod Records
+pub mod Printed
+pub mod KnownValues
