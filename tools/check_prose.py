@@ -31,7 +31,8 @@ LONGEST = {"README.md": 7, "CHANGELOG.md": 3, "CONTRIBUTING.md": 5, "bench/READM
 GONE = {"gone on with": "resumed", "want of memory": "lack of memory", "leavings": "what is left",
         "and so is that of": "two sentences"}
 PAGES = ("README.md", "CONTRIBUTING.md", "CHANGELOG.md", "bench/README.md", "docs/architecture.md", "docs/glossary.md",
-         "docs/trust.md", "docs/proofs.md", "docs/decisions/*.md", "docs/manual/*.md")
+         "docs/trust.md", "docs/proofs.md", "docs/architecture/*.md", "docs/decisions/*.md", "docs/manual/*.md",
+         "docs/specification/*.md")
 # A cell there has all clauses, definitions or edits of a promise, so that its tables are lists and no prose.
 WITHOUT_TABLES = ("docs/proofs.md",)
 
