@@ -1,7 +1,8 @@
 #!/usr/bin/env bash
 # Prints the path of the built program, for the tests that run it: the one that the variable GLASS names, else
-# one that is newer than every source, ./glass or the one that `rt ci` and `rt run` leave. Where there is none it
-# is built by tools/build, and what that tells goes to the error output. Status 1 where there is none then.
+# one that is newer than every source, ./glass or the one that `rt ci` and `rt run` leave. Where there is none
+# tools/build takes it from dist/ or builds it, and what that tells goes to the error output. Status 1 where there is none
+# then.
 set -u
 top=$(cd "$(dirname "$0")/.." && pwd) || exit 1
 if [ -n "${GLASS:-}" ]; then

@@ -32,6 +32,7 @@ PORTABLE, WIDE = "x86-64", "x86-64-v3"
 PROCESSORS = (PORTABLE, WIDE)
 PARTS = ("src", "specs", "proofs")
 KEYS = ("commit", "glibc", "kit", "programs", "sources")
+VERSION = re.compile(r"[0-9]+(\.[0-9]+)*", re.ASCII)
 TEST_MODULE = re.compile(r"^#\[cfg\(test\)\]\s*^(?:pub(?:\(crate\))? )?mod (\w+);", re.MULTILINE)
 TOP = Path(__file__).resolve().parent.parent
 
@@ -56,7 +57,7 @@ def sum_of(data: bytes) -> str:
 def test_modules(crate: Path) -> Set[str]:
     """The modules that a crate's root has under #[cfg(test)]: no program has anything of them."""
     roots = (crate / "src" / name for name in ("lib.rt", "main.rt"))
-    return {name for root in roots if root.is_file() for name in TEST_MODULE.findall(root.read_text(encoding="utf-8"))}
+    return {name for root in roots if root.is_file() for name in TEST_MODULE.findall(root.read_text("utf-8", "replace"))}
 
 
 def files_of(crate: Path) -> Iterator[Path]:
@@ -87,16 +88,22 @@ def sources(top: Path = TOP) -> str:
 def read_manifest(top: Path = TOP) -> Dict:
     """What dist/ says of its programs."""
     try:
-        text = (top / FOLDER / MANIFEST).read_text(encoding="utf-8")
+        manifest = json.loads((top / FOLDER / MANIFEST).read_text(encoding="utf-8"))
     except FileNotFoundError:
         raise NotTaken(f"{FOLDER}/ holds no program") from None
-    try:
-        manifest = json.loads(text)
-    except ValueError as fault:
+    except (OSError, ValueError) as fault:
         raise NotTaken(f"{FOLDER}/{MANIFEST} can't be read: {fault}") from None
-    if not isinstance(manifest, dict) or sorted(manifest) != sorted(KEYS) or not isinstance(manifest["programs"], dict):
-        raise NotTaken(f"{FOLDER}/{MANIFEST} has other keys than {', '.join(KEYS)}")
+    if not is_manifest(manifest):
+        raise NotTaken(f"{FOLDER}/{MANIFEST} is no manifest, which has {', '.join(KEYS)}")
     return manifest
+
+
+def is_manifest(value: object) -> bool:
+    """Whether a value has what a manifest has."""
+    if not isinstance(value, dict) or sorted(value) != sorted(KEYS) or not isinstance(value["programs"], dict):
+        return False
+    texts = [value[key] for key in KEYS if key != "programs"] + list(value["programs"].values())
+    return all(isinstance(text, str) for text in texts) and bool(VERSION.fullmatch(value["glibc"]))
 
 
 def write_manifest(kit: str, commit: str, top: Path = TOP) -> None:

@@ -103,10 +103,12 @@ def test_manifest(checks: Checks) -> None:
     checks.same("no folder", why_not(lambda top: shutil.rmtree(top / "dist")), "dist/ holds no program")
     damaged = why_not(written("dist/manifest.json", "{"))
     checks.same("a damaged manifest", damaged and damaged.partition(": ")[0], "dist/manifest.json can't be read")
-    keys = "dist/manifest.json has other keys than commit, glibc, kit, programs, sources"
-    checks.same("a list", why_not(written("dist/manifest.json", "[]")), keys)
-    checks.same("a key more", why_not(claimed({"more": 1})), keys)
-    checks.same("programs as a list", why_not(claimed({"programs": []})), keys)
+    told = why_not(lambda top: (top / "dist/manifest.json").write_bytes(b"\xff"))
+    checks.same("bytes that are no text", told and told.partition(": ")[0], "dist/manifest.json can't be read")
+    other = "dist/manifest.json is no manifest, which has commit, glibc, kit, programs, sources"
+    checks.same("a list", why_not(written("dist/manifest.json", "[]")), other)
+    for changes in ({"more": "1"}, {"programs": []}, {"programs": {"x86-64-v3": 1}}, {"glibc": 2.34}, {"glibc": "new"}):
+        checks.same(f"{changes}", why_not(claimed(changes)), other)
     checks.same("no program of the kind", why_not(claimed({"programs": {}})), "dist/ has no program for x86-64-v3")
     checks.same("another program", why_not(written("dist/glass-x86-64-v3", "ELF")),
                 "the SHA-256 of dist/glass-x86-64-v3 is not that of its manifest")
