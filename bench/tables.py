@@ -199,7 +199,10 @@ def self_test() -> int:
     for column, answer in (("glass_ms", True), ("size", False), ("ratio", True), ("what", False), ("mb_64", True)):
         checks.same(f"{column} is measured", is_measured(column), answer)
     for file in sorted((HERE / "results").glob("*.csv")):
-        checks.same(f"{file.name} is read", bool(read_results(file.stem)), True)
+        rows = read_results(file.stem)
+        checks.same(f"{file.name} has what was measured", any(map(is_measured, rows[0])), True)
+        wrong = [row["date"] for row in rows if not re.match(r"2\d{3}-\d\d-\d\d$", row["date"])]
+        checks.same(f"{file.name} has days", wrong, [])
     checks.same("a name that is no file", refusal(lambda: read_results("no_such_file"))[:23], "no_such_file is none of")
     checks.same("a page without its marks", refusal(lambda: with_tables("text"))[:25], "the page has no place for")
     return checks.end()
