@@ -7,9 +7,10 @@
     python3 bench/tables.py --trend NAME        all measurements of the file, case by case in the order of their days
     python3 bench/tables.py --self-test         the tests of this tool
 
-Each file of bench/results begins with the columns machine, commit, date (YYYY-MM-DD), load and turns. What is measured
-has its unit as the end of its name (min, s, ms, us, ns, ps, mb, kb, percent) or is a ratio. All other columns say of what
-it is. The commit is the one whose page had the figure first; the program is that of this commit or of one just before.
+Each file of bench/results begins with the columns machine, commit, date (YYYY-MM-DD), load and turns. What is
+measured has its unit as the end of its name (min, s, ms, us, ns, ps, mb, kb, percent) or is a ratio. All other
+columns say of what it is. The commit is the one whose page had the figure first; the program is that of this commit
+or of one just before it.
 
 Status: 0; 1 where --check finds a table that differs; 2 for a wrong word or file, with a line."""
 import argparse
