@@ -5,7 +5,7 @@
 
 The modules: `reports` reads, `errors` is the jackknife, `observables` has means, Binder ratio and the
 distribution of overlaps, `times` autocorrelation and equilibration, `walks` the walks in temperature, `lines` the
-correlation length, `figures` draws, `export` writes arrays. `tools/estimate.py` is the command line over them.
+coherence length, `figures` draws, `export` writes arrays. `tools/estimate.py` is the command line over them.
 """
 import sys
 from pathlib import Path
@@ -14,12 +14,13 @@ from pathlib import Path
 sys.path.insert(0, str(Path(__file__).resolve().parent.parent))
 
 from .errors import Estimate, jackknife  # noqa: E402
-from .lines import correlation_length, line_moments, link_overlap, read_lines  # noqa: E402
+from .lines import axis_correlations, coherence_length, link_overlap, read_lines  # noqa: E402
 from .observables import binder, blocks, distribution, moments, susceptibility  # noqa: E402
 from .reports import Records, read_report, read_reports  # noqa: E402
 from .times import autocorrelation_time, doubling_bins, equilibration  # noqa: E402
+from .walk_times import WalkTimes, walk_times  # noqa: E402
 from .walks import acceptance, positions, round_trips  # noqa: E402
 
-__all__ = ["Estimate", "Records", "acceptance", "autocorrelation_time", "binder", "blocks", "correlation_length",
-           "distribution", "doubling_bins", "equilibration", "jackknife", "line_moments", "link_overlap", "moments",
+__all__ = ["Estimate", "Records", "acceptance", "autocorrelation_time", "axis_correlations", "binder", "blocks", "coherence_length",
+           "distribution", "doubling_bins", "equilibration", "jackknife", "link_overlap", "moments",
            "positions", "read_lines", "read_report", "read_reports", "round_trips", "susceptibility"]

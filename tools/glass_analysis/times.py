@@ -102,7 +102,7 @@ def equilibration(reports: Sequence[Records], count: Optional[int] = None) -> Li
     return found
 
 
-def part(records: Records, start: int, end: int) -> Records:
+def old_part(records: Records, start: int, end: int) -> Records:
     return Records(records.name, records.size, records.rule, records.first, records.until, records.every,
                    records.epochs[start:end], records.energies[start:end], records.overlaps[start:end],
                    records.labels[start:end])
