@@ -8,8 +8,8 @@ from analyse_test import text_of_lines
 from make_tables import Refusal
 from scipy import stats
 
-from glass_analysis import (Records, acceptance, autocorrelation_time, binder, blocks, distribution, doubling_bins,
-                            equilibration, jackknife, moments, round_trips)
+from glass_analysis import (Records, acceptance, autocorrelation_time, binder, blocks, distribution,
+                            jackknife, moments, round_trips)
 from glass_analysis.observables import overlap_edges
 from glass_analysis.reports import records_of
 
@@ -84,22 +84,6 @@ def test_the_mean_that_is_taken_off_short_series_is_allowed_for():
 def test_a_drift_has_no_settled_time():
     assert not autocorrelation_time(np.linspace(0, 1, 30)).is_settled
     assert math.isnan(autocorrelation_time(np.ones(30)).value)
-
-
-def test_bins_double():
-    assert doubling_bins(np.arange(16)) == [(8, 16), (4, 8), (2, 4)]
-    assert doubling_bins(np.arange(9, 160, 10)) == [(8, 16), (4, 8), (2, 4)]
-    assert doubling_bins(np.arange(3)) == []
-
-
-def test_steps_of_a_run_that_falls_and_of_one_that_rests():
-    random = np.random.default_rng(4)
-    noise = np.rint(random.normal(0, 8, (4096, 16, 1, 2))).astype(np.int64)
-    fall = np.rint(-40 * np.log2(np.arange(1, 4097))).astype(np.int64).reshape(-1, 1, 1, 1)
-    for energies, is_at_rest in ((noise, True), (noise + fall, False)):
-        steps = [one.step for one in equilibration([records_with(energies=energies)]) if one.step is not None]
-        in_errors = [float(abs(step.value[0, 0] / step.error[0, 0])) for step in steps[-3:]]
-        assert (max(in_errors) < 4) == is_at_rest
 
 
 def test_exchanges_are_those_counted_row_by_row(made_reports):

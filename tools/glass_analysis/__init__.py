@@ -13,11 +13,12 @@ from pathlib import Path
 # The reader of analyse.py, which knows each line that no run prints, lies beside this folder.
 sys.path.insert(0, str(Path(__file__).resolve().parent.parent))
 
-from .errors import Estimate, jackknife  # noqa: E402
+from .equilibrium import doubling_bins, equilibration  # noqa: E402
+from .errors import Estimate, bootstrap, jackknife  # noqa: E402
 from .lines import axis_correlations, coherence_length, link_overlap, read_lines  # noqa: E402
 from .observables import binder, blocks, distribution, moments, susceptibility  # noqa: E402
 from .reports import Records, read_report, read_reports  # noqa: E402
-from .times import autocorrelation_time, doubling_bins, equilibration  # noqa: E402
+from .times import autocorrelation_time  # noqa: E402
 from .walk_times import WalkTimes, walk_times  # noqa: E402
 from .walks import acceptance, positions, round_trips  # noqa: E402
 

@@ -18,6 +18,7 @@ from .reports import Records
 
 # The last axis of `moments`.
 ENERGY, SQUARE, FOURTH, MODULUS = range(4)
+MOMENTS = 4
 
 
 def moments(records: Records) -> Numbers:

@@ -1,15 +1,12 @@
-"""How long a run remembers, and whether it has forgotten its start."""
+"""Autocorrelation times of series that have no known mean."""
 from __future__ import annotations
 
-from typing import List, NamedTuple, Optional, Sequence, Tuple
+from typing import NamedTuple
 
 import numpy as np
-from numpy.typing import NDArray
 from scipy.signal import correlate
 
-from .errors import Estimate, Numbers, jackknife
-from .observables import blocks, moments
-from .reports import Records
+from .errors import Numbers
 
 # The window of an integrated time is the first that is at least so many times it (A. Sokal, in: Functional
 # Integration, NATO ASI B 361, 131 (1997)).
@@ -56,53 +53,3 @@ def autocorrelation_time(series: Numbers) -> Time:
     value = float((times[window] + (window + 0.5) * lowered) / (1 + lowered))
     error = abs(value) * np.sqrt(2 * (2 * window + 1) / np.size(series))
     return Time(value, error, window, bool(len(enough)) and len(times) >= LENGTH * value)
-
-
-def doubling_bins(epochs: NDArray[np.int64]) -> List[Tuple[int, int]]:
-    """Parts of a run whose ends are the whole, a half, a quarter .. of it, as places in `epochs`, the last first.
-
-    A part has the recorded epochs from half of its end on, and at least two of them.
-    """
-    bins, end = [], len(epochs)
-    first = int(epochs[0]) if end else 0
-    span = int(epochs[-1]) + 1 - first if end else 0
-    while end >= 4:
-        start = int(np.searchsorted(epochs, first + span // 2))
-        if end - start < 2 or start < 1:
-            break
-        bins.append((start, end))
-        end, span = start, span // 2
-    return bins
-
-
-class Bin(NamedTuple):
-    """Moments of a part of the run by slot, and by how much those of the next part differ from them."""
-    start: int
-    end: int
-    moments: Estimate
-    step: Optional[Estimate]
-
-
-def equilibration(reports: Sequence[Records], count: Optional[int] = None) -> List[Bin]:
-    """The moments of parts that double, the first part first.
-
-    `step` is the next part's moments less this one's. Its error is taken of the difference itself, since both
-    parts have the same couplings, so it is smaller than those of the two. A run is taken as equilibrated from
-    the first part on whose later steps are all within their errors, over two parts at the least.
-    """
-    parts = [[moments(part(records, start, end)) for records in reports]
-             for start, end in reversed(doubling_bins(reports[0].epochs))]
-    ends = [(int(reports[0].epochs[start]), int(reports[0].epochs[end - 1]) + 1)
-            for start, end in reversed(doubling_bins(reports[0].epochs))]
-    found = []
-    for n, values in enumerate(parts):
-        step = (jackknife(blocks([later - now for later, now in zip(parts[n + 1], values)], count))
-                if n + 1 < len(parts) else None)
-        found.append(Bin(*ends[n], jackknife(blocks(values, count)), step))
-    return found
-
-
-def old_part(records: Records, start: int, end: int) -> Records:
-    return Records(records.name, records.size, records.rule, records.first, records.until, records.every,
-                   records.epochs[start:end], records.energies[start:end], records.overlaps[start:end],
-                   records.labels[start:end])
