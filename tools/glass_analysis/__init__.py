@@ -18,6 +18,7 @@ from .errors import Estimate, bootstrap, jackknife  # noqa: E402
 from .lines import axis_correlations, coherence_length, link_overlap, read_lines  # noqa: E402
 from .observables import binder, blocks, distribution, moments, susceptibility  # noqa: E402
 from .reports import Records, read_report, read_reports  # noqa: E402
+from .reweighting import reweighted  # noqa: E402
 from .times import autocorrelation_time  # noqa: E402
 from .walk_times import WalkTimes, walk_times  # noqa: E402
 from .walks import acceptance, positions, round_trips  # noqa: E402
