@@ -13,10 +13,11 @@ from matplotlib.figure import Figure  # noqa: E402
 
 from make_tables import Refusal  # noqa: E402
 
-from .errors import Estimate  # noqa: E402
-from .observables import ENERGY, SQUARE, Distribution  # noqa: E402
-from .reports import Records  # noqa: E402
+from .distributions import Distribution  # noqa: E402
 from .equilibrium import Bin  # noqa: E402
+from .errors import Estimate  # noqa: E402
+from .observables import ENERGY, SQUARE  # noqa: E402
+from .reports import Records  # noqa: E402
 from .walks import positions  # noqa: E402
 
 # Walks that are drawn of longer runs have so many points.
