@@ -62,6 +62,7 @@ def add_temperatures(parser):
     group = parser.add_mutually_exclusive_group()
     group.add_argument("--betas", nargs="+", metavar="B", help="inverse temperatures, strictly falling")
     group.add_argument("--temperatures", nargs="+", metavar="T", help="temperatures, strictly rising")
+    return group
 
 
 def positive(text, slot, what):

@@ -12,21 +12,24 @@ from .observables import blocks
 from .reports import Integers, Records
 
 
-def acceptance(reports: Sequence[Records], count: Optional[int] = None) -> Optional[Estimate]:
-    """Exchanges made of those tried, of each pair of neighbouring slots; None where not each epoch is recorded.
+def acceptances_by_sample(records: Records) -> Optional[Numbers]:
+    """Exchanges made of those tried, by sample and pair of neighbouring slots; None where not each epoch is recorded.
 
     Pair k is tried after epoch e where k and e are equal modulo 2.
     """
-    values = []
-    for records in reports:
-        if records.every != 1 or records.slots < 2:
-            return None
-        pair, epoch = np.arange(records.slots - 1), records.epochs[:-1, None]
-        tried = (pair + epoch) % 2 == 0
-        made = (records.labels[1:, :, :-1] != records.labels[:-1, :, :-1]) & tried[:, None, :, None]
-        with np.errstate(invalid="ignore"):
-            values.append(made.mean(axis=3).sum(axis=0) / tried.sum(axis=0))
-    return jackknife(blocks(values, count))
+    if records.every != 1 or records.slots < 2:
+        return None
+    pair, epoch = np.arange(records.slots - 1), records.epochs[:-1, None]
+    tried = (pair + epoch) % 2 == 0
+    made = (records.labels[1:, :, :-1] != records.labels[:-1, :, :-1]) & tried[:, None, :, None]
+    with np.errstate(invalid="ignore"):
+        return made.mean(axis=3).sum(axis=0) / tried.sum(axis=0)
+
+
+def acceptance(reports: Sequence[Records], count: Optional[int] = None) -> Optional[Estimate]:
+    """That of each pair, with errors over the blocks."""
+    values = [acceptances_by_sample(records) for records in reports]
+    return None if values[0] is None else jackknife(blocks(values, count))
 
 
 def positions(records: Records) -> Integers:
