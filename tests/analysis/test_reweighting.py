@@ -3,9 +3,10 @@ import math
 
 import numpy as np
 import pytest
-from make_tables import Refusal, main as make_tables, outcome
+from make_tables import Refusal
 from run_temperatures import run_betas
 from test_estimates import records_with
+from written import write_run
 
 from glass_analysis import blocks, jackknife, reweighted
 from glass_analysis.reweighting import free_energies
@@ -70,13 +71,7 @@ def test_temperatures_that_no_energies_reach_are_refused(betas, target, slot):
 @pytest.mark.parametrize("rule", ["heat", "metropolis"])
 def test_temperatures_of_a_run_are_those_its_tables_were_made_of(rule, tmp_path):
     texts = ["0.8", "1.1019", "1.5", "3", "40"]
-    tables = ["--rules", str(tmp_path / "rules.csv"), "--swaps", str(tmp_path / "swaps.csv")]
-    assert outcome([rule, "--temperatures", *texts, *tables], make_tables)[0] == 0
-    keys = {"size": 4, "rule": rule, "rules": "rules.csv", "swaps": "swaps.csv", "couplings": "plus", "sweeps": 1, "seed": 1,
-            "samples": 1, "epochs": 1, "every": 1, "start": "up", "spins": "false"}
-    run = tmp_path / "run.toml"
-    run.write_text("".join(f"{key} = {value}\n" if key == "spins" or isinstance(value, int) else f'{key} = "{value}"\n'
-                           for key, value in keys.items()))
+    run = write_run(tmp_path, texts, rule)
     assert run_betas(str(run)) == pytest.approx([1 / float(text) for text in texts], rel=3e-8)
     good = (tmp_path / "rules.csv").read_text()
     for damaged in (good + good, good.replace(",", ", 7,", 1), "0, 0, 0\n" if rule == "metropolis" else "0, 0, 0, 0, 0, 0, 0\n",

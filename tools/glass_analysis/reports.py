@@ -17,8 +17,8 @@ from make_tables import Refusal
 Integers = NDArray[np.int64]
 COUNT, SIGNED = rb"(?:0|[1-9][0-9]{0,9})", rb"(?:0|-?[1-9][0-9]{0,6})"
 ROWS = re.compile(rb"(?:row,%b\n)*" % b",".join([COUNT] * 3 + [SIGNED] * 3 + [COUNT] * 2))
-# Bytes of a report that are taken at a time, and more than a row has.
-PIECE, LONGEST_ROW = 2 ** 21, 100
+# Bytes of a report that are taken at a time, for each row of which the match of ROWS takes room too; and more than a row has.
+PIECE, LONGEST_ROW = 2 ** 18, 100
 Taken = TypeVar("Taken")
 
 
