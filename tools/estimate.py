@@ -17,7 +17,8 @@ walks          exchanges made of those tried, by pair, and round trips through t
 lengths        of what `glass lines` prints: link overlap and second-moment correlation length of each slot
 export         the rows as arrays for numpy.load, or as comma-separated text
 
-Errors are jackknife errors. Of several reports, which must differ in their seeds alone, each is a block. Of one
+Errors are jackknife errors. Of several reports, which must differ in their seeds alone, each is a block; those
+whose manifests (tools/manifest.py) name couplings files are one block for each file. Of one
 its samples are, or --blocks groups of them: they share each random number, so that error is over the disorder
 and lacks what the samples have in common. Several seeds have all of it.
 
@@ -28,7 +29,7 @@ from __future__ import annotations
 
 import argparse
 import sys
-from typing import Callable, Dict, List, Optional, Sequence
+from typing import Callable, Dict, List, Optional, Sequence, Union
 
 sys.dont_write_bytecode = True
 from exit_status import status_of  # noqa: E402
@@ -45,7 +46,7 @@ class Slots:
     def __init__(self, options: argparse.Namespace, slots: int) -> None:
         betas = inverse_temperatures(options)
         self.files = len(options.reports)
-        self.blocks: Optional[int] = options.blocks
+        self.blocks: Union[int, List[int], None] = options.blocks
         if self.blocks is not None and self.files > 1:
             raise Refusal("of several files each is a block: --blocks is for one")
         if betas and len(betas) != slots:
@@ -77,14 +78,20 @@ class Words(Slots):
 
     def __init__(self, options: argparse.Namespace) -> None:
         from glass_analysis import read_reports
+        from manifest import study_of
         self.reports = read_reports(options.reports, options.skip)
         super().__init__(options, self.reports[0].slots)
+        self.numbers = study_of(tuple(options.reports)).blocks
+        # Of several reports the number of each one's couplings file.
+        self.blocks = self.numbers or self.blocks
 
     def begin(self) -> None:
         r = self.reports[0]
         what = r.name if self.files == 1 else f"{self.files} reports"
         print(f"{what}: size {r.size}, {r.rule}, slots {r.slots}, samples {r.samples}, "
               f"{len(r.epochs)} recorded epochs from {r.epochs[0]} to {r.epochs[-1]}")
+        if self.numbers:
+            print(f"couplings files: {len(set(self.numbers))}, each a block; glass-jackknife tells what its seeds bring")
 
 
 def means(words: Words, options: argparse.Namespace) -> None:

@@ -13,6 +13,7 @@ from numpy.typing import NDArray
 
 from analyse import HEADER, Report
 from make_tables import Refusal
+from manifest import study_of
 
 Integers = NDArray[np.int64]
 COUNT, SIGNED = rb"(?:0|[1-9][0-9]{0,9})", rb"(?:0|-?[1-9][0-9]{0,6})"
@@ -158,7 +159,8 @@ def are_walks(records: Records) -> bool:
 
 
 def read_reports(names: Sequence[str], skip: int = 0) -> List[Records]:
-    """Reports that differ in their seeds alone, from epoch `skip` on."""
+    """Reports that differ in their seeds alone, from epoch `skip` on, and whose manifests don't tell otherwise."""
+    study_of(tuple(names))
     reports = [read_report(name).after(skip) for name in names]
     shape = [(r.size, r.slots, r.samples, r.rule, r.first, r.until, r.every) for r in reports]
     for n, report in enumerate(reports):
