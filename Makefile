@@ -18,7 +18,7 @@ BIN := $(DESTDIR)$(PREFIX)/bin
 SHARE := $(DESTDIR)$(PREFIX)/share/glass
 MAN := $(DESTDIR)$(PREFIX)/share/man/man1
 # A tool is the command glass-NAME; the modules that it needs lie beside it.
-TOOLS := long_run make_seeds describe make_tables analyse jackknife correlations couplings estimate
+TOOLS := long_run make_seeds manifest describe make_tables analyse jackknife correlations couplings estimate
 COMMANDS := $(addprefix $(BIN)/glass-,$(subst _,-,$(TOOLS)))
 MODULES := $(wildcard tools/*.py)
 REFERENCE := $(wildcard tools/reference/*.py)

@@ -13,6 +13,8 @@ For each slot, the coldest first:
   exchanged           exchanges made with the next slot, of those tried, where each epoch is recorded
 Of several reports, which must differ in their seeds alone, all samples are taken together, and the
 mean energy gets an error: the standard deviation of the reports' means over the root of their number.
+Reports whose manifests (tools/manifest.py) name couplings files are taken file by file: `error` is then that
+of the files' means, over the disorder, and `of seeds` the part of it that the seeds of each file bring.
 
 A report that no run prints is refused with the number of its first such line.
 
@@ -30,6 +32,8 @@ from collections import namedtuple
 sys.dont_write_bytecode = True
 from exit_status import status_of  # noqa: E402
 from make_tables import OneLineParser, Refusal, add_temperatures, inverse_temperatures  # noqa: E402
+from manifest import add_run, study_of  # noqa: E402
+from report_errors import deviation, errors_of  # noqa: E402
 from report_plot import plot_text  # noqa: E402
 
 Header = namedtuple("Header", "size slots samples rule first until")
@@ -240,14 +244,6 @@ def same_runs(reports):
 Means = namedtuple("Means", "energies spreads square fourth_power binder exchanged")
 
 
-def deviation(values):
-    """The standard deviation of a list of values, None of fewer than two."""
-    if len(values) < 2:
-        return None
-    mean = math.fsum(values) / len(values)
-    return math.sqrt(math.fsum((value - mean) ** 2 for value in values) / (len(values) - 1))
-
-
 def slot_means(reports, slot):
     first = reports[0]
     energies, spreads = [], []
@@ -281,18 +277,20 @@ def print_means(reports, names, head):
               f"{spelled(m.fourth_power, 6, 9)} {spelled(m.binder, 4, 8)} {spelled(m.exchanged, 4, 9)}")
 
 
-def print_comparison(reports, names, head, exact):
+def print_comparison(reports, names, head, exact, blocks=None):
     """Measured energies per site, with errors from several reports, beside the exact ones."""
     several = len(reports) > 1
-    print(f"slot {head:>10} {'measured':>11}" + (f" {'error':>9}" if several else "")
+    print(f"slot {head:>10} {'measured':>11}" + (f" {'error':>9}" if several else "") + (f" {'of seeds':>9}" if blocks else "")
           + (f" {'exact':>11} {'difference':>11}" if exact else "") + (f" {'in errors':>9}" if exact and several else ""))
     for slot, name in enumerate(names):
-        values = [report.mean_energy(slot) for report in reports]
-        mean = math.fsum(values) / len(values)
+        mean, error, of_seeds = errors_of([report.mean_energy(slot) for report in reports], blocks)
         line = f"{slot:>4} {name:>10} {mean:>11.6f}"
-        error = deviation(values) / math.sqrt(len(values)) if several else None
         if several:
-            line += f" {error:>9.6f}"
+            line += f" {spelled(error, 6, 9)}"
+        if blocks:
+            line += f" {spelled(of_seeds, 6, 9)}"
+        # Of one file there is no error over the disorder, and what is exact is so of its couplings.
+        error = of_seeds if blocks and len(set(blocks)) == 1 else error
         if exact:
             line += f" {exact[slot]:>11.6f} {mean - exact[slot]:>+11.6f}"
         if exact and error:
@@ -340,9 +338,10 @@ def analyse_reports(options, betas, reports, names, head):
     exact = decimals(options.exact, slots) if options.exact else None
     if not reports[0].counted:
         raise Refusal(f"{reports[0].name} has no row" + (f" from epoch {options.skip} on" if options.skip else ""))
+    blocks = study_of(tuple(options.reports), tuple(options.run)).blocks
     print_means(reports, names, head)
     if exact or len(reports) > 1:
-        print_comparison(reports, names, head, exact)
+        print_comparison(reports, names, head, exact, blocks)
     if len(reports) == 1:
         print(NOTE)
     if options.plot:
@@ -361,6 +360,7 @@ def main(words=None):
                            formatter_class=argparse.RawDescriptionHelpFormatter)
     parser.add_argument("reports", nargs="*", metavar="REPORT", help="reports, or files of glass lines, or - for standard input (the default)")
     add_temperatures(parser)
+    add_run(parser)
     parser.add_argument("--skip", type=int, default=0, metavar="EPOCH",
                         help="leave the epochs before this one out of all means")
     parser.add_argument("--exact", nargs="+", metavar="E",

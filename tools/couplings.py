@@ -20,8 +20,8 @@ show       size, samples, digest, and how many bonds of each sample are negative
 A text has a line `couplings 1 size=L samples=n`, then a line for each bond, in any order: the numbers
 i and j of its two sites and J of each sample, 1 or -1. Site (x, y, z) is x + L y + L^2 z.
 
-The bytes of a file: docs/specification/couplings.md. numpy makes `random` and `program` faster and is not
-needed.
+The bytes of a file: docs/specification/couplings.md. numpy makes `random`, `program` and `gauge` faster
+and is not needed.
 """
 import argparse
 import hashlib
@@ -165,6 +165,10 @@ def forward(size, site, d):
 def turned(size, bonds, seed, sample):
     """The couplings of a sample under a random gauge transform."""
     signs = unpacked(hashlib.shake_256(f"gauge {seed} {sample}".encode("ascii")).digest(size ** 3 // 8))
+    if numpy is not None:
+        grid = numpy.frombuffer(signs, numpy.uint8).reshape(size, size, size)
+        ahead = [numpy.roll(grid, -1, 2 - d).ravel() for d in range(3)]
+        return (numpy.frombuffer(bonds, numpy.uint8) ^ numpy.repeat(grid, 3) ^ numpy.stack(ahead, axis=1).ravel()).tobytes()
     return bytes(bonds[3 * i + d] ^ signs[i] ^ signs[forward(size, i, d)] for i in range(size ** 3) for d in range(3))
 
 

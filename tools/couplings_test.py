@@ -132,13 +132,17 @@ def distributions(checks, folder):
 def without_numpy(checks):
     if couplings.numpy is None:
         return
-    made = couplings.program_samples(6, 7, 2), couplings.random_sample(6, 1, 0, couplings.probability("0.3"))
-    kept, couplings.numpy = couplings.numpy, None
+
+    def made():
+        drawn = couplings.random_sample(6, 1, 0, couplings.probability("0.3"))
+        return couplings.program_samples(6, 7, 2), drawn, couplings.turned(6, drawn, 5, 1)
+
+    fast, kept, couplings.numpy = made(), couplings.numpy, None
     try:
-        plain = couplings.program_samples(6, 7, 2), couplings.random_sample(6, 1, 0, couplings.probability("0.3"))
+        plain = made()
     finally:
         couplings.numpy = kept
-    checks.same("with numpy and without", made, plain)
+    checks.same("with numpy and without", fast, plain)
 
 
 def self_test():

@@ -23,8 +23,9 @@ walks          acceptance by pair, round trips through the slots by label, and t
 lengths        of what `glass lines` prints: link overlap and coherence length xi_12 of each slot
 export         the rows as arrays for numpy.load, in an HDF5 file, or as comma-separated text
 
-Errors are jackknife errors. Of several reports, which must differ in their seeds alone, each is a block. Of one
-its samples are, or --blocks groups of them: they share each random number, so that error is over the disorder
+Errors are jackknife errors. Of several reports, which must differ in their seeds alone, each is a block; those
+whose manifests (tools/manifest.py) name couplings files are one block for each file. Of one report its samples
+are blocks, or --blocks groups of them: they share each random number, so that error is over the disorder
 and lacks what the samples have in common. Several seeds have all of it. Reports are read one after the other.
 
 A report that no run prints is refused with the number of its first such line. numpy, scipy and matplotlib are

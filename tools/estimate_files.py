@@ -2,13 +2,15 @@
 from __future__ import annotations
 
 import argparse
-from typing import Dict, Union
+from typing import Dict
 
 from estimate_words import Slots, Words
 from glass_analysis import (Estimate, Records, axis_correlations, blocks, coherence_length, figures, jackknife, link_overlap,
                             read_lines)
 from glass_analysis.export import Hdf5File, write_csv, write_npz
+from long_run_folder import Value
 from make_tables import Refusal
+from manifest import read_manifest
 
 
 def lengths(options: argparse.Namespace) -> None:
@@ -32,10 +34,13 @@ def lengths(options: argparse.Namespace) -> None:
                                                     Estimate(correlation.value, correlation.error)), len(parts))
 
 
-def attributes_of(name: str) -> Dict[str, Union[int, str, bool]]:
-    """What is told of a report's run beside its own first line."""
-    del name
-    return {}
+def attributes_of(name: str) -> Dict[str, Value]:
+    """What the manifest beside a report tells: digests of the plan, the report, tables and couplings, and the run's keys."""
+    manifest = read_manifest(name)
+    if manifest is None:
+        return {}
+    digests = {f"{key}_sha256": digest for key, digest in manifest.digests.items()}
+    return {**manifest.keys, **digests, "plan": manifest.plan, "report_sha256": manifest.report, "programs": manifest.programs}
 
 
 def export(words: Words, options: argparse.Namespace) -> None:

@@ -2,13 +2,16 @@
 from __future__ import annotations
 
 import argparse
-from typing import Callable, List, NamedTuple, Optional, TypeVar
+from collections.abc import Sequence
+from typing import Callable, List, NamedTuple, Optional, TypeVar, Union
 
 from glass_analysis import of_each_report
 from glass_analysis.errors import uncertainty
 from glass_analysis.reports import Records
+from long_run_folder import digest_of
 from make_tables import Refusal, inverse_temperatures
-from run_temperatures import run_betas
+from manifest import Study, study_of
+from run_temperatures import rule_table, run_betas
 
 Taken = TypeVar("Taken")
 FEW_BLOCKS = 16
@@ -24,13 +27,20 @@ def betas_of(options: argparse.Namespace) -> Optional[List[float]]:
     return [float(beta) for beta in typed] if typed else None
 
 
+def check_table(run_file: str, study: Study) -> None:
+    """Refuses temperatures of another rule table than that of the reports, where a manifest tells it."""
+    for manifest in study.manifests[:1]:
+        if digest_of(rule_table(run_file)) != manifest.digests["rules"]:
+            raise Refusal(f"{run_file} has another rule table than {manifest.source}")
+
+
 class Slots:
     """The number of files that a command line names, and what their slots are called."""
 
     def __init__(self, options: argparse.Namespace, slots: int) -> None:
         self.betas = betas_of(options)
         self.files = len(options.reports)
-        self.blocks: Optional[int] = options.blocks
+        self.blocks: Union[int, Sequence[int], None] = options.blocks
         if self.blocks is not None and self.files > 1:
             raise Refusal("of several files each is a block: --blocks is for one")
         if self.betas and len(self.betas) != slots:
@@ -96,6 +106,9 @@ class Words:
         self.options = options
         self.run: Outline
         self.slots: Optional[Slots] = None
+        self.study = study_of(tuple(options.reports))
+        if options.run:
+            check_table(options.run, self.study)
 
     @property
     def named(self) -> Slots:
@@ -107,6 +120,8 @@ class Words:
         def taken(records: Records) -> Taken:
             if self.slots is None:
                 self.run, self.slots = Outline.of(records), Slots(self.options, records.slots)
+                # Of several reports the number of each one's couplings file.
+                self.slots.blocks = self.study.blocks or self.slots.blocks
             return take(records)
 
         return of_each_report(self.options.reports, taken, self.options.skip)
@@ -116,3 +131,5 @@ class Words:
         what = r.name if self.named.files == 1 else f"{self.named.files} reports"
         print(f"{what}: size {r.size}, {r.rule}, slots {r.slots}, samples {r.samples}, "
               f"{r.records} recorded epochs from {r.first} to {r.last}")
+        if self.study.blocks:
+            print(f"couplings files: {len(set(self.study.blocks))}, each a block; glass-jackknife tells what its seeds bring")

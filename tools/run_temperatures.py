@@ -10,9 +10,9 @@ from __future__ import annotations
 import argparse
 import math
 from pathlib import Path
-from typing import List, Sequence
+from typing import Dict, List, Sequence
 
-from long_run_folder import Fault, read_keys
+from long_run_folder import Fault, Value, read_keys
 from make_tables import GREATEST_SLOTS, SCALE, Refusal
 
 WIDTHS = {"metropolis": 3, "heat": 7}
@@ -25,7 +25,7 @@ def add_run(group: argparse._ActionsContainer) -> None:
     group.add_argument("--run", metavar="FILE", help="the run file, whose rule table tells the temperatures")
 
 
-def rule_thresholds(name: str, rule: str) -> List[List[int]]:
+def rule_thresholds(name: Path, rule: str) -> List[List[int]]:
     """The thresholds of each slot, of a rule table as tools/make_tables.py writes it."""
     try:
         with open(name, encoding="ascii") as stream:
@@ -61,17 +61,25 @@ def beta_of(rule: str, thresholds: Sequence[int], where: str) -> float:
     return beta
 
 
-def run_betas(name: str) -> List[float]:
-    """The inverse temperatures of a run file's slots, the coldest first. Its tables lie beside it, or in this folder."""
+def keys_of(name: str) -> Dict[str, Value]:
     try:
-        keys = read_keys(Path(name))
+        return read_keys(Path(name))
     except Fault as fault:
         raise Refusal(str(fault)) from None
-    rule, table = str(keys["rule"]), str(keys["rules"])
+
+
+def rule_table(name: str) -> Path:
+    """The rule table of a run file, which lies beside it, or in this folder."""
+    table = str(keys_of(name)["rules"])
+    beside = Path(name).parent / table
+    return beside if beside.exists() else Path(table)
+
+
+def run_betas(name: str) -> List[float]:
+    """The inverse temperatures of a run file's slots, the coldest first."""
+    rule, path = str(keys_of(name)["rule"]), rule_table(name)
     if rule not in WIDTHS:
         raise Refusal(f"{name} has the rule {rule}")
-    beside = Path(name).parent / table
-    path = str(beside) if beside.exists() else table
     betas = [beta_of(rule, row, f"slot {slot} of {path}") for slot, row in enumerate(rule_thresholds(path, rule))]
     if any(colder <= hotter for colder, hotter in zip(betas, betas[1:])):
         raise Refusal(f"{path} has temperatures that don't rise from slot to slot")

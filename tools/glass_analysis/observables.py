@@ -7,7 +7,8 @@ common to all of them. Only runs with other seeds have all of it.
 """
 from __future__ import annotations
 
-from typing import Optional, Sequence
+from collections.abc import Sequence
+from typing import Optional, Union
 
 import numpy as np
 
@@ -28,11 +29,15 @@ def moments(records: Records) -> Numbers:
     return np.stack([energy, (overlap ** 2).mean(axis=0), (overlap ** 4).mean(axis=0), abs(overlap).mean(axis=0)], axis=-1)
 
 
-def blocks(values: Sequence[Numbers], count: Optional[int] = None) -> Numbers:
+def blocks(values: Sequence[Numbers], count: Union[int, Sequence[int], None] = None) -> Numbers:
     """Independent blocks of equal weight from values by sample, an array of each report.
 
-    Of several reports each is a block. Of one its samples make `count` blocks, one a sample where it isn't said.
+    Of several reports each is a block, or `count` has the number of each one's block: reports of one couplings file
+    are one. Of one report its samples make `count` blocks, one a sample where it isn't said.
     """
+    if isinstance(count, Sequence):
+        means = np.stack([by_sample.mean(axis=0) for by_sample in values])
+        return np.stack([means[np.array(count) == number].mean(axis=0) for number in sorted(set(count))])
     if len(values) > 1:
         return np.stack([by_sample.mean(axis=0) for by_sample in values])
     samples = len(values[0])

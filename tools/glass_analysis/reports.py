@@ -13,6 +13,7 @@ from numpy.typing import NDArray
 
 from analyse import HEADER, LONGEST_LINE, Report
 from make_tables import Refusal
+from manifest import study_of
 
 Integers = NDArray[np.int64]
 COUNT, SIGNED = rb"(?:0|[1-9][0-9]{0,9})", rb"(?:0|-?[1-9][0-9]{0,6})"
@@ -221,10 +222,12 @@ def are_walks(records: Records) -> bool:
 
 
 def of_each_report(names: Sequence[str], take: Callable[[Records], Taken], skip: int = 0) -> List[Taken]:
-    """What `take` makes of each report from epoch `skip` on. They must differ in their seeds alone.
+    """What `take` makes of each report from epoch `skip` on. They must differ in their seeds alone, and their manifests
+    may not tell otherwise.
 
     One report is held at a time.
     """
+    study_of(tuple(names))
     kinds: List[Tuple[object, ...]] = []
     seen: Dict[bytes, str] = {}
 
