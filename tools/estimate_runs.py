@@ -19,6 +19,7 @@ from glass_analysis.times import covariances, settled_samples, time_of
 from glass_analysis.walk_times import LENGTHS
 from glass_analysis.walks import acceptances_by_sample, downward_counts, downward_share, feedback_temperatures
 from make_tables import Refusal
+from manifest import Study, study_of
 from place_temperatures import Unlawful, acceptances, even
 
 MOMENTS = (("energy", ENERGY), ("q^2", SQUARE))
@@ -57,14 +58,25 @@ def equilibration(words: Words, options: argparse.Namespace) -> None:
     worst = [(f"{slots.title(slot)}, {what}", last_movers(reports, slot, moment, options.worst))
              for slot in shown for what, moment in MOMENTS]
     print_movers("samples that move most from the last part but one to the last", worst, words.run.samples * len(reports))
-    count = (slots.blocks or words.run.samples) if slots.files == 1 else slots.files
-    slots.end(options, lambda: figures.equilibration(bins, [slots.title(slot) for slot in range(len(slots.names))], shown), count)
+    slots.end(options, lambda: figures.equilibration(bins, [slots.title(slot) for slot in range(len(slots.names))], shown),
+              slots.count(words.run.samples))
+
+
+def check_starts(ordered: Study, random: Study) -> None:
+    """Where manifests stand beside the reports: the plans are the same, pair by pair, and the starts are not."""
+    for one, other in zip(ordered.manifests, random.manifests):
+        if one.plan != other.plan:
+            raise Refusal(f"{one.source} and {other.source} are of other plans: a pair differs in its start alone")
+        if (one.keys["start"], other.keys["start"]) != ("up", "random"):
+            raise Refusal(f"start is {one.keys['start']} in {one.source} and {other.keys['start']} in {other.source}: up and "
+                          "random are wanted")
 
 
 def bracket(words: Words, options: argparse.Namespace) -> None:
     """Runs from ordered spins beside runs of the same couplings from random ones."""
     if not options.random:
         raise Refusal("bracket wants reports of start = \"up\", and --random those of start = \"random\" with the same seeds")
+    check_starts(words.study, study_of(tuple(options.random)))
     ordered = words.of_each(parts_of)
     random: List[Parts] = of_each_report(options.random, parts_of, options.skip)
     slots = words.named
@@ -82,8 +94,8 @@ def bracket(words: Words, options: argparse.Namespace) -> None:
     worst = [(f"{slots.title(slot)}, {what}", farthest_apart(ordered, random, slot, moment, options.worst))
              for slot in shown for what, moment in MOMENTS]
     print_movers("samples that are farthest apart in the last part", worst, words.run.samples * len(ordered))
-    count = (slots.blocks or words.run.samples) if slots.files == 1 else slots.files
-    slots.end(options, lambda: figures.bracket(found, [slots.title(slot) for slot in range(len(slots.names))], shown), count)
+    slots.end(options, lambda: figures.bracket(found, [slots.title(slot) for slot in range(len(slots.names))], shown),
+              slots.count(words.run.samples))
 
 
 class SlotTimes(NamedTuple):

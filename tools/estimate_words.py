@@ -56,6 +56,12 @@ class Slots:
             raise Refusal(f"there is no slot {number}")
         return number
 
+    def count(self, samples: int) -> int:
+        """The number of blocks, of reports of so many samples."""
+        if isinstance(self.blocks, Sequence):
+            return len(set(self.blocks))
+        return self.files if self.files > 1 else self.blocks or samples
+
     def known_betas(self) -> List[float]:
         if not self.betas:
             raise Refusal("the temperatures are needed: --run tells the run file")
