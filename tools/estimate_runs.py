@@ -227,7 +227,8 @@ def walks(words: Words, options: argparse.Namespace) -> None:
     for label, trips in enumerate(sum(one.trips for one in found)):
         print(f"{label:>5} {trips:>12}")
     if run.every != 1:
-        print("warning: not each epoch is recorded, and visits of the ends between records aren't seen: the round trips are too few")
+        print("warning: not each epoch is recorded, and visits of the ends between records aren't seen:\n"
+              "         the round trips are too few")
     if options.feedback:
         print_feedback(words, found)
     slots.end(options, lambda: figures.walk(found[0].drawn), count)

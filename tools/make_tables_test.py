@@ -109,6 +109,11 @@ def test_calls(checks, folder):
     status, out, err = outcome(["heat", "--betas", "0.101", "0.1", *files])
     checks.same("a warning", (status, err.count("\n"), "pair 0 is cut at 4096 entries" in err), (0, 1, True))
     checks.same("no warning at size 4", outcome(["heat", "--betas", "0.101", "0.1", "--size", "4", *files])[2], "")
+    test_one_file(checks, folder, rules, swaps)
+
+
+def test_one_file(checks, folder, rules, swaps):
+    """Both tables in one file, by two names of it, and a folder that isn't there."""
     once = rules.read_bytes()
     twice = ["--rules", str(rules), "--swaps", f"{folder}/./rules.csv"]
     checks.same("both tables in one file", outcome(["heat", "--betas", "1", "0.5", *twice]),

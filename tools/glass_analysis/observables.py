@@ -8,7 +8,7 @@ common to all of them. Only runs with other seeds have all of it.
 from __future__ import annotations
 
 from collections.abc import Sequence
-from typing import Optional, Union
+from typing import Union
 
 import numpy as np
 
