@@ -20,7 +20,7 @@ from glass_analysis.walk_times import LENGTHS
 from glass_analysis.walks import acceptances_by_sample, downward_counts, downward_share, feedback_temperatures
 from make_tables import Refusal
 from manifest import Study, study_of
-from place_temperatures import Unlawful, acceptances, even
+from place_temperatures import Unlawful, acceptances, even, told
 
 MOMENTS = (("energy", ENERGY), ("q^2", SQUARE))
 
@@ -251,6 +251,5 @@ def print_feedback(words: Words, found: Sequence[Walked]) -> None:
     except (Unlawful, ValueError):
         raise Refusal("the measured energies don't rise from slot to slot") from None
     for what, chosen in (("optimised by feedback", feedback_temperatures(temperatures, share)), ("of even acceptance", placed)):
-        rates = acceptances(table, chosen, words.run.sites)
         print(f"temperatures {what}: " + " ".join(f"{value:.6g}" for value in chosen))
-        print(f"  acceptance of exchanges, estimated: {min(rates):.2f} to {max(rates):.2f}")
+        print("  " + told(acceptances(table, chosen, words.run.sites)))

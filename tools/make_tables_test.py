@@ -133,6 +133,10 @@ def test_ranges(checks, folder, files):
     out = outcome(words + files)[1].splitlines()
     # dbeta = 1/4 and V = 64: erfc(sqrt(4) / 2).
     checks.same("even acceptance", out[:2], ["temperatures: 1 1.33333 2 4", "acceptance of exchanges, estimated: 0.16 to 0.16"])
+    # dbeta = 1/4 and V = 512: erfc(sqrt(32) / 2).
+    words[words.index("--size") + 1] = "8"
+    checks.same("acceptance below a hundredth", outcome(words + files)[1].splitlines()[1],
+                "acceptance of exchanges, estimated: 6e-05 to 6e-05")
     out = outcome(["metropolis", "--range", "1.1", "3", "--slots", "12", "--size", "8", "--acceptance", *files])[1]
     checks.same("of the glass", (out.count("\n"), out[:18]), (4, "temperatures: 1.1 "))
 
