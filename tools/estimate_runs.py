@@ -1,4 +1,4 @@
-"""How a run goes: whether it is equilibrated, how long it remembers, and how its configurations walk."""
+"""How a run goes: whether it is equilibrated, its autocorrelation times, and how its configurations walk."""
 from __future__ import annotations
 
 import argparse

@@ -1,8 +1,8 @@
-"""How long the walks through the temperature slots take to forget, sample by sample.
+"""Autocorrelation times of the walks through the temperature slots, sample by sample.
 
 The series is a function of the slot in which a configuration is. Each slot is as probable as each other, so its mean
 over the slots is its mean, exactly: nothing of the run is taken off, and a sample whose configurations hardly move
-shows as one that remembers (R. Alvarez Banos et al., J. Stat. Mech. P06026 (2010)).
+shows by its long time (R. Alvarez Banos et al., J. Stat. Mech. P06026 (2010)).
 """
 from __future__ import annotations
 
