@@ -6,7 +6,7 @@ of a slot are taken as one system, of the energy E0 + E1, since an overlap is of
 """
 from __future__ import annotations
 
-from typing import NamedTuple, Optional, Sequence
+from typing import NamedTuple, Optional, Sequence, Tuple
 
 import numpy as np
 
@@ -16,8 +16,8 @@ from .errors import Numbers
 from .observables import MOMENTS
 from .reports import Integers, Records
 
-# Free energies are solved for to this change of a logarithm, in so many steps at the most.
-PRECISION, STEPS = 1e-6, 2000
+# Free energies are solved for until the expected number of records of each slot is this near to its own, in so many steps.
+PRECISION, STEPS = 1e-7, 200
 # A temperature is refused where the weights of the average sample are those of fewer records than this part of a slot's.
 LEAST_SHARE = 0.1
 
@@ -34,23 +34,43 @@ def free_energies(energies: Integers, betas: Numbers) -> Numbers:
     equations for energies by slot and record.
 
     exp(-f_k) is the sum over the records of exp(-beta_k E) / D(E), with D(E) the sum over the slots j of their number
-    of records times exp(f_j - beta_j E).
+    of records times exp(f_j - beta_j E). So the shares P_k(E) = N exp(f_k - beta_k E) / D(E) of all records add up to
+    the N records of slot k. That is solved by Newton's method, and by the equation itself where a step leads away.
     """
     values, counts = np.unique(energies, return_counts=True)
-    logarithm, records = np.log(counts), np.log(energies.shape[1])
-    exponents = -np.outer(betas, values)
+    records, exponents = energies.shape[1], -np.outer(betas, values)
     # The mean energy between neighbours is the slope of f.
     means = energies.mean(axis=1)
     found = np.concatenate([[0], np.cumsum((means[1:] + means[:-1]) / 2 * np.diff(betas))])
+    parts, missing = shares_of(found, exponents, counts, records)
     for _ in range(STEPS):
-        density = logarithm - log_sum(found[:, None] + exponents + records)
-        later = -log_sum((exponents + density).T)
-        later -= later[0]
-        change = abs(later - found).max()
-        found = later
-        if change < PRECISION:
+        if abs(missing).max() < PRECISION:
             break
-    return found
+        later = found + newton_step(parts, counts, missing)
+        step, left = shares_of(later, exponents, counts, records)
+        if not abs(left).max() < abs(missing).max():
+            later = found - np.log1p(-missing)
+            step, left = shares_of(later, exponents, counts, records)
+        found, parts, missing = later, step, left
+    return found - found[0]
+
+
+def shares_of(found: Numbers, exponents: Numbers, counts: Integers, records: int) -> Tuple[Numbers, Numbers]:
+    """P_k(E) by slot and energy, and by what part of itself each slot's number of records is missed."""
+    logarithms = found[:, None] + exponents
+    parts = np.exp(logarithms - log_sum(logarithms))
+    return parts, 1 - parts @ counts / records
+
+
+def newton_step(parts: Numbers, counts: Integers, missing: Numbers) -> Numbers:
+    """The change of f, 0 at the first slot: the derivative of the sum of P_k by f_j is that of P_k (delta_kj - P_j)."""
+    weighted = parts * counts
+    slope = np.diag(weighted.sum(axis=1)) - weighted @ parts.T
+    try:
+        rest = np.linalg.solve(slope[1:, 1:], missing[1:] * counts.sum() / len(parts))
+    except np.linalg.LinAlgError:
+        return np.full(len(parts), np.nan)
+    return np.concatenate([[0], rest])
 
 
 def log_sum(exponents: Numbers) -> Numbers:
