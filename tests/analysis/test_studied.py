@@ -6,12 +6,14 @@ import tracemalloc
 
 import numpy as np
 import pytest
+from long_run_folder import digest_of
 from make_tables import outcome
 from test_estimates import chain, records_with
 from test_walk_times import walks
 from written import text_of_records, write_run
 
 import estimate
+import manifest
 from glass_analysis import of_each_report, read_report
 
 
@@ -44,6 +46,12 @@ def test_times_tell_three_hard_samples_of_24(tmp_path):
 def test_times_of_samples_that_are_all_settled(tmp_path):
     (tmp_path / "r.txt").write_text(text_of_records(sparse(walks([6] * 4, 1000, 9))))
     assert "settled: for each of 4 samples" in call("times", tmp_path / "r.txt")[1]
+
+
+def test_one_temperature_has_no_walk_and_each_sample_its_series(tmp_path):
+    name = report_of_bonds(tmp_path, 3, [0.25])
+    out = call("times", name)[1]
+    assert "one temperature has no walk" in out and out.splitlines()[-1].split()[3] == "4/4"
 
 
 def test_feedback_of_a_slow_pair(tmp_path):
@@ -130,6 +138,22 @@ def test_samples_each_by_itself(tmp_path):
     assert float(rows[0]["P(0.81250)"]) == float(rows[0]["P(-0.81250)"]) == pytest.approx(0.5 / (13 / 32), abs=1e-6)
 
 
+def write_manifests(reports, run):
+    """As tools/manifest.py does, with a plan of zeros; the seeds are 1, 2 and so on."""
+    for seed, report in enumerate(reports, 1):
+        made = manifest.of_run_file(run, "0" * 64, digest_of(report))
+        manifest.write_manifest(report, made._replace(keys={**made.keys, "seed": seed}))
+
+
+def test_temperatures_of_another_table_are_refused(tmp_path):
+    given, run = [report_of_bonds(tmp_path, seed, [0.25, 0.2]) for seed in (1, 2)], write_run(tmp_path, [4, 5])
+    write_manifests(given, run)
+    assert call("means", *given, "--run", run)[0] == 0
+    write_run(tmp_path, [4, 5.1])
+    status, _, err = call("means", *given, "--run", run)
+    assert status == 2 and "another rule table" in err
+
+
 def test_several_reports_in_one_file(tmp_path):
     h5py = pytest.importorskip("h5py")
     given = [report_of_bonds(tmp_path, seed, [0.25, 0.2]) for seed in (1, 2)]
@@ -144,6 +168,11 @@ def test_several_reports_in_one_file(tmp_path):
                 assert np.array_equal(group[array], getattr(records, array))
     status, _, err = call("export", given[0], given[0], "--hdf5", tmp_path / "none.h5")
     assert status == 2 and "the same rows" in err and not list(tmp_path.glob("none*"))
+    write_manifests(given, write_run(tmp_path, [4, 5]))
+    assert call("export", *given, "--hdf5", tmp_path / "told.h5")[0] == 0
+    with h5py.File(tmp_path / "told.h5") as file:
+        told = file["report_1"].attrs
+        assert (told["seed"], told["start"], told["plan"]) == (2, "random", "0" * 64) and told["report_sha256"] == digest_of(given[1])
 
 
 def test_reports_take_the_room_of_their_numbers_and_one_at_a_time(tmp_path):
