@@ -107,5 +107,5 @@ def walk(records: Records, sample: int = 0, replica: int = 0, labels: Optional[S
     for label in labels if labels is not None else (0, records.slots - 1):
         panel.step(records.epochs[shown], places[shown, label], linewidth=0.8, label=f"began in slot {label}")
     panel.set(xlabel="epoch", ylabel="temperature slot")
-    panel.legend()
+    panel.legend(loc="upper right")
     return figure
