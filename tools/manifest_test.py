@@ -199,7 +199,8 @@ def distinct(parts: List[jackknife.Averages]) -> List[jackknife.Averages]:
 
 def check_errors(checks: Checks) -> None:
     """Four couplings files with ten seeds each: the mean's error is sqrt(D^2 / 4 + M^2 / 40), and the seeds' part of it
-    sqrt(M^2 / 40). With a report a block it comes out 3.4 times too small."""
+    sqrt(M^2 / 40). With a report a block its square is expected to be (30 D^2 / 39 + M^2) / 40: it comes out 3.48 times
+    too small."""
     source = random.Random(20240611)
     studies = [simulated(source) for _ in range(600)]
     truth = math.sqrt(OF_FILES ** 2 / FILES + OF_SEEDS ** 2 / (FILES * SEEDS))
