@@ -20,8 +20,8 @@ A report that no run prints is refused with the number of its first such line.
 
     glass lines run.toml checkpoint > lines.txt; python3 tools/analyse.py lines.txt --temperatures 1.1 1.4
 
-Of what `glass lines` prints it gives the link overlap and the correlation length, each with its error over
-the samples, or of several files over the files: see tools/lines_report.py.
+Of what `glass lines` prints it gives the link overlap and the correlation at half the side, each with its error
+over the samples, or of several files over the files: see tools/lines_report.py.
 """
 import argparse
 import math

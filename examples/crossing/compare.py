@@ -21,7 +21,6 @@ from exit_status import status_of_study  # noqa: E402
 from glass_analysis import Estimate, binder, doubling_bins, jackknife, moments, read_report, round_trips  # noqa: E402
 from glass_analysis.figures import plt, save  # noqa: E402
 from glass_analysis.observables import SQUARE, overlap_edges  # noqa: E402
-from glass_analysis.times import part  # noqa: E402
 from make_tables import Refusal  # noqa: E402
 
 # M. Baity-Jesi et al., Phys. Rev. B 88, 224416 (2013).
@@ -58,8 +57,8 @@ def read_size(size: int, seeds: int) -> Size:
         if records.until != until:
             raise Refusal(f"{records.name} goes to epoch {records.until}, and that of seed 1 to {until}")
         bins = doubling_bins(records.epochs)
-        parts.append(np.stack([in_blocks(moments(part(records, *ends))) for ends in bins], axis=1))
-        overlaps = part(records, *bins[0]).overlaps[:, :, 0] / records.sites
+        parts.append(np.stack([in_blocks(moments(records.part(*ends))) for ends in bins], axis=1))
+        overlaps = records.part(*bins[0]).overlaps[:, :, 0] / records.sites
         counted = np.stack([np.histogram(of_sample, edges, density=True)[0] for of_sample in overlaps.T])
         densities.append(in_blocks((counted + counted[:, ::-1]) / 2))
         trips.append(int(round_trips(records).sum()))
