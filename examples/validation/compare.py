@@ -14,6 +14,7 @@ from typing import List, NamedTuple, Optional, Sequence, Tuple
 
 sys.dont_write_bytecode = True
 from parts import BY_NAME, CRITICAL_BETA, NISHIMORI, here  # noqa: E402
+from runs import SHORTER  # noqa: E402
 
 import numpy as np  # noqa: E402
 from numpy.typing import NDArray  # noqa: E402
@@ -219,8 +220,8 @@ def print_runs(folder: Path) -> None:
         if runs is None:
             continue
         part, total = BY_NAME[name.replace("reference_", "")], total + runs.seconds
-        epochs = part.epochs // (4 if name.startswith("reference_") else 1)
-        print(f"| {name} | {len(runs.whole)} | {part.samples} | {epochs} | {part.skip} | {runs.seconds / 60:.2f} | {halves(runs):.3f} |")
+        shorter = SHORTER if name.startswith("reference_") else 1
+        print(f"| {name} | {len(runs.whole)} | {part.samples} | {part.epochs // shorter} | {part.skip // shorter} | {runs.seconds / 60:.2f} | {halves(runs):.3f} |")
     print(f"| all | | | | | {total / 60:.1f} | |")
 
 

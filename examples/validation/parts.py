@@ -1,8 +1,9 @@
 """The runs that the validation is made of: what each part simulates, and which values are taken of a run.
 
-All runs of a part have seeds of their own, so values of different runs are independent. Samples that have couplings
-alike are turned by a gauge: J of a bond times a random sign of each of its two sites keeps the law of all energies,
-and takes away that samples with one set of couplings follow their shared random numbers together.
+All runs of a part have seeds of their own, so values of different runs are independent. Ferromagnets are turned by
+gauges: J of a bond times a random sign of each of its two sites keeps the law of all energies. Under the heat bath it
+keeps samples with the same couplings from falling together by their shared random numbers; under Metropolis, which sees
+satisfied bonds alone, it would not.
 """
 from __future__ import annotations
 
@@ -30,7 +31,8 @@ Couplings = Callable[[int], List[bytes]]
 
 class Part(NamedTuple):
     """`slots` are words of make_tables; `couplings` is None where the program draws them from the seed; the epochs
-    before `skip` are left out; `runs` is the number of runs of the whole validation."""
+    before `skip` are left out; `runs` is the number of runs of the whole validation; each starts with random spins, but
+    where `start` says up."""
     name: str
     size: int
     rule: str
@@ -44,6 +46,7 @@ class Part(NamedTuple):
     runs: int
     heads: Tuple[str, ...]
     values: Values
+    start: str = "random"
 
     def seed(self, run: int) -> int:
         """The generators' labels don't have the size, so each part has seeds of its own."""
@@ -63,14 +66,14 @@ def ferromagnets(size: int) -> Couplings:
 
 
 def three_glasses(run: int) -> List[bytes]:
-    """The samples of examples/samples_4, each 21 times: copy k of glass n is sample 3 k + n."""
-    return gauges(run, 4, [random_sample(4, 2026, glass, Fraction(1, 2)) for glass in range(3)] * 21)
+    """The samples of examples/samples_4."""
+    return [random_sample(4, 2026, glass, Fraction(1, 2)) for glass in range(3)]
 
 
-def nishimori(beta: float) -> Couplings:
+def nishimori(beta: float, samples: int) -> Couplings:
     """Each bond is negative with the probability 1 / (1 + exp(2 beta))."""
     negative = Fraction(1 / (1 + math.exp(2 * beta)))
-    return lambda run: gauges(run, 8, [random_sample(8, run, sample, negative) for sample in range(256)])
+    return lambda run: [random_sample(8, run, sample, negative) for sample in range(samples)]
 
 
 # ---------------------------------------------------------------- values
@@ -87,7 +90,7 @@ def coldest_energy(energies: Integers, overlaps: Integers, sites: int) -> List[f
 def energies_of_glasses(energies: Integers, overlaps: Integers, sites: int) -> List[float]:
     """Of each of the three glasses in the slots whose exact energies are known."""
     means = energies.mean(axis=(0, 3)) / sites
-    return [float(means[glass::3, slot].mean()) for glass in range(3) for slot in (0, 2, 4)]
+    return [float(means[glass, slot]) for glass in range(3) for slot in (0, 2, 4)]
 
 
 def coldest_overlaps(energies: Integers, overlaps: Integers, sites: int) -> List[float]:
@@ -103,8 +106,9 @@ def least_energies(energies: Integers, overlaps: Integers, sites: int) -> List[f
 
 # ---------------------------------------------------------------- the parts
 
-# Inverse temperature of slot 0 and those of hotter slots for exchange.
-NISHIMORI = {0.2: (0.17, 0.14), 0.4: (0.34, 0.28, 0.22), 0.6: (0.52, 0.44, 0.36), 0.9: (0.8, 0.7, 0.6, 0.5)}
+# By inverse temperature the samples that are printed, the epochs, those that are left out, and the interval: where it is
+# high the motion makes the error, where it is low the disorder.
+NISHIMORI = {0.2: (16, 2000, 100, 2), 0.4: (16, 2000, 100, 2), 0.6: (256, 60, 20, 4), 0.9: (256, 60, 20, 4)}
 CRITICAL_BETA = "0.221654626"
 TRANSITION = "1.1019"
 
@@ -119,22 +123,23 @@ def even(low: str, high: str, slots: int, size: int) -> Tuple[str, ...]:
 
 def all_parts() -> List[Part]:
     known = [f"glass_{glass}_beta_{beta}" for glass in range(3) for beta in ("2", "1", "0.5")]
-    parts = [Part("ferromagnet_4", 4, "heat", betas(0.3, 0.22165463, 0.2, 0.1), ferromagnets(4), 64, 2, 2100, 100, 10, 1600,
+    parts = [Part("ferromagnet_4", 4, "heat", betas(0.3, 0.22165463, 0.2, 0.1), ferromagnets(4), 8, 2, 8100, 100, 4, 1500,
                   tuple(f"beta_{beta}" for beta in ("0.3", "0.22165463", "0.2", "0.1")), energies_by_slot),
-             Part("glasses_4", 4, "metropolis", betas(2, 1.4, 1, 0.7, 0.5), three_glasses, 63, 5, 4500, 500, 40, 1200,
+             Part("glasses_4", 4, "metropolis", betas(2, 1.4, 1, 0.7, 0.5), three_glasses, 3, 5, 20000, 1000, 10, 1400,
                   tuple(known), energies_of_glasses)]
-    parts += [Part(f"nishimori_8_{beta}", 8, "heat", betas(beta, *hotter), nishimori(beta), 256, 5, 400, 200, 20, 400,
-                   (f"beta_{beta}",), coldest_energy) for beta, hotter in NISHIMORI.items()]
+    # All spins up are a state of equilibrium on this line, at its own temperature: one slot, and no hotter ones.
+    parts += [Part(f"nishimori_8_{beta}", 8, "heat", betas(beta), nishimori(beta, samples), samples, 5, epochs, skip, every, 4000,
+                   (f"beta_{beta}",), coldest_energy, "up") for beta, (samples, epochs, skip, every) in NISHIMORI.items()]
     parts += [Part(f"critical_{size}", size, "heat", betas(CRITICAL_BETA), ferromagnets(size), 64, 10, epochs, skip, 8, runs,
                    (f"size_{size}",), coldest_energy)
-              for size, epochs, skip, runs in ((8, 600, 200, 600), (12, 1200, 400, 320), (16, 2400, 800, 240), (24, 2400, 1200, 40))]
+              for size, epochs, skip, runs in ((8, 600, 200, 1000), (12, 1200, 400, 500), (16, 2400, 800, 400), (24, 2400, 1200, 80))]
     parts += [Part(f"binder_{size}", size, "metropolis", even(TRANSITION, "2", slots, size), None, samples, 10, epochs,
                    epochs // 2, epochs // 40, runs, ("q2", "q4"), coldest_overlaps)
-              for size, slots, samples, epochs, runs in ((4, 4, 256, 400, 240), (6, 6, 256, 400, 160), (8, 8, 256, 800, 120),
-                                                        (12, 14, 64, 2000, 40))]
+              for size, slots, samples, epochs, runs in ((4, 4, 256, 400, 600), (6, 6, 256, 400, 400), (8, 8, 256, 800, 300),
+                                                        (12, 14, 64, 2000, 60))]
     parts += [Part(f"ground_{size}", size, "metropolis", even("0.4", "2", slots, size), None, 256, 10, epochs, epochs // 4,
                    epochs // 20, runs, ("least", "one_replica"), least_energies)
-              for size, slots, epochs, runs in ((4, 8, 400, 200), (6, 16, 1000, 120))]
+              for size, slots, epochs, runs in ((4, 8, 400, 400), (6, 16, 1000, 300))]
     return parts
 
 

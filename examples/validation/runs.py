@@ -36,7 +36,7 @@ MEASURED = here / "seed_measured"
 # Of each value that over the whole run, and those over its first and second half.
 WHENS = ("", "_first", "_last")
 # What the independent program makes, and how many of its samples are one set of values; its runs are shorter.
-REFERENCE, SHORTER = {"ferromagnet_4": 1, "glasses_4": 3}, 4
+REFERENCE, SHORTER = {"ferromagnet_4": 1, "glasses_4": 3}, 10
 
 
 class Task(NamedTuple):
@@ -66,17 +66,17 @@ def tables_of(part: Part) -> Path:
     return folder
 
 
-def write_run(part: Part, run: int, folder: Path) -> None:
-    """Run file, tables and couplings."""
+def write_run(part: Part, run: int, folder: Path, copies: int = 1) -> None:
+    """Run file, tables and couplings, which stand in their file so many times."""
     for table in ("rules.csv", "swaps.csv"):
         shutil.copyfile(tables_of(part) / table, folder / table)
     couplings = "random"
     if part.couplings is not None:
         couplings = "file:j.couplings"
-        (folder / "j.couplings").write_bytes(file_bytes(part.size, part.couplings(run)))
+        (folder / "j.couplings").write_bytes(file_bytes(part.size, part.couplings(run) * copies))
     lines = [f"size = {part.size}", f'rule = "{part.rule}"', 'rules = "rules.csv"', 'swaps = "swaps.csv"',
              f'couplings = "{couplings}"', f"sweeps = {part.sweeps}", f"seed = {part.seed(run)}",
-             f"samples = {part.samples}", f"epochs = {part.epochs}", f"every = {part.every}", 'start = "random"',
+             f"samples = {part.samples * copies}", f"epochs = {part.epochs}", f"every = {part.every}", f'start = "{part.start}"',
              "spins = false"]
     (folder / "run.toml").write_text("\n".join(lines) + "\n")
 
@@ -100,15 +100,16 @@ def of_program(part: Part, run: int, program: str) -> List[float]:
 
 def of_reference(part: Part, run: int) -> List[List[float]]:
     """Of each set of samples: none of them shares a number with another, so each set has the worth of a run."""
+    copies, own = 64 // part.samples, REFERENCE[part.name]
     from reference.arrays import Philox, tempering_of_files
     with tempfile.TemporaryDirectory(dir=MEASURED) as name:
         folder = Path(name)
-        write_run(part, run, folder)
+        write_run(part, run, folder, copies)
         tempering = tempering_of_files(folder, Philox(part.seed(run)))
         energies, overlaps = tempering.records(part.epochs // SHORTER, part.every)
-    skipped, own = part.skip // part.every // SHORTER, REFERENCE[part.name]
+    skipped = part.skip // part.every // SHORTER
     return [taken(part, energies[skipped:, first:first + own], overlaps[skipped:, first:first + own])
-            for first in range(0, part.samples, own)]
+            for first in range(0, part.samples * copies, own)]
 
 
 def seconds() -> float:

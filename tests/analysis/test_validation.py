@@ -101,7 +101,7 @@ def test_values_of_a_run_and_of_its_halves():
     part = parts.BY_NAME["nishimori_8_0.2"]
     energies = np.arange(8.0).reshape(4, 2, 1, 1).repeat(2, axis=3) * 512
     assert runs.taken(part, energies, np.zeros((4, 2, 1))) == pytest.approx([3.5, 1.5, 5.5])
-    glasses = np.zeros((1, 6, 5, 2)) + np.array([0, 64, 128, 0, 64, 128]).reshape(1, 6, 1, 1)
+    glasses = np.zeros((1, 3, 5, 2)) + np.array([0, 64, 128]).reshape(1, 3, 1, 1)
     assert parts.energies_of_glasses(glasses, None, 64) == pytest.approx([0, 0, 0, 1, 1, 1, 2, 2, 2])
     least = np.array([[[[-8, -8], [-4, 0]], [[0, 0], [-2, -8]]]]).reshape(1, 2, 2, 2)
     assert parts.least_energies(least, None, 1) == [-8.0, 0.5]
@@ -109,7 +109,7 @@ def test_values_of_a_run_and_of_its_halves():
 
 def test_each_set_of_the_independent_programs_samples_is_a_line(tmp_path, monkeypatch):
     monkeypatch.setattr(runs, "MEASURED", tmp_path)
-    part = parts.BY_NAME["glasses_4"]._replace(epochs=16, skip=0, every=2)
+    part = parts.BY_NAME["glasses_4"]._replace(epochs=40, skip=0, every=2)
     lines = runs.of_reference(part, 1)
     assert len(lines) == 21 and {len(line) for line in lines} == {27}
     # At the lowest temperature no energy is below the ground state's: examples/samples_4.
@@ -124,11 +124,11 @@ def test_no_two_runs_have_one_seed():
 def test_runs_that_are_kept_are_not_made_again(tmp_path, monkeypatch):
     monkeypatch.setattr(runs, "MEASURED", tmp_path)
     part = parts.BY_NAME["critical_24"]
-    wanted = runs.tasks("glass", 0.1)
+    wanted = runs.tasks("glass", 0.05)
     assert [task.run for task in wanted if task.part == part.name] == [1, 2, 3, 4] and wanted[0].run == 1
     runs.keep(runs.Task(part.name, 2, "glass"), [[2, part.seed(2), 1.5, 0.0, 1.0, 2.0]])
     runs.keep(runs.Task(part.name, 3, "glass"), [[3, part.seed(3), 2.5, 2.0, 1.0, 2.0]])
-    assert [task.run for task in runs.tasks("glass", 0.1) if task.part == part.name] == [1, 4]
+    assert [task.run for task in runs.tasks("glass", 0.05) if task.part == part.name] == [1, 4]
     kept = compare.read_runs(tmp_path, part.name)
     assert (kept.seconds, kept.whole.tolist(), kept.first.tolist(), kept.last.tolist()) == (4.0, [[0], [2]], [[1], [1]], [[2], [2]])
     assert compare.read_runs(tmp_path, "critical_8") is None
