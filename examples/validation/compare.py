@@ -10,11 +10,11 @@ import csv
 import math
 import sys
 from pathlib import Path
-from typing import List, NamedTuple, Optional, Sequence, Tuple
+from typing import Dict, List, NamedTuple, Optional, Sequence, Tuple
 
 sys.dont_write_bytecode = True
 from parts import BY_NAME, CRITICAL_BETA, NISHIMORI, here  # noqa: E402
-from runs import SHORTER  # noqa: E402
+from runs import REFERENCE, SHORTER  # noqa: E402
 
 import numpy as np  # noqa: E402
 from numpy.typing import NDArray  # noqa: E402
@@ -53,6 +53,8 @@ CRITICAL_ENERGY = Known(-3 * 0.3302022, 3 * 0.0000005)
 NU, OMEGA = 0.62998, 0.825
 # U4 = 1.4899(28) at the transition: M. Baity-Jesi et al., Phys. Rev. B 88, 224416 (2013).
 BINDER = Known((3 - 1.4899) / 2, 0.0028 / 2)
+# With fewer runs than these an error is too rough to weigh sizes by it.
+ENOUGH = 5
 # Mean ground-state energies per site: K. F. Pal, Physica A 223, 283 (1996).
 GROUND = {4: Known(-1.73749, 0.00008), 6: Known(-1.77130, 0.00012)}
 
@@ -75,6 +77,11 @@ def deviation(values: Numbers) -> Estimate:
 def distance(ours: Estimate, known: Known) -> float:
     """In errors, both of them taken together."""
     return float((ours.value - known.value) / math.hypot(float(ours.error), known.error))
+
+
+def chance(away: float, runs: int) -> float:
+    """Of a distance in errors as great or greater: Student's t, since the error is itself from so many runs."""
+    return float(2 * stats.t.sf(abs(away), runs - 1))
 
 
 def probability(values: Numbers, known: Sequence[float]) -> float:
@@ -130,7 +137,7 @@ def read_runs(folder: Path, name: str) -> Optional[Runs]:
     if not path.exists():
         return None
     with open(path, newline="") as stream:
-        lines = list(csv.DictReader(stream))
+        lines = sorted(csv.DictReader(stream), key=lambda line: int(line["run"]))
     heads = BY_NAME[name.replace("reference_", "")].heads
     if len({tuple(line.values()) for line in lines}) != len(lines):
         raise Refusal(f"{path} has a line twice")
@@ -144,7 +151,7 @@ def read_runs(folder: Path, name: str) -> Optional[Runs]:
 
 
 def spelled(value: float, places: int = 6) -> str:
-    return f"{value:.{places}f}"
+    return "-" if math.isnan(value) else f"{value:.{places}f}"
 
 
 def head(*columns: str) -> None:
@@ -156,21 +163,32 @@ def line(what: str, known: Known, ours: Estimate, places: int = 6) -> None:
     print(f"| {what} | {other} | {spelled(float(ours.value), places)} | {spelled(float(ours.error), places)} | {distance(ours, known):+.2f} |")
 
 
+def beside(parts: Sequence[Numbers]) -> Numbers:
+    """The values of several parts whose runs of one number have couplings in common, as far as all have runs."""
+    number = min(map(len, parts))
+    return np.concatenate([values[:number] for values in parts], axis=1)
+
+
 def print_exact(folder: Path) -> List[Tuple[float, int]]:
-    """The rows of exact numbers, and by part the probability and the number of values."""
+    """The rows of exact numbers, and by study the probability and the number of values."""
     parts = [("4³ ferromagnet", "ferromagnet_4", [f"β = {beta}" for beta in ("0.3", "0.22165463", "0.2", "0.1")], FERROMAGNET),
              ("exact glasses of 4³", "glasses_4", [f"glass {glass}, β = {beta}" for glass in range(3) for beta in ("2", "1", "0.5")],
               exact_glasses())]
     parts += [("Nishimori line, 8³", f"nishimori_8_{beta}", [f"β = {beta}"], [-3 * math.tanh(beta)]) for beta in NISHIMORI]
     head("energy per site", "exact", "measured", "error", "in errors")
-    found = []
+    studies: Dict[str, List[Tuple[Numbers, Sequence[float]]]] = {}
     for what, name, labels, known in parts:
         runs = read_runs(folder, name)
         if runs is None:
             continue
         for n, label in enumerate(labels):
             line(f"{what}, {label}", Known(known[n]), Estimate(*(part[n] for part in deviation(runs.whole))))
-        found.append((probability(runs.whole, known), len(labels)))
+        studies.setdefault(what, []).append((runs.whole, known))
+    found = []
+    for what, own in studies.items():
+        exact = [value for _, known in own for value in known]
+        found.append((probability(beside([values for values, _ in own]), exact), len(exact)))
+        print(f"| all of {what}: probability | | {found[-1][0]:.3f} | | |")
     return found
 
 
@@ -191,38 +209,53 @@ def print_reference(folder: Path) -> None:
         print(f"| {name}, all: probability | | {chances[0]:.3f} | | | {chances[1]:.3f} | | |")
 
 
+def published(what: str, known: Known, ours: Estimate, runs: int) -> None:
+    away = distance(ours, known)
+    print(f"| {what} | {spelled(known.value, 5)} ± {spelled(known.error, 5)} | {spelled(float(ours.value), 5)} "
+          f"| {spelled(float(ours.error), 5)} | {runs} | {away:+.2f} | {chance(away, runs):.2f} |")
+
+
 def print_published(folder: Path) -> None:
-    head("what", "published", "measured", "error", "in errors")
-    sizes = [(size, read_runs(folder, f"critical_{size}")) for size in (8, 12, 16, 24)]
-    energies = {size: deviation(runs.whole[:, 0]) for size, runs in sizes if runs is not None}
+    head("what", "published", "measured", "error", "runs", "in errors", "probability")
+    sizes = {size: read_runs(folder, f"critical_{size}") for size in (8, 12, 16, 24)}
+    energies = {size: deviation(runs.whole[:, 0]) for size, runs in sizes.items() if runs is not None}
     for size, energy in energies.items():
-        print(f"| energy of the {size}³ ferromagnet at β = {CRITICAL_BETA} | | {spelled(float(energy.value))} | {spelled(float(energy.error))} | |")
-    if len(energies) > 2:
-        limit, square = at_infinity(list(energies), list(energies.values()))
-        line("the same of the infinite lattice, from these", CRITICAL_ENERGY, limit)
-        print(f"| chi-square of that fit, with {len(energies) - 3} degrees of freedom | | {square:.2f} | | |")
+        runs = len(sizes[size].whole)  # type: ignore[union-attr]
+        print(f"| energy of the {size}³ ferromagnet at β = {CRITICAL_BETA} | | {spelled(float(energy.value), 5)} "
+              f"| {spelled(float(energy.error), 5)} | {runs} | | |")
+    are_known = {size: energy for size, energy in energies.items() if len(sizes[size].whole) >= ENOUGH}  # type: ignore[union-attr]
+    if len(are_known) > 2:
+        limit, square = at_infinity(list(are_known), list(are_known.values()))
+        published("the same of the infinite lattice, from these", CRITICAL_ENERGY, limit, ENOUGH)
+        print(f"| chi-square of that fit, with {len(are_known) - 3} degrees of freedom | | {square:.2f} | | | | |")
     for size in (4, 6, 8, 12):
-        runs = read_runs(folder, f"binder_{size}")
-        if runs is not None:
-            line(f"Binder ratio at T = 1.1019, size {size}", BINDER, jackknife(runs.whole, binder), 5)
+        found = read_runs(folder, f"binder_{size}")
+        if found is not None:
+            published(f"Binder ratio at T = 1.1019, size {size}", BINDER, jackknife(found.whole, binder), len(found.whole))
     for size, known in GROUND.items():
-        runs = read_runs(folder, f"ground_{size}")
-        if runs is not None:
-            line(f"mean ground-state energy per site, size {size}", known, Estimate(*(part[0] for part in deviation(runs.whole))), 5)
-            print(f"| samples of size {size} whose least energy one replica alone has seen | | {spelled(runs.whole[:, 1].mean(), 5)} | | |")
+        found = read_runs(folder, f"ground_{size}")
+        if found is not None:
+            published(f"mean ground-state energy per site, size {size}", known, Estimate(*(part[0] for part in deviation(found.whole))),
+                      len(found.whole))
+            print(f"| samples of size {size} whose least energy one replica alone has seen | | {spelled(found.whole[:, 1].mean(), 5)} "
+                  "| | | | |")
 
 
 def print_runs(folder: Path) -> None:
-    head("part", "runs", "samples", "epochs", "left out", "processor minutes", "probability of halves as different")
-    total = 0.0
+    """What ran, and how long all runs would take by the same rates."""
+    head("part", "runs", "of", "samples", "epochs", "left out", "processor minutes", "of all runs", "probability of halves as different")
+    total = whole = 0.0
     for name in [*BY_NAME, *(f"reference_{name}" for name in BY_NAME)]:
-        runs = read_runs(folder, name)
+        runs, part, is_own = read_runs(folder, name), BY_NAME[name.replace("reference_", "")], name in BY_NAME
         if runs is None:
             continue
-        part, total = BY_NAME[name.replace("reference_", "")], total + runs.seconds
-        shorter = SHORTER if name.startswith("reference_") else 1
-        print(f"| {name} | {len(runs.whole)} | {part.samples} | {part.epochs // shorter} | {part.skip // shorter} | {runs.seconds / 60:.2f} | {halves(runs):.3f} |")
-    print(f"| all | | | | | {total / 60:.1f} | |")
+        epochs, skip = (part.epochs, part.skip) if is_own else (part.epochs // SHORTER, part.skip // SHORTER)
+        samples = part.samples if is_own else REFERENCE[part.name]
+        minutes, number = runs.seconds / 60, len(runs.whole)
+        total, whole = total + minutes, whole + (minutes * part.runs / number if is_own else 0)
+        all_runs, rate = (f"{part.runs}", f"{minutes * part.runs / number:.0f}") if is_own else ("", "")
+        print(f"| {name} | {number} | {all_runs} | {samples} | {epochs} | {skip} | {minutes:.2f} | {rate} | {spelled(halves(runs), 2)} |")
+    print(f"| all | | | | | | {total:.1f} | {whole:.0f} | |")
 
 
 def main(words: List[str]) -> int:

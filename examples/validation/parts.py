@@ -71,7 +71,8 @@ def three_glasses(run: int) -> List[bytes]:
 
 
 def nishimori(beta: float, samples: int) -> Couplings:
-    """Each bond is negative with the probability 1 / (1 + exp(2 beta))."""
+    """Each bond is negative with the probability 1 / (1 + exp(2 beta)), which 32 bits of a run's number and its sample
+    decide; so runs of one number have much of their couplings in common at all beta."""
     negative = Fraction(1 / (1 + math.exp(2 * beta)))
     return lambda run: [random_sample(8, run, sample, negative) for sample in range(samples)]
 
@@ -125,7 +126,7 @@ def all_parts() -> List[Part]:
     known = [f"glass_{glass}_beta_{beta}" for glass in range(3) for beta in ("2", "1", "0.5")]
     parts = [Part("ferromagnet_4", 4, "heat", betas(0.3, 0.22165463, 0.2, 0.1), ferromagnets(4), 8, 2, 8100, 100, 4, 1500,
                   tuple(f"beta_{beta}" for beta in ("0.3", "0.22165463", "0.2", "0.1")), energies_by_slot),
-             Part("glasses_4", 4, "metropolis", betas(2, 1.4, 1, 0.7, 0.5), three_glasses, 3, 5, 20000, 1000, 10, 1400,
+             Part("glasses_4", 4, "metropolis", betas(2, 1.4, 1, 0.7, 0.5), three_glasses, 3, 5, 20000, 1000, 10, 700,
                   tuple(known), energies_of_glasses)]
     # All spins up are a state of equilibrium on this line, at its own temperature: one slot, and no hotter ones.
     parts += [Part(f"nishimori_8_{beta}", 8, "heat", betas(beta), nishimori(beta, samples), samples, 5, epochs, skip, every, 4000,
@@ -139,7 +140,7 @@ def all_parts() -> List[Part]:
                                                         (12, 14, 64, 2000, 60))]
     parts += [Part(f"ground_{size}", size, "metropolis", even("0.4", "2", slots, size), None, 256, 10, epochs, epochs // 4,
                    epochs // 20, runs, ("least", "one_replica"), least_energies)
-              for size, slots, epochs, runs in ((4, 8, 400, 400), (6, 16, 1000, 300))]
+              for size, slots, epochs, runs in ((4, 8, 400, 400), (6, 16, 1000, 100))]
     return parts
 
 

@@ -67,13 +67,15 @@ def tables_of(part: Part) -> Path:
 
 
 def write_run(part: Part, run: int, folder: Path, copies: int = 1) -> None:
-    """Run file, tables and couplings, which stand in their file so many times."""
+    """Run file, tables and couplings, for so many times the part's samples."""
     for table in ("rules.csv", "swaps.csv"):
         shutil.copyfile(tables_of(part) / table, folder / table)
     couplings = "random"
     if part.couplings is not None:
         couplings = "file:j.couplings"
-        (folder / "j.couplings").write_bytes(file_bytes(part.size, part.couplings(run) * copies))
+        samples = part.couplings(run)
+        samples = (samples * copies)[:max(len(samples), copies * part.samples)]
+        (folder / "j.couplings").write_bytes(file_bytes(part.size, samples))
     lines = [f"size = {part.size}", f'rule = "{part.rule}"', 'rules = "rules.csv"', 'swaps = "swaps.csv"',
              f'couplings = "{couplings}"', f"sweeps = {part.sweeps}", f"seed = {part.seed(run)}",
              f"samples = {part.samples * copies}", f"epochs = {part.epochs}", f"every = {part.every}", f'start = "{part.start}"',
@@ -136,9 +138,9 @@ def runs_done(part: str, program: str) -> List[int]:
         return [int(line["run"]) for line in csv.DictReader(stream)]
 
 
-def tasks(program: str, share: float) -> List[Task]:
-    """Those that are left, such that all parts get on alike."""
-    parts = [part for part in PARTS if program != "reference" or part.name in REFERENCE]
+def tasks(program: str, share: float, names: Sequence[str] = tuple(BY_NAME)) -> List[Task]:
+    """Those of some parts that are left, such that all get on alike."""
+    parts = [part for part in PARTS if part.name in (REFERENCE if program == "reference" else names)]
     found = [(run / part.runs, Task(part.name, run, program)) for part in parts
              for run in set(range(1, max(3, round(share * part.runs)) + 1)) - set(runs_done(part.name, program))]
     return [task for _, task in sorted(found)]
@@ -161,6 +163,7 @@ def main() -> int:
     parser.add_argument("share", type=float, metavar="SHARE", help="of the runs of the whole validation")
     parser.add_argument("--lanes", type=int, default=1, metavar="N", help="runs at one time (1)")
     parser.add_argument("--minutes", type=float, metavar="M", help="begin no run later")
+    parser.add_argument("--parts", nargs="+", default=list(BY_NAME), choices=list(BY_NAME), metavar="PART", help="these alone")
     options = parser.parse_args()
     if not (0 < options.share <= 100 and 1 <= options.lanes <= 256):
         raise Refusal("a share above 0 is wanted, and --lanes from 1 to 256")
@@ -169,7 +172,7 @@ def main() -> int:
         tables_of(part)
     end = time.monotonic() + 60 * options.minutes if options.minutes else None
     program = options.program if options.program == "reference" else os.path.realpath(options.program)
-    left = tasks(program, options.share)
+    left = tasks(program, options.share, options.parts)
     with Pool(options.lanes) as pool:
         for task, lines in pool.imap_unordered(made, left):
             keep(task, lines)

@@ -28,11 +28,11 @@ def studies(count, number):
 
 
 def test_the_probability_of_exact_means_is_uniform_where_values_follow_each_other_and_runs_are_few():
-    chances = [compare.probability(values, KNOWN) for values in studies(2000, 12)]
+    chances = [compare.probability(values, KNOWN) for values in studies(700, 12)]
     assert stats.kstest(chances, "uniform").pvalue > 0.01
     # Squares of distances in errors, summed as if the values were independent, are no chi-square with three degrees.
     sums = [sum(compare.distance(Estimate(*(part[n] for part in compare.deviation(values))), compare.Known(KNOWN[n])) ** 2 for n in range(3))
-            for values in studies(2000, 12)]
+            for values in studies(700, 12)]
     assert stats.kstest(stats.chi2.sf(sums, 3), "uniform").pvalue < 1e-6
 
 
@@ -46,6 +46,8 @@ def test_a_wrong_number_is_seen():
 
 def test_one_value_is_students_test():
     values = np.array([[1.0], [2.0], [4.0], [5.5]])
+    away = compare.distance(Estimate(*(part[0] for part in compare.deviation(values))), compare.Known(2.0))
+    assert compare.chance(away, 4) == pytest.approx(stats.ttest_1samp(values[:, 0], 2.0).pvalue)
     assert compare.probability(values, [2.0]) == pytest.approx(stats.ttest_1samp(values[:, 0], 2.0).pvalue)
     assert math.isnan(compare.probability(values[:2], [2.0]))
 
@@ -54,8 +56,19 @@ def test_probabilities_are_joined_by_their_chi_squares():
     chances = stats.chi2.sf([3.0, 7.5], [4, 9])
     assert compare.chi_square(list(zip(chances, [4, 9]))) == pytest.approx((10.5, 13, stats.chi2.sf(10.5, 13)))
     random = np.random.default_rng(3)
-    joined = [compare.chi_square([(random.random(), 4), (random.random(), 9), (random.random(), 1)])[2] for _ in range(2000)]
+    joined = [compare.chi_square([(random.random(), 4), (random.random(), 9), (random.random(), 1)])[2] for _ in range(700)]
     assert stats.kstest(joined, "uniform").pvalue > 0.01
+
+
+def test_parts_whose_runs_have_couplings_in_common_are_one_study():
+    random = np.random.default_rng(5)
+    chances, apart = [], []
+    for _ in range(700):
+        common = random.normal(size=(20, 1))
+        parts = [common + 0.3 * random.normal(size=(20, 1)), common[:15] + 0.3 * random.normal(size=(15, 1))]
+        chances.append(compare.probability(compare.beside(parts), [0, 0]))
+        apart.append(compare.chi_square([(compare.probability(values, [0]), 1) for values in parts])[2])
+    assert stats.kstest(chances, "uniform").pvalue > 0.01 and stats.kstest(apart, "uniform").pvalue < 1e-6
 
 
 def test_a_distance_has_both_errors():
