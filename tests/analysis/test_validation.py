@@ -33,7 +33,7 @@ def test_the_probability_of_exact_means_is_uniform_where_values_follow_each_othe
     # Squares of distances in errors, summed as if the values were independent, are no chi-square with three degrees.
     sums = [sum(compare.distance(Estimate(*(part[n] for part in compare.deviation(values))), compare.Known(KNOWN[n])) ** 2 for n in range(3))
             for values in studies(700, 12)]
-    assert stats.kstest(stats.chi2.sf(sums, 3), "uniform").pvalue < 1e-6
+    assert stats.kstest(stats.chi2.sf(sums, 3), "uniform").pvalue < 1e-4
 
 
 def test_a_wrong_number_is_seen():
@@ -68,7 +68,7 @@ def test_parts_whose_runs_have_couplings_in_common_are_one_study():
         parts = [common + 0.3 * random.normal(size=(20, 1)), common[:15] + 0.3 * random.normal(size=(15, 1))]
         chances.append(compare.probability(compare.beside(parts), [0, 0]))
         apart.append(compare.chi_square([(compare.probability(values, [0]), 1) for values in parts])[2])
-    assert stats.kstest(chances, "uniform").pvalue > 0.01 and stats.kstest(apart, "uniform").pvalue < 1e-6
+    assert stats.kstest(chances, "uniform").pvalue > 0.01 and stats.kstest(apart, "uniform").pvalue < 1e-4
 
 
 def test_a_distance_has_both_errors():
