@@ -202,7 +202,7 @@ def check_errors(checks: Checks) -> None:
     sqrt(M^2 / 40). With a report a block its square is expected to be (30 D^2 / 39 + M^2) / 40: it comes out 3.48 times
     too small."""
     source = random.Random(20240611)
-    studies = [simulated(source) for _ in range(600)]
+    studies = [simulated(source) for _ in range(300)]
     truth = math.sqrt(OF_FILES ** 2 / FILES + OF_SEEDS ** 2 / (FILES * SEEDS))
     of_seeds = OF_SEEDS / math.sqrt(FILES * SEEDS)
     means = [sum(map(sum, study)) / (FILES * SEEDS) for study in studies]
