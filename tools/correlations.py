@@ -32,7 +32,7 @@ LONGEST_LINE = 80
 COUNT = rb"(0|[1-9][0-9]{0,6})"
 FIRST = re.compile(rb"age 1 size=%b slots=%b samples=%b rule=(heat|metropolis) tw=%b\n" % ((COUNT,) * 4))
 LINE = re.compile(rb"age," + b",".join([COUNT] * 4) + rb",(0|-?[1-9][0-9]{0,5})\n")
-NOTE = """note: the samples of one run share each random number, so their spread gives no error of a mean.
+NOTE = """note: the samples of one run share each random number, so their standard deviation gives no error of a mean.
       Several texts of one waiting time, of other seeds, have one."""
 
 

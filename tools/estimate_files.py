@@ -20,14 +20,16 @@ def lengths(options: argparse.Namespace) -> None:
     link, correlation = jackknife(parts, link_overlap), jackknife(parts)
     title = first.name if slots.files == 1 else f"{slots.files} files"
     print(f"{title}: size {first.size}, slots {first.slots}, samples {first.samples}, epoch {first.epoch}")
-    print(f"slot {slots.head:>10} {'link':>11} {'error':>9} {'xi_12':>9} {'error':>9} {'cut':>4} {'tail':>8} {'nearer':>8}")
+    print(f"slot {slots.head:>10} {'link':>11} {'error':>9} {'xi_12':>9} {'error':>9} {'cut':>4}"
+          f" {'tail':>8} {'nearer':>8}")
     for slot, name in enumerate(slots.names):
         line = f"{slot:>4} {name:>10} {link.value[slot]:>11.6f} {link.error[slot]:>9.6f}"
         found = coherence_length(parts[:, slot], first.size)
         if found.length is None:
             print(f"{line}  no length: {found.refusal}")
         else:
-            print(f"{line} {found.length.value:>9.4f} {found.length.error:>9.4f} {found.cut:>4} {found.tail:>+8.4f} {found.nearer:>+8.4f}")
+            print(f"{line} {found.length.value:>9.4f} {found.length.error:>9.4f} {found.cut:>4}"
+                  f" {found.tail:>+8.4f} {found.nearer:>+8.4f}")
     print("xi_12 = I_2 / I_1, I_k the sum of r^k C(r) up to the cut and of the fitted shape beyond it, which adds the tail;\n"
           "nearer: the change with a cut one step nearer")
     slots.end(options, lambda: figures.correlations([slots.title(slot) for slot in range(len(slots.names))],

@@ -1,4 +1,4 @@
-"""How a run goes: whether it is equilibrated, how long it remembers, and how its configurations walk."""
+"""How a run goes: whether it is equilibrated, its autocorrelation times, and how its configurations walk."""
 from __future__ import annotations
 
 import argparse
@@ -20,7 +20,7 @@ from glass_analysis.walk_times import LENGTHS
 from glass_analysis.walks import acceptances_by_sample, downward_counts, downward_share, feedback_temperatures
 from make_tables import Refusal
 from manifest import Study, study_of
-from place_temperatures import Unlawful, acceptances, even
+from place_temperatures import Unlawful, acceptances, even, told
 
 MOMENTS = (("energy", ENERGY), ("q^2", SQUARE))
 
@@ -227,7 +227,8 @@ def walks(words: Words, options: argparse.Namespace) -> None:
     for label, trips in enumerate(sum(one.trips for one in found)):
         print(f"{label:>5} {trips:>12}")
     if run.every != 1:
-        print("warning: not each epoch is recorded, and visits of the ends between records aren't seen: the round trips are too few")
+        print("warning: not each epoch is recorded, and visits of the ends between records aren't seen:\n"
+              "         the round trips are too few")
     if options.feedback:
         print_feedback(words, found)
     slots.end(options, lambda: figures.walk(found[0].drawn), count)
@@ -250,6 +251,5 @@ def print_feedback(words: Words, found: Sequence[Walked]) -> None:
     except (Unlawful, ValueError):
         raise Refusal("the measured energies don't rise from slot to slot") from None
     for what, chosen in (("optimised by feedback", feedback_temperatures(temperatures, share)), ("of even acceptance", placed)):
-        rates = acceptances(table, chosen, words.run.sites)
         print(f"temperatures {what}: " + " ".join(f"{value:.6g}" for value in chosen))
-        print(f"  acceptance of exchanges, estimated: {min(rates):.2f} to {max(rates):.2f}")
+        print("  " + told(acceptances(table, chosen, words.run.sites)))

@@ -30,7 +30,6 @@ import io
 import os
 import re
 import sys
-import tempfile
 from decimal import ROUND_HALF_EVEN, ROUND_HALF_UP, Context, Decimal, localcontext
 from fractions import Fraction
 from pathlib import Path

@@ -109,6 +109,11 @@ def test_calls(checks, folder):
     status, out, err = outcome(["heat", "--betas", "0.101", "0.1", *files])
     checks.same("a warning", (status, err.count("\n"), "pair 0 is cut at 4096 entries" in err), (0, 1, True))
     checks.same("no warning at size 4", outcome(["heat", "--betas", "0.101", "0.1", "--size", "4", *files])[2], "")
+    test_one_file(checks, folder, rules, swaps)
+
+
+def test_one_file(checks, folder, rules, swaps):
+    """Both tables in one file, by two names of it, and a folder that isn't there."""
     once = rules.read_bytes()
     twice = ["--rules", str(rules), "--swaps", f"{folder}/./rules.csv"]
     checks.same("both tables in one file", outcome(["heat", "--betas", "1", "0.5", *twice]),
@@ -128,6 +133,10 @@ def test_ranges(checks, folder, files):
     out = outcome(words + files)[1].splitlines()
     # dbeta = 1/4 and V = 64: erfc(sqrt(4) / 2).
     checks.same("even acceptance", out[:2], ["temperatures: 1 1.33333 2 4", "acceptance of exchanges, estimated: 0.16 to 0.16"])
+    # dbeta = 1/4 and V = 512: erfc(sqrt(32) / 2).
+    words[words.index("--size") + 1] = "8"
+    checks.same("acceptance below a hundredth", outcome(words + files)[1].splitlines()[1],
+                "acceptance of exchanges, estimated: 6e-05 to 6e-05")
     out = outcome(["metropolis", "--range", "1.1", "3", "--slots", "12", "--size", "8", "--acceptance", *files])[1]
     checks.same("of the glass", (out.count("\n"), out[:18]), (4, "temperatures: 1.1 "))
 

@@ -35,7 +35,8 @@ def rule_thresholds(name: Path, rule: str) -> List[List[int]]:
         raise Refusal(f"{name} can't be read: {fault.strerror}") from None
     except ValueError:
         raise Refusal(f"{name} is no table of thresholds") from None
-    if not 1 <= len(rows) <= GREATEST_SLOTS or any(len(row) != WIDTHS[rule] or not 0 <= min(row) <= max(row) <= SCALE for row in rows):
+    lawful = all(len(row) == WIDTHS[rule] and 0 <= min(row) and max(row) <= SCALE for row in rows)
+    if not 1 <= len(rows) <= GREATEST_SLOTS or not lawful:
         raise Refusal(f"{name} is no rule table of {rule}")
     return rows
 

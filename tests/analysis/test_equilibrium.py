@@ -9,7 +9,7 @@ from glass_analysis.equilibrium import (check_pairs, doubling_bins, equilibratio
 from glass_analysis.observables import ENERGY, SQUARE
 
 EPOCHS, SAMPLES = 4096, 64
-# Five of a hundred samples forget their start in twenty times the run.
+# Five of a hundred samples equilibrate in twenty times the run.
 HARD, TIME = [3, 30, 57], 20 * EPOCHS
 
 

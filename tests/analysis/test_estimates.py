@@ -143,7 +143,7 @@ def test_round_trips_by_hand():
 
 
 def test_what_samples_have_in_common_shows_over_seeds_alone():
-    # x = (what the sample has) + (what the run's random numbers bring to all its samples), of spread 1 and 0.5.
+    # x = (what the sample has) + (what the run's random numbers bring to all its samples), of standard deviation 1 and 0.5.
     random = np.random.default_rng(5)
     runs = [random.normal(0, 1, 64) + random.normal(0, 0.5) for _ in range(400)]
     of_one = np.mean([jackknife(blocks([run.reshape(64, 1)])).error for run in runs])

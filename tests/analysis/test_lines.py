@@ -58,7 +58,7 @@ def test_the_length_of_a_known_shape(noise):
         found = coherence_length(noisy(shape, noise, 16, seed), 32)
         assert found.refusal == "" and 5 <= found.cut <= 14
         away.append((found.length.value - wanted) / found.length.error)
-    # Distances in errors: their mean is 0 to within 0.2, their spread 1; a cut without its tail is many errors low.
+    # Distances in errors: their mean is 0 to within 0.2, their standard deviation 1; a cut without its tail is many errors low.
     assert abs(np.mean(away)) < 0.7 and 0.7 < np.std(away) < 1.4
 
 

@@ -113,7 +113,8 @@ def test_the_worst_samples_stand_below_the_parts(tmp_path):
     energies[:256, 5] += 12
     (tmp_path / "r.txt").write_text(text_of_records(records_with(energies=energies, labels=np.zeros(energies.shape, int))))
     out = call("equilibration", tmp_path / "r.txt", "--worst", 1)[1]
-    assert re.search(r"of 16 samples the farthest is by chance beyond 2\.\d in one study of two\n  slot 0, energy: \S+ sample 5 \(-", out)
+    assert re.search(r"of 16 samples the farthest is by chance beyond 2\.\d in one study of two\n"
+                     r"  slot 0, energy: \S+ sample 5 \(-", out)
 
 
 def test_samples_each_by_itself(tmp_path):

@@ -62,6 +62,22 @@ def test_curves_cross_where_the_smaller_size_comes_to_be_above():
     assert math.isnan(crossing(temperatures, large, small)) and math.isnan(crossing(temperatures, small + 1, large))
 
 
+def test_crossings_of_noisy_curves_have_ends_and_no_error_that_is_nan():
+    """Curves of the slopes 0.2 and 0.6 cross at 1.1; with this noise some resamples of flatter ones don't cross."""
+    examples, temperatures, random = study("crossing"), np.linspace(1, 1.8, 10), np.random.default_rng(15)
+
+    def size(slope):
+        ratio = 0.5 - slope * (temperatures - 1.1) + random.normal(0, 0.02, (6, 8, 1))
+        # Moments whose Binder ratio is this one: q^2 is 1, and q^4 is 3 - 2 ratio.
+        moments = np.stack([0 * ratio, 1 + 0 * ratio, 3 - 2 * ratio, 0 * ratio], axis=-1)
+        return examples.Size(moments[:, :, None], np.zeros((6, 8, 1)), [])
+
+    steep = examples.crossing_of(temperatures, size(0.2), size(0.6))
+    assert steep.missing < 0.01 and steep.low < 1.1 < steep.high and steep.high - steep.low < 0.06
+    flat = examples.crossing_of(temperatures, size(0.2), size(0.21))
+    assert 0 < flat.missing < 1 and math.isfinite(flat.low) and math.isfinite(flat.high)
+
+
 def test_reports_of_two_numbers_of_epochs_are_not_taken_together(tmp_path):
     crossing = study("crossing")
     crossing.here, crossing.BLOCKS = tmp_path, 2

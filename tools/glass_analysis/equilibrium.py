@@ -127,8 +127,12 @@ def last_movers(reports: Sequence[Parts], slot: int, moment: int, count: int = 1
 
 def greatest_expected(samples: int) -> float:
     """How far the farthest of so many samples is by chance alone, in errors from pieces of two parts: it is beyond this
-    in one study of two (Student's distribution)."""
-    return float(stats.t.isf((1 - 0.5 ** (1 / samples)) / 2, 2 * (PIECES - 1)))
+    in one study of two.
+
+    Student's distribution, with the degrees of freedom of two parts of which one is half as long, so that its mean has
+    twice the variance (B. L. Welch, Biometrika 34, 28 (1947)).
+    """
+    return float(stats.t.isf((1 - 0.5 ** (1 / samples)) / 2, (1 + 2) ** 2 / (1 ** 2 + 2 ** 2) * (PIECES - 1)))
 
 
 class Meeting(NamedTuple):

@@ -2,13 +2,13 @@
 
 Errors are over blocks that are independent. `blocks` takes them from one report, as groups of its samples, or
 from several, each of which is one block. The samples of one run have couplings of their own but share each
-random number, so that they follow it together: the spread over them has the disorder in it and lacks what is
+random number, so that they follow it together: their standard deviation has the disorder in it and lacks what is
 common to all of them. Only runs with other seeds have all of it.
 """
 from __future__ import annotations
 
 from collections.abc import Sequence
-from typing import Optional, Union
+from typing import Union
 
 import numpy as np
 

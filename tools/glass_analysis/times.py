@@ -54,7 +54,7 @@ def time_of(summed: Numbers, count: int) -> Time:
 
 
 def autocorrelation_time(series: Numbers) -> Time:
-    """1/2 and the autocorrelations from lag 1 on, up to the window; 1/2 where nothing is remembered.
+    """1/2 and the autocorrelations from lag 1 on, up to the window; 1/2 where there is no autocorrelation.
 
     All series together have one time, which tells nothing of a few that are slow: `settled_samples` looks at each.
     """

@@ -1,8 +1,8 @@
-"""How long the walks through the temperature slots take to forget, sample by sample.
+"""Autocorrelation times of the walks through the temperature slots, sample by sample.
 
 The series is a function of the slot in which a configuration is. Each slot is as probable as each other, so its mean
 over the slots is its mean, exactly: nothing of the run is taken off, and a sample whose configurations hardly move
-shows as one that remembers (R. Alvarez Banos et al., J. Stat. Mech. P06026 (2010)).
+shows by its long time (R. Alvarez Banos et al., J. Stat. Mech. P06026 (2010)).
 """
 from __future__ import annotations
 
@@ -63,8 +63,11 @@ def walk_correlations(records: Records) -> Numbers:
 
 
 def walk_times(records: Records) -> WalkTimes:
-    """The times of each sample and replica. The error is that of N. Madras and A. Sokal, J. Stat. Phys. 50, 109 (1988);
-    each exchange moves two labels, so half of the labels are taken as independent."""
+    """The times of each sample and replica, summed up to a window of WINDOW times, or to where the noise begins.
+
+    The error is that of N. Madras and A. Sokal, J. Stat. Phys. 50, 109 (1988); each exchange moves two labels, so half
+    of the labels are taken as independent.
+    """
     correlations = walk_correlations(records)
     length = len(correlations)
     shape = correlations.shape[1:]
@@ -72,14 +75,21 @@ def walk_times(records: Records) -> WalkTimes:
     for sample, replica in np.ndindex(shape):
         line = correlations[:, sample, replica]
         times = np.cumsum(line) - 0.5
-        enough = np.flatnonzero(np.arange(length) >= WINDOW * times)
+        enough = np.flatnonzero((np.arange(length) >= WINDOW * times) | (line < noise_of(times, length, records.slots)))
         if len(enough):
             window = int(enough[0])
-            integrated[sample, replica] = times[window]
-            error[sample, replica] = times[window] * np.sqrt(2 * (2 * window + 1) / (length * records.slots / 2))
+            # What an exponential decay has behind the window.
+            value = times[window] / (1 - max(line[window], 0))
+            integrated[sample, replica] = value
+            error[sample, replica] = value * np.sqrt(2 * (2 * window + 1) / (length * records.slots / 2))
         exponential[sample, replica] = exponential_time(line, integrated[sample, replica], records.slots)
     longest = np.where(np.isnan(exponential), integrated, exponential)
     return WalkTimes(integrated, error, exponential, np.isfinite(integrated) & (length >= LENGTHS * longest))
+
+
+def noise_of(times: Numbers, length: int, slots: int) -> Numbers:
+    """The error of a correlation near 0: behind the lag at which the correlations are below it a sum is of noise alone."""
+    return np.sqrt(2 * np.maximum(times, 0.5) / (length * slots / 2))
 
 
 def exponential_time(line: Numbers, integrated: float, slots: int) -> float:
@@ -90,8 +100,8 @@ def exponential_time(line: Numbers, integrated: float, slots: int) -> float:
         # It stays: the decay up to half of the run, which is uncertain by as much as itself.
         half = float(line[length // 2])
         return float("inf") if half >= 1 else length // 2 / -np.log(max(half, 1e-3))
-    noise = ERRORS * np.sqrt(2 * integrated / (length * slots / 2))
-    gone = np.flatnonzero(line < max(TO, noise))
+    noise = ERRORS * noise_of(np.array(integrated), length, slots)
+    gone = np.flatnonzero(line < max(TO, float(noise)))
     lags = np.arange(begun[0], gone[0] if len(gone) else length // 2)
     if len(lags) < 3:
         return float("nan")
