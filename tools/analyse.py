@@ -7,10 +7,10 @@
 
 For each slot, the coldest first:
   energy 0, energy 1  mean energy per site of the two replicas, in units of the coupling
-  spread              standard deviation over the samples of a sample's mean energy per site
+  std dev             standard deviation of the sample means of the energy per site
   q^2, q^4            mean powers of the overlap of the two replicas, q per site, from -1 to 1
   Binder              (3 - [q^4] / [q^2]^2) / 2, with [..] the mean over epochs and samples
-  exchanged           exchanges made with the next slot, of those tried, where each epoch is recorded
+  acceptance          exchanges made with the next slot, of those tried, where each epoch is recorded
 Of several reports, which must differ in their seeds alone, all samples are taken together, and the
 mean energy gets an error: the standard deviation of the reports' means over the root of their number.
 Reports whose manifests (tools/manifest.py) name couplings files are taken file by file: `error` is then that
@@ -42,7 +42,7 @@ COUNT = rb"(0|[1-9][0-9]{0,9})"
 SIGNED = rb"(0|-?[1-9][0-9]{0,6})"
 HEADER = re.compile(rb"glass 1 size=%b slots=%b samples=%b rule=(heat|metropolis) from=%b to=%b" % ((COUNT,) * 5))
 ROW = re.compile(rb"row," + b",".join([COUNT] * 3 + [SIGNED] * 3 + [COUNT] * 2))
-NOTE = """note: the samples of one run share each random number, so their spread gives no error of a mean.
+NOTE = """note: the samples of one run share each random number, so the deviation of their means gives no error.
       Run other seeds and hand in all their reports: the error comes from the reports."""
 
 
@@ -241,21 +241,21 @@ def same_runs(reports):
 
 # ---------------------------------------------------------------- mean values
 
-Means = namedtuple("Means", "energies spreads square fourth_power binder exchanged")
+Means = namedtuple("Means", "energies deviations square fourth_power binder acceptance")
 
 
 def slot_means(reports, slot):
     first = reports[0]
-    energies, spreads = [], []
+    energies, deviations = [], []
     for replica in range(2):
         values = [value for report in reports for value in report.sample_means(replica, slot)]
         energies.append(math.fsum(values) / len(values))
-        spreads.append(deviation(values))
+        deviations.append(deviation(values))
     number = len(reports) * first.counted * first.header.samples
     squares, fourth = (sum(sum(sums[slot]) for sums in lists) for lists in
                        ([r.squares for r in reports], [r.fourth_powers for r in reports]))
     tried, made = sum(r.tried[slot] for r in reports), sum(r.made[slot] for r in reports)
-    return Means(energies, spreads, squares / (number * first.volume ** 2), fourth / (number * first.volume ** 4),
+    return Means(energies, deviations, squares / (number * first.volume ** 2), fourth / (number * first.volume ** 4),
                  (3 - number * fourth / squares ** 2) / 2 if squares else None, made / tried if tried else None)
 
 
@@ -268,13 +268,13 @@ def print_means(reports, names, head):
     what = first.name if len(reports) == 1 else f"{len(reports)} reports"
     print(f"{what}: size {h.size}, {h.rule}, slots {h.slots}, samples {h.samples}, epochs {h.first} to {h.until}, "
           f"{first.counted} recorded ones taken")
-    print(f"slot {head:>10} {'energy 0':>11} {'spread':>9} {'energy 1':>11} {'spread':>9} {'q^2':>9} {'q^4':>9} "
-          f"{'Binder':>8} {'exchanged':>9}")
+    print(f"slot {head:>10} {'energy 0':>11} {'std dev':>9} {'energy 1':>11} {'std dev':>9} {'q^2':>9} {'q^4':>9} "
+          f"{'Binder':>8} {'acceptance':>10}")
     for slot, name in enumerate(names):
         m = slot_means(reports, slot)
-        print(f"{slot:>4} {name:>10} {spelled(m.energies[0], 6, 11)} {spelled(m.spreads[0], 6, 9)} "
-              f"{spelled(m.energies[1], 6, 11)} {spelled(m.spreads[1], 6, 9)} {spelled(m.square, 6, 9)} "
-              f"{spelled(m.fourth_power, 6, 9)} {spelled(m.binder, 4, 8)} {spelled(m.exchanged, 4, 9)}")
+        print(f"{slot:>4} {name:>10} {spelled(m.energies[0], 6, 11)} {spelled(m.deviations[0], 6, 9)} "
+              f"{spelled(m.energies[1], 6, 11)} {spelled(m.deviations[1], 6, 9)} {spelled(m.square, 6, 9)} "
+              f"{spelled(m.fourth_power, 6, 9)} {spelled(m.binder, 4, 8)} {spelled(m.acceptance, 4, 10)}")
 
 
 def print_comparison(reports, names, head, exact, blocks=None):

@@ -28,7 +28,7 @@ from typing import Dict, List, NamedTuple, Optional, Sequence, Tuple
 sys.dont_write_bytecode = True
 from exit_status import status_of  # noqa: E402
 from glass_program import Plan, find_program, plan_of  # noqa: E402
-from long_run_folder import KEYS, Fault, Value, digest_of, plain_keys, read_keys, read_text, tomllib  # noqa: E402
+from long_run_folder import KEYS, Fault, Value, digest_of, in_work, plain_keys, read_keys, read_text, sync, tomllib  # noqa: E402
 from make_tables import OneLineParser, Refusal  # noqa: E402
 
 KIND = "glass manifest 1"
@@ -132,9 +132,11 @@ def read_manifest(report: str) -> Optional[Manifest]:
 def write_manifest(report: Path, manifest: Manifest) -> Path:
     """Whole or as before."""
     path = file_of(report)
-    new = path.with_name(f"{path.name}.tmp-{os.getpid()}")
+    # The driver of long runs clears what bears such a name.
+    new = path.with_name(f"{report.name}.{in_work(0)}")
     try:
         new.write_text(text_of(manifest), encoding="utf-8")
+        sync(new)
         os.replace(new, path)
     except OSError as fault:
         raise Refusal(f"{path} can't be written: {fault.strerror}") from None

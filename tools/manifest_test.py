@@ -29,7 +29,7 @@ every = 1
 start = "random"
 spins = false
 """
-# Of the simulated study: the spread of the files' true energies, and that of a run about its file's, in units of the
+# Of the simulated study: the standard deviation of the files' true energies, and of a run from its file's, in units of the
 # coupling for the whole lattice.
 FILES, SEEDS, OF_FILES, OF_SEEDS = 4, 10, 400.0, 100.0
 
@@ -199,14 +199,15 @@ def distinct(parts: List[jackknife.Averages]) -> List[jackknife.Averages]:
 
 def check_errors(checks: Checks) -> None:
     """Four couplings files with ten seeds each: the mean's error is sqrt(D^2 / 4 + M^2 / 40), and the seeds' part of it
-    sqrt(M^2 / 40). With a report a block it comes out 3.4 times too small."""
+    sqrt(M^2 / 40). With a report a block its square is expected to be (30 D^2 / 39 + M^2) / 40: it comes out 3.48 times
+    too small."""
     source = random.Random(20240611)
-    studies = [simulated(source) for _ in range(600)]
+    studies = [simulated(source) for _ in range(300)]
     truth = math.sqrt(OF_FILES ** 2 / FILES + OF_SEEDS ** 2 / (FILES * SEEDS))
     of_seeds = OF_SEEDS / math.sqrt(FILES * SEEDS)
     means = [sum(map(sum, study)) / (FILES * SEEDS) for study in studies]
-    spread = math.sqrt(sum(mean ** 2 for mean in means) / len(means))
-    checks.same("the simulation is what it is said to be", abs(spread / truth - 1) < 0.1, True)
+    deviation = math.sqrt(sum(mean ** 2 for mean in means) / len(means))
+    checks.same("the simulation is what it is said to be", abs(deviation / truth - 1) < 0.1, True)
     found = [errors_of(study, True) for study in studies]
     root = [math.sqrt(sum(errors[n] ** 2 for errors in found) / len(found)) for n in range(2)]
     checks.same("the error over the files", abs(root[0] / truth - 1) < 0.1, True)

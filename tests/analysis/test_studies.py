@@ -28,13 +28,14 @@ def begun(script, words=(), **variables):
     return ran.returncode, ran.stderr
 
 
-@pytest.mark.parametrize("script", ["aging_32/run", "crossing/study", "ising_4/study", "nishimori_8/study", "samples_4/study"])
+@pytest.mark.parametrize("script", ["aging_32/run", "crossing/study", "ising_4/study", "nishimori_8/study", "samples_4/study",
+                                    "validation/study"])
 def test_a_study_without_a_program_is_told_in_a_line(script):
     status, said = begun(script, GLASS="/none/such", PYTHON=sys.executable)
     assert status == 2 and said.count("\n") == 1 and "there is no program /none/such" in said
 
 
-@pytest.mark.parametrize("name", ["crossing", "nishimori_8", "samples_4"])
+@pytest.mark.parametrize("name", ["crossing", "nishimori_8", "samples_4", "validation"])
 def test_a_study_looks_for_numpy_before_it_runs(name):
     status, said = begun(f"{name}/study", GLASS="/bin/true", PYTHON="/bin/false")
     assert status == 2 and said.count("\n") == 1 and "lacks numpy" in said
@@ -47,7 +48,7 @@ def test_a_word_that_is_no_number_is_refused(script, word):
     assert status == 2 and said.count("\n") == 1 and said.endswith(f": {word}\n")
 
 
-@pytest.mark.parametrize("name", ["crossing", "ising_4", "nishimori_8", "samples_4"])
+@pytest.mark.parametrize("name", ["crossing", "ising_4", "nishimori_8", "samples_4", "validation"])
 def test_a_comparison_of_nothing_is_refused_in_a_line(name):
     words = [sys.executable, str(EXAMPLES / name / "compare.py")]
     ran = subprocess.run(words, stderr=subprocess.PIPE, universal_newlines=True, check=False)
