@@ -26,7 +26,7 @@ MAN := $(DESTDIR)$(PREFIX)/share/man/man1
 DOC := $(DESTDIR)$(PREFIX)/share/doc/glass
 COMPLETIONS := $(DESTDIR)$(PREFIX)/share/bash-completion/completions
 # A tool is the command glass-NAME; the modules that it needs lie beside it.
-TOOLS := long_run make_seeds describe make_tables analyse jackknife correlations couplings estimate
+TOOLS := long_run make_seeds manifest describe make_tables analyse jackknife correlations couplings estimate
 COMMANDS := $(addprefix $(BIN)/glass-,$(subst _,-,$(TOOLS)))
 MODULES := $(wildcard tools/*.py)
 REFERENCE := $(wildcard tools/reference/*.py)

@@ -27,16 +27,6 @@ needs_arrays() {
         || refuse "$python lacks numpy, scipy or matplotlib (tools/glass_analysis/README.md); PYTHON names another Python"
 }
 
-# Refuses a word that is no seed.
-check_seeds() {
-    local seed
-    for seed in "$@"; do
-        case $seed in
-            *[!0-9]* | '' | 0?*) refuse "a seed is a whole number: $seed" ;;
-        esac
-    done
-}
-
 # Refuses $1 where it is no whole number from $2 on, which is what $3 says.
 check_number() {
     case $1 in

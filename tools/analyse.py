@@ -7,19 +7,21 @@
 
 For each slot, the coldest first:
   energy 0, energy 1  mean energy per site of the two replicas, in units of the coupling
-  spread              standard deviation over the samples of a sample's mean energy per site
+  std dev             standard deviation of the sample means of the energy per site
   q^2, q^4            mean powers of the overlap of the two replicas, q per site, from -1 to 1
   Binder              (3 - [q^4] / [q^2]^2) / 2, with [..] the mean over epochs and samples
-  exchanged           exchanges made with the next slot, of those tried, where each epoch is recorded
+  acceptance          exchanges made with the next slot, of those tried, where each epoch is recorded
 Of several reports, which must differ in their seeds alone, all samples are taken together, and the
 mean energy gets an error: the standard deviation of the reports' means over the root of their number.
+Reports whose manifests (tools/manifest.py) name couplings files are taken file by file: `error` is then that
+of the files' means, over the disorder, and `of seeds` the part of it that the seeds of each file bring.
 
 A report that no run prints is refused with the number of its first such line.
 
     glass lines run.toml checkpoint > lines.txt; python3 tools/analyse.py lines.txt --temperatures 1.1 1.4
 
-Of what `glass lines` prints it gives the link overlap and the correlation length, each with its error over
-the samples, or of several files over the files: see tools/lines_report.py.
+Of what `glass lines` prints it gives the link overlap and the correlation at half the side, each with its error
+over the samples, or of several files over the files: see tools/lines_report.py.
 """
 import argparse
 import math
@@ -30,6 +32,8 @@ from collections import namedtuple
 sys.dont_write_bytecode = True
 from exit_status import status_of  # noqa: E402
 from make_tables import OneLineParser, Refusal, add_temperatures, inverse_temperatures  # noqa: E402
+from manifest import add_run, study_of  # noqa: E402
+from report_errors import deviation, errors_of  # noqa: E402
 from report_plot import plot_text  # noqa: E402
 
 Header = namedtuple("Header", "size slots samples rule first until")
@@ -38,7 +42,7 @@ COUNT = rb"(0|[1-9][0-9]{0,9})"
 SIGNED = rb"(0|-?[1-9][0-9]{0,6})"
 HEADER = re.compile(rb"glass 1 size=%b slots=%b samples=%b rule=(heat|metropolis) from=%b to=%b" % ((COUNT,) * 5))
 ROW = re.compile(rb"row," + b",".join([COUNT] * 3 + [SIGNED] * 3 + [COUNT] * 2))
-NOTE = """note: the samples of one run share each random number, so their spread gives no error of a mean.
+NOTE = """note: the samples of one run share each random number, so the deviation of their means gives no error.
       Run other seeds and hand in all their reports: the error comes from the reports."""
 
 
@@ -237,29 +241,21 @@ def same_runs(reports):
 
 # ---------------------------------------------------------------- mean values
 
-Means = namedtuple("Means", "energies spreads square fourth_power binder exchanged")
-
-
-def deviation(values):
-    """The standard deviation of a list of values, None of fewer than two."""
-    if len(values) < 2:
-        return None
-    mean = math.fsum(values) / len(values)
-    return math.sqrt(math.fsum((value - mean) ** 2 for value in values) / (len(values) - 1))
+Means = namedtuple("Means", "energies deviations square fourth_power binder acceptance")
 
 
 def slot_means(reports, slot):
     first = reports[0]
-    energies, spreads = [], []
+    energies, deviations = [], []
     for replica in range(2):
         values = [value for report in reports for value in report.sample_means(replica, slot)]
         energies.append(math.fsum(values) / len(values))
-        spreads.append(deviation(values))
+        deviations.append(deviation(values))
     number = len(reports) * first.counted * first.header.samples
     squares, fourth = (sum(sum(sums[slot]) for sums in lists) for lists in
                        ([r.squares for r in reports], [r.fourth_powers for r in reports]))
     tried, made = sum(r.tried[slot] for r in reports), sum(r.made[slot] for r in reports)
-    return Means(energies, spreads, squares / (number * first.volume ** 2), fourth / (number * first.volume ** 4),
+    return Means(energies, deviations, squares / (number * first.volume ** 2), fourth / (number * first.volume ** 4),
                  (3 - number * fourth / squares ** 2) / 2 if squares else None, made / tried if tried else None)
 
 
@@ -272,27 +268,29 @@ def print_means(reports, names, head):
     what = first.name if len(reports) == 1 else f"{len(reports)} reports"
     print(f"{what}: size {h.size}, {h.rule}, slots {h.slots}, samples {h.samples}, epochs {h.first} to {h.until}, "
           f"{first.counted} recorded ones taken")
-    print(f"slot {head:>10} {'energy 0':>11} {'spread':>9} {'energy 1':>11} {'spread':>9} {'q^2':>9} {'q^4':>9} "
-          f"{'Binder':>8} {'exchanged':>9}")
+    print(f"slot {head:>10} {'energy 0':>11} {'std dev':>9} {'energy 1':>11} {'std dev':>9} {'q^2':>9} {'q^4':>9} "
+          f"{'Binder':>8} {'acceptance':>10}")
     for slot, name in enumerate(names):
         m = slot_means(reports, slot)
-        print(f"{slot:>4} {name:>10} {spelled(m.energies[0], 6, 11)} {spelled(m.spreads[0], 6, 9)} "
-              f"{spelled(m.energies[1], 6, 11)} {spelled(m.spreads[1], 6, 9)} {spelled(m.square, 6, 9)} "
-              f"{spelled(m.fourth_power, 6, 9)} {spelled(m.binder, 4, 8)} {spelled(m.exchanged, 4, 9)}")
+        print(f"{slot:>4} {name:>10} {spelled(m.energies[0], 6, 11)} {spelled(m.deviations[0], 6, 9)} "
+              f"{spelled(m.energies[1], 6, 11)} {spelled(m.deviations[1], 6, 9)} {spelled(m.square, 6, 9)} "
+              f"{spelled(m.fourth_power, 6, 9)} {spelled(m.binder, 4, 8)} {spelled(m.acceptance, 4, 10)}")
 
 
-def print_comparison(reports, names, head, exact):
+def print_comparison(reports, names, head, exact, blocks=None):
     """Measured energies per site, with errors from several reports, beside the exact ones."""
     several = len(reports) > 1
-    print(f"slot {head:>10} {'measured':>11}" + (f" {'error':>9}" if several else "")
+    print(f"slot {head:>10} {'measured':>11}" + (f" {'error':>9}" if several else "") + (f" {'of seeds':>9}" if blocks else "")
           + (f" {'exact':>11} {'difference':>11}" if exact else "") + (f" {'in errors':>9}" if exact and several else ""))
     for slot, name in enumerate(names):
-        values = [report.mean_energy(slot) for report in reports]
-        mean = math.fsum(values) / len(values)
+        mean, error, of_seeds = errors_of([report.mean_energy(slot) for report in reports], blocks)
         line = f"{slot:>4} {name:>10} {mean:>11.6f}"
-        error = deviation(values) / math.sqrt(len(values)) if several else None
         if several:
-            line += f" {error:>9.6f}"
+            line += f" {spelled(error, 6, 9)}"
+        if blocks:
+            line += f" {spelled(of_seeds, 6, 9)}"
+        # Of one file there is no error over the disorder, and what is exact is so of its couplings.
+        error = of_seeds if blocks and len(set(blocks)) == 1 else error
         if exact:
             line += f" {exact[slot]:>11.6f} {mean - exact[slot]:>+11.6f}"
         if exact and error:
@@ -340,9 +338,10 @@ def analyse_reports(options, betas, reports, names, head):
     exact = decimals(options.exact, slots) if options.exact else None
     if not reports[0].counted:
         raise Refusal(f"{reports[0].name} has no row" + (f" from epoch {options.skip} on" if options.skip else ""))
+    blocks = study_of(tuple(options.reports), tuple(options.run)).blocks
     print_means(reports, names, head)
     if exact or len(reports) > 1:
-        print_comparison(reports, names, head, exact)
+        print_comparison(reports, names, head, exact, blocks)
     if len(reports) == 1:
         print(NOTE)
     if options.plot:
@@ -361,6 +360,7 @@ def main(words=None):
                            formatter_class=argparse.RawDescriptionHelpFormatter)
     parser.add_argument("reports", nargs="*", metavar="REPORT", help="reports, or files of glass lines, or - for standard input (the default)")
     add_temperatures(parser)
+    add_run(parser)
     parser.add_argument("--skip", type=int, default=0, metavar="EPOCH",
                         help="leave the epochs before this one out of all means")
     parser.add_argument("--exact", nargs="+", metavar="E",

@@ -173,7 +173,7 @@ def check_words(checks, caller, report):
                                    "--exact", "-1", "-1", "-1")
     tree = ElementTree.parse(picture).getroot()
     marks = [sum(item.tag.endswith(tag) for item in tree) for tag in ("circle", "polyline")]
-    # Circles: two replicas and an exact value a slot. Lines: two curves, a spread each, a walk a label.
+    # Circles: two replicas and an exact value a slot. Lines: two curves, a standard deviation each, a walk a label.
     checks.same("the picture", (status, err, tree.tag.endswith("svg"), marks), (0, "", True, [9, 2 + 6 + 3]))
     stdin, sys.stdin = sys.stdin, io.TextIOWrapper(io.BufferedReader(io.BytesIO(report.encode())))
     piped = outcome([], caller.main)

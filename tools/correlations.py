@@ -3,15 +3,19 @@
 
     glass age run.toml 100 3 1 10 100 | python3 tools/correlations.py
     python3 tools/correlations.py tw_10.txt tw_100.txt tw_1000.txt --plot aging.png
+    python3 tools/correlations.py tw_10_seed_*.txt tw_100_seed_*.txt
 
 C is the mean over samples and both replicas of A / V, A the sum over the V sites of the spin after the
 waiting time times the spin t sweeps later. Several texts must be of one size, rule, and number of slots and
-samples.
+samples. Those of one waiting time are runs that differ in their seeds: C is their mean, and the error is the
+standard deviation of their means over the root of their number.
 A text that `glass age` does not print is refused with the number of its first such line. The plot needs
 matplotlib, and is left out with a line where it is missing.
 """
 import argparse
+import math
 import re
+import statistics
 import sys
 import tempfile
 from collections import Counter
@@ -19,7 +23,7 @@ from itertools import product
 from pathlib import Path
 
 sys.dont_write_bytecode = True
-from analyse import read_each  # noqa: E402
+from analyse import deviation, read_each, spelled  # noqa: E402
 from exit_status import status_of  # noqa: E402
 from make_tables import Checks, OneLineParser, Refusal, outcome  # noqa: E402
 
@@ -28,7 +32,8 @@ LONGEST_LINE = 80
 COUNT = rb"(0|[1-9][0-9]{0,6})"
 FIRST = re.compile(rb"age 1 size=%b slots=%b samples=%b rule=(heat|metropolis) tw=%b\n" % ((COUNT,) * 4))
 LINE = re.compile(rb"age," + b",".join([COUNT] * 4) + rb",(0|-?[1-9][0-9]{0,5})\n")
-NOTE = "note: the samples of one run share each random number, so their spread gives no error of a mean."
+NOTE = """note: the samples of one run share each random number, so their standard deviation gives no error of a mean.
+      Several texts of one waiting time, of other seeds, have one."""
 
 
 class AgedText:
@@ -95,18 +100,41 @@ class AgedText:
             self.next_line()
 
 
-def table(texts):
+def by_wait(texts):
+    """The texts of each waiting time, in the order in which it comes first."""
+    groups = {}
+    for text in texts:
+        group = groups.setdefault(text.wait, [])
+        for other in group:
+            if [t for t, _ in text.correlations[0]] != [t for t, _ in other.correlations[0]]:
+                raise Refusal(f"{text.name} has other times than {other.name}, and the same waiting time")
+            # At time 0 alone all are alike.
+            if text.sums == other.sums and text.correlations[0][-1][0] > 0:
+                raise Refusal(f"{text.name} has the same sums as {other.name}: texts must differ in their seeds")
+        group.append(text)
+    return list(groups.values())
+
+
+def averaged(group, slot):
+    """Of the texts of one waiting time: each time, the mean of C, and its error or None."""
+    for n, (t, _) in enumerate(group[0].correlations[slot]):
+        values = [text.correlations[slot][n][1] for text in group]
+        error = deviation(values)
+        yield t, math.fsum(values) / len(values), None if error is None else error / math.sqrt(len(values))
+
+
+def table(groups):
     """The lines that are printed."""
-    one = texts[0]
+    one = groups[0][0]
     yield f"size {one.size}, slots {one.slots}, samples {one.samples}, rule {one.rule}"
-    yield f"{'slot':>4} {'tw':>8} {'t':>8} {'C':>10}"
+    yield f"{'slot':>4} {'tw':>8} {'t':>8} {'C':>10} {'error':>9} {'seeds':>5}"
     for slot in range(one.slots):
-        for text in texts:
-            for t, c in text.correlations[slot]:
-                yield f"{slot:4d} {text.wait:8d} {t:8d} {c:10.6f}"
+        for group in groups:
+            for t, c, error in averaged(group, slot):
+                yield f"{slot:4d} {group[0].wait:8d} {t:8d} {c:10.6f} {spelled(error, 6, 9)} {len(group):5d}"
 
 
-def draw(texts, path):
+def draw(groups, path):
     """Draws C against t, a curve for each slot and waiting time; answers the line that is told."""
     try:
         import matplotlib
@@ -115,11 +143,13 @@ def draw(texts, path):
     matplotlib.use("Agg")
     from matplotlib import pyplot
     figure, axes = pyplot.subplots(figsize=(6, 4.2))
-    for text in texts:
-        for slot, points in enumerate(text.correlations):
-            label = f"tw = {text.wait}" + (f", slot {slot}" if text.slots > 1 else "")
-            later = [(t, c) for t, c in points if t > 0]
-            axes.semilogx([t for t, _ in later], [c for _, c in later], marker="o", markersize=3, label=label)
+    for group in groups:
+        for slot in range(group[0].slots):
+            label = f"tw = {group[0].wait}" + (f", slot {slot}" if group[0].slots > 1 else "")
+            later = [(t, c, error or 0) for t, c, error in averaged(group, slot) if t > 0]
+            axes.errorbar([t for t, _, _ in later], [c for _, c, _ in later], [error for _, _, error in later],
+                          marker="o", markersize=3, label=label)
+    axes.set_xscale("log")
     axes.set_xlabel("t (sweeps)")
     axes.set_ylabel("C(tw, tw + t)")
     axes.legend(frameon=False)
@@ -137,10 +167,12 @@ def run(options):
     for text in texts:
         if text.kind != texts[0].kind:
             raise Refusal(f"{text.name} is of another size, rule, or number of slots or samples")
-    print("\n".join(table(texts)))
-    print(NOTE)
+    groups = by_wait(texts)
+    print("\n".join(table(groups)))
+    if any(len(group) == 1 for group in groups):
+        print(NOTE)
     if options.plot:
-        print(draw(texts, options.plot))
+        print(draw(groups, options.plot))
 
 
 def parser():
@@ -199,6 +231,28 @@ def check_refusals(checks, path):
         checks.same(f"damage at line {line}", outcome([str(path)], main), (2, "", wanted))
 
 
+def check_seeds(checks, folder):
+    """Of runs that differ in their seeds the error is the standard error of their means."""
+    values = {1: (40, 8), 2: (52, 6), 3: (46, -4)}
+    names = []
+    for seed, (one, other) in values.items():
+        names.append(str(folder / f"seed_{seed}.txt"))
+        Path(names[-1]).write_text(BY_HAND.replace("1,0,0", f"1,0,{one}", 1).replace("age,0,1,1,0,0", f"age,0,1,1,0,{other}"))
+    status, out, err = outcome(names, main)
+    means = [(one + other) / 128 for one, other in values.values()]
+    wanted = ["0", "0", "1", f"{statistics.mean(means):.6f}", f"{statistics.stdev(means) / math.sqrt(3):.6f}", "3"]
+    checks.same("three seeds", (status, err, out.splitlines()[3].split(), "note:" in out), (0, "", wanted, False))
+    Path(names[0]).write_text(BY_HAND.replace("tw=0", "tw=1"))
+    out = outcome(names, main)[1]
+    checks.same("two waiting times", [line.split()[-1] for line in out.splitlines()[2:6]], ["1", "1", "2", "2"])
+    checks.same("one of them has no error", ("note:" in out, out.splitlines()[3].split()[4]), (True, "-"))
+    other_times = folder / "times.txt"
+    other_times.write_text(BY_HAND.replace("0,0,1,0,0", "0,0,2,0,0").replace("0,1,1,0,0", "0,1,2,0,0"))
+    for given, what in (([names[1], names[1]], "the same sums"), ([names[1], str(other_times)], "other times")):
+        status, out, err = outcome(given, main)
+        checks.same(what, (status, out, what in err, err.count("\n")), (2, "", True, 1))
+
+
 def check_words(checks, path):
     path.write_text(BY_HAND)
     other = path.with_name("other.txt")
@@ -219,15 +273,16 @@ def self_test():
         path.write_text(BY_HAND)
         status, out, _ = outcome([str(path)], main)
         checks.same("status", status, 0)
-        means = ["   0        0        0   1.000000", "   0        0        1   0.000000"]
+        means = ["   0        0        0   1.000000         -     1", "   0        0        1   0.000000         -     1"]
         checks.same("means", out.splitlines()[2:4], means)
         # Two slots, two samples and two times, of which A is 2, 4, .. by its place.
         rows = [f"age,{slot},{copy},{t},{b},{16 * slot + 8 * copy + 4 * (t == 9) + 2 * b + 2}\n"
                 for slot in range(2) for copy in range(2) for t in (5, 9) for b in range(2)]
         path.write_text("age 1 size=4 slots=2 samples=2 rule=heat tw=3\n" + "".join(rows) + "end\n")
-        found = [line.split()[1:] for line in outcome([str(path)], main)[1].splitlines()[2:6]]
+        found = [line.split()[1:4] for line in outcome([str(path)], main)[1].splitlines()[2:6]]
         checks.same("two slots", found, [["3", "5", f"{7 / 64:.6f}"], ["3", "9", f"{11 / 64:.6f}"],
                                          ["3", "5", f"{23 / 64:.6f}"], ["3", "9", f"{27 / 64:.6f}"]])
+        check_seeds(checks, Path(folder))
         check_refusals(checks, path)
         check_words(checks, path)
     return checks.end()

@@ -5,6 +5,7 @@
     python3 tools/couplings.py program j.bin --size 8 --samples 64 --seed 20240611
     python3 tools/couplings.py plus j.bin --size 8 --samples 2
     python3 tools/couplings.py gauge j.bin k.bin --seed 1
+    python3 tools/couplings.py pick shorter.csv j.bin
     python3 tools/couplings.py show j.bin
     python3 tools/couplings.py to-text j.bin j.txt
     python3 tools/couplings.py from-text j.txt j.bin
@@ -15,13 +16,14 @@ program    the couplings that a run file with couplings = "random" and this seed
 plus       every J is +1
 gauge      J of each bond times a sign of each of its two sites, which keeps all energies' distributions;
            the sign of site i is bit i of SHAKE-256 of "gauge SEED SAMPLE", the first of a byte the highest
+pick       the couplings of the samples that a list names, as tools/estimate.py times --shorter writes it
 show       size, samples, digest, and how many bonds of each sample are negative
 
 A text has a line `couplings 1 size=L samples=n`, then a line for each bond, in any order: the numbers
 i and j of its two sites and J of each sample, 1 or -1. Site (x, y, z) is x + L y + L^2 z.
 
-The bytes of a file: docs/specification/couplings.md. numpy makes `random` and `program` faster and is not
-needed.
+The bytes of a file: docs/specification/couplings.md. numpy makes `random`, `program` and `gauge` faster
+and is not needed.
 """
 import argparse
 import hashlib
@@ -165,6 +167,10 @@ def forward(size, site, d):
 def turned(size, bonds, seed, sample):
     """The couplings of a sample under a random gauge transform."""
     signs = unpacked(hashlib.shake_256(f"gauge {seed} {sample}".encode("ascii")).digest(size ** 3 // 8))
+    if numpy is not None:
+        grid = numpy.frombuffer(signs, numpy.uint8).reshape(size, size, size)
+        ahead = [numpy.roll(grid, -1, 2 - d).ravel() for d in range(3)]
+        return (numpy.frombuffer(bonds, numpy.uint8) ^ numpy.repeat(grid, 3) ^ numpy.stack(ahead, axis=1).ravel()).tobytes()
     return bytes(bonds[3 * i + d] ^ signs[i] ^ signs[forward(size, i, d)] for i in range(size ** 3) for d in range(3))
 
 
@@ -284,6 +290,11 @@ def show(options):
 
 
 def change(options):
+    if options.command == "pick":
+        from pick_samples import picked
+        size, samples = picked(options.file)
+        check_shape(size, len(samples))
+        return save(options.out, size, samples)
     if options.command == "from-text":
         try:
             text = read_bytes(options.file).decode("ascii")
@@ -313,7 +324,7 @@ def parser_of_words():
             words.add_argument("--seed", type=int, metavar="S")
         if command == "random":
             words.add_argument("--negative", default=HALF, metavar="P")
-    for command in ("gauge", "to-text", "from-text"):
+    for command in ("gauge", "to-text", "from-text", "pick"):
         words = commands.add_parser(command, allow_abbrev=False)
         words.add_argument("file", metavar="FILE")
         words.add_argument("out", metavar="OUT")

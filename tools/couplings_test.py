@@ -4,6 +4,7 @@ import tempfile
 from pathlib import Path
 
 import couplings
+import manifest
 from make_tables import Checks, outcome
 from reference.lattice import forward
 from reference.seeding import coupling_words
@@ -129,16 +130,50 @@ def distributions(checks, folder):
         checks.same(f"{words[2:]} is refused in a line", (status, told.count("\n")), (2, 1))
 
 
+def run_beside(folder, name, seed, kind):
+    """A report's manifest; of the report itself no more is read than its digest."""
+    report = folder / name
+    report.write_text(name)
+    keys = {**{key: "t" for key in manifest.KEYS}, "size": 4, "samples": 3, "seed": seed, "couplings": kind}
+    digests = dict.fromkeys(("rules", "swaps"), "0" * 64)
+    manifest.write_manifest(report, manifest.Manifest("", keys, digests, "0" * 64, hashlib.sha256(name.encode()).hexdigest()))
+    return report
+
+
+def picks(checks, folder):
+    """Samples of two seeds and of a file, each once, in the order of the list."""
+    call("program", folder / "5", "--size", 4, "--samples", 3, "--seed", 5)
+    call("program", folder / "6", "--size", 4, "--samples", 3, "--seed", 6)
+    five, six = (couplings.couplings_of("j", (folder / name).read_bytes())[1] for name in ("5", "6"))
+    one, other = run_beside(folder, "one", 5, "random"), run_beside(folder, "other", 9, "file:6")
+    bare = folder / "bare"
+    bare.write_text("bare")
+    plus = run_beside(folder, "plus", 5, "plus")
+    listed, picked = folder / "list.csv", folder / "picked"
+    listed.write_text(f"report,sample,replica\n{other},1,0\n{one},2,1\n{other},1,1\n{one},0,0\n")
+    checks.same("samples of a list", call("pick", listed, picked)[::2], (0, ""))
+    checks.same("their couplings", couplings.couplings_of("j", picked.read_bytes()), (4, [six[1], five[2], five[0]]))
+    for text in (f"report,sample\n{bare},0\n", f"report,sample\n{one},3\n", f"report,sample\n{plus},0\n", "report,sample\n",
+                 f"report,place\n{one},0\n", f"report,sample\n{one},x\n"):
+        listed.write_text(text)
+        status, out, err = call("pick", listed, picked)
+        checks.same(f"{text!r} is refused in a line", (status, out, err.count("\n")), (2, "", 1))
+
+
 def without_numpy(checks):
     if couplings.numpy is None:
         return
-    made = couplings.program_samples(6, 7, 2), couplings.random_sample(6, 1, 0, couplings.probability("0.3"))
-    kept, couplings.numpy = couplings.numpy, None
+
+    def made():
+        drawn = couplings.random_sample(6, 1, 0, couplings.probability("0.3"))
+        return couplings.program_samples(6, 7, 2), drawn, couplings.turned(6, drawn, 5, 1)
+
+    fast, kept, couplings.numpy = made(), couplings.numpy, None
     try:
-        plain = couplings.program_samples(6, 7, 2), couplings.random_sample(6, 1, 0, couplings.probability("0.3"))
+        plain = made()
     finally:
         couplings.numpy = kept
-    checks.same("with numpy and without", made, plain)
+    checks.same("with numpy and without", fast, plain)
 
 
 def self_test():
@@ -151,5 +186,6 @@ def self_test():
         gauges(checks, folder)
         texts(checks, folder)
         distributions(checks, folder)
+        picks(checks, folder)
         without_numpy(checks)
     return checks.end()

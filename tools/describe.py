@@ -3,9 +3,10 @@
 
     python3 tools/describe.py checkpoint report.txt disorder.couplings run.toml seed-0001
 
-It knows checkpoints of all three kinds, couplings files, reports, what `glass average` prints, run files, and
-the folders of tools/long_run.py. Of a run file it tells how near the tables beside it are to temperatures. Lengths and digests are computed, each line of a report is looked at, and of a
-folder each part is compared with its record and the report with the one that the parts make.
+It knows checkpoints of all three kinds, couplings files, reports and their manifests, what `glass average` prints,
+run files, and the folders of tools/long_run.py. Of a run file it tells how near the tables beside it are to
+temperatures. Lengths and digests are computed, each line of a report is looked at, and of a folder each part is
+compared with its record and the report with the one that the parts make.
 
 Status 0 where all are whole, 1 where one is damaged or unknown, 2 for wrong words or what can't be read, 9 where the
 output fails.
@@ -29,9 +30,10 @@ from analyse import Report  # noqa: E402
 from couplings import LONGEST, couplings_of, file_bytes, read_bytes  # noqa: E402
 from exit_status import status_of  # noqa: E402
 from jackknife import SumsFile  # noqa: E402
-from long_run_folder import Fault, RunFolder, digest_of, read_keys  # noqa: E402
+from long_run_folder import KEYS, Fault, RunFolder, digest_of, read_keys  # noqa: E402
 from long_run_report import check_reports, write_joined  # noqa: E402
 from make_tables import Checks, OneLineParser, Refusal, outcome  # noqa: E402
+from manifest import Manifest, file_of, read_manifest, write_manifest  # noqa: E402
 from table_rounding import tables_of, told  # noqa: E402
 
 DIGEST_BYTES = 32
@@ -152,6 +154,15 @@ def table_facts(path: Path) -> List[str]:
     return facts + [f"warning: {warning}" for warning in warnings]
 
 
+def manifest_file(path: Path) -> List[str]:
+    """A manifest is whole where it is of the report beside it."""
+    found = read_manifest(str(path.with_suffix("")))
+    if path.suffix != ".toml" or found is None:
+        raise Damaged("a manifest has the name of its report and .toml")
+    return ["manifest of a report", f"report {found.report}", f"plan {found.plan}",
+            ", ".join(f"{key} {json.dumps(value)}" for key, value in found.keys.items())]
+
+
 def run_file(path: Path) -> List[str]:
     keys = read_keys(path)
     return ["run file (glass check judges it)", ", ".join(f"{key} {json.dumps(value)}" for key, value in keys.items()),
@@ -182,7 +193,7 @@ def run_folder(path: Path) -> List[str]:
 
 
 KINDS = ((b"GLASSCK1", level_checkpoint), (b"GLASSCK2", uneven_checkpoint), (b"GLASSCK3", banks_checkpoint),
-         (b"GLASSCJ1", couplings_file), (b"glass 1 ", report), (b"average ", averages))
+         (b"GLASSCJ1", couplings_file), (b"glass 1 ", report), (b"average ", averages), (b"kind = \"", manifest_file))
 
 
 def facts_of(path: Path) -> List[str]:
@@ -246,6 +257,17 @@ def check_shrunk(checks: Checks, path: Path, stored: bytes) -> None:
         checks.same(f"shrunk to {length}", told, [f"it ended {len(stored) - length} bytes early as it was read"])
 
 
+def check_manifest(checks: Checks, path: Path, text: bytes) -> None:
+    path.write_bytes(text)
+    keys = dict.fromkeys(KEYS, 1)
+    write_manifest(path, Manifest("", keys, {"rules": "1" * 64, "swaps": "2" * 64}, "3" * 64, digest_of(path) or ""))  # type: ignore[arg-type]
+    status, out, _ = outcome([str(file_of(path))], main)
+    checks.same("a manifest", (status, out.splitlines()[0], out.splitlines()[-1]), (0, f"{file_of(path)}: manifest of a report", "  whole"))
+    path.write_bytes(text + b"x")
+    status, out, _ = outcome([str(file_of(path))], main)
+    checks.same("that of another report", (status, "is of another report" in out), (1, True))
+
+
 def self_test() -> int:
     """Lengths are the worked ones of docs/specification/checkpoint.md."""
     checks, plan = Checks("describe"), bytes(range(32))
@@ -271,6 +293,7 @@ def self_test() -> int:
                 status, out, _ = outcome([str(path)], main)
                 checks.same(f"{first}, damaged", (status, "not whole" in out), (1, True))
         check_shrunk(checks, path, level)
+        check_manifest(checks, path, text)
         path.write_bytes(b"something else")
         checks.same("another file", outcome([str(path)], main)[0], 1)
         checks.same("no file", outcome([name + "/none"], main)[0], 2)

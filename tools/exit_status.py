@@ -83,7 +83,7 @@ def status_of_study(about: Optional[str], main: Callable[[List[str]], int]) -> i
 # ---------------------------------------------------------------- the self-test
 
 TOOLS = ("analyse", "correlations", "couplings", "demo_tables", "describe", "estimate", "jackknife", "long_run", "make_seeds",
-         "make_tables", "plain_potts")
+         "make_tables", "manifest", "plain_potts")
 
 
 def ended(words: Tuple[str, ...], out: int) -> Tuple[int, str]:

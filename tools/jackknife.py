@@ -19,6 +19,11 @@ and Other Resampling Plans, SIAM 1982). With one block there is none.
 The error of one file is over the disorder: it takes the samples as independent. Those of one run share
 each random number, so compare it with that of several seeds. Of several files, which must differ in their
 seeds alone, each is one block, and the error is over the seeds.
+
+Reports whose manifests (tools/manifest.py) name couplings files are one block for each file, of equal weight:
+runs of one file have their disorder in common. That error is over the disorder, and has the motion in it. A
+second table tells what part of it the seeds bring that a file has: each report is left out of its file in turn,
+and the sum over the files of (n - 1) / n times the sum of squares about their mean is that error's square.
 """
 import argparse
 import math
@@ -26,17 +31,20 @@ import re
 import sys
 from collections import namedtuple
 from fractions import Fraction
+from functools import reduce
 
 sys.dont_write_bytecode = True
 from analyse import LONGEST_LINE, Report, read_each, spelled  # noqa: E402
 from exit_status import status_of  # noqa: E402
 from make_tables import OneLineParser, Refusal, add_temperatures, inverse_temperatures  # noqa: E402
+from manifest import add_run, study_of  # noqa: E402
 
 # The number of rows, and the sums over them of both energies, of the squared overlap and of its square.
 Sums = namedtuple("Sums", "rows energy squares fourths")
 # Of each slot the sums over all rows, and for each block those over the rows outside it. `run` is what a report tells of
-# its run, the first line and the interval of its epochs; None of sums, which tell neither.
-Averages = namedtuple("Averages", "size slots samples blocks rows totals without run")
+# its run, the first line and the interval of its epochs; None of sums, which tell neither. `seeds` has of each slot, for
+# each couplings file, the sums without each report of that file; None where reports aren't of couplings files.
+Averages = namedtuple("Averages", "size slots samples blocks rows totals without run seeds", defaults=[None])
 
 COUNT = rb"(0|[1-9][0-9]{0,38})"
 SIGNED = rb"(0|-?[1-9][0-9]{0,38})"
@@ -132,8 +140,8 @@ def read(name, stream, options):
     return sums_of_report(name, stream, options.blocks or 1, options.skip)
 
 
-def joined(names, parts):
-    """The sums of several files, each of which is a block."""
+def check_alike(names, parts):
+    """Refuses files of different runs, and one file twice."""
     first, seen, reports = parts[0], {}, []
     for name, part in zip(names, parts):
         if (part.size, part.slots, part.samples, part.rows) != (first.size, first.slots, first.samples, first.rows):
@@ -145,10 +153,37 @@ def joined(names, parts):
         other = seen.setdefault(tuple(part.totals), name)
         if other is not name:
             raise Refusal(f"{name} has the same sums as {other}: files must differ in their seeds")
-    totals = [together(part.totals[slot] for part in parts) for slot in range(first.slots)]
-    without = [[outside(totals[slot], part.totals[slot]) for part in parts] for slot in range(first.slots)]
-    count = len(parts)
-    return Averages(first.size, first.slots, first.samples * count, count, first.rows * count, totals, without, first.run)
+
+
+def scaled(sums, factor):
+    return Sums(*(factor * value for value in sums))
+
+
+def joined(names, parts, numbers):
+    """The sums of several files. Each is a block, or `numbers` has the block of each, and all blocks have one weight."""
+    check_alike(names, parts)
+    first, count = parts[0], len(parts)
+    blocks = [[part for part, number in zip(parts, numbers or range(count)) if number == block]
+              for block in sorted(set(numbers or range(count)))]
+    # Whole numbers, whatever number of reports a block has, also without one of them.
+    base = reduce(lambda a, b: a * b // math.gcd(a, b), (len(block) * max(1, len(block) - 1) for block in blocks))
+    totals, without, seeds = [], [], []
+    for slot in range(first.slots):
+        of_block = [scaled(together(part.totals[slot] for part in block), base // len(block)) for block in blocks]
+        totals.append(together(of_block))
+        without.append([outside(totals[slot], own) for own in of_block])
+        seeds.append([without_each(without[slot][k], [part.totals[slot] for part in block], base)
+                      for k, block in enumerate(blocks)])
+    return Averages(first.size, first.slots, first.samples * len(blocks), len(blocks), first.rows * count, totals, without,
+                    first.run, seeds if numbers else None)
+
+
+def without_each(others, own, base):
+    """The sums of the other blocks and of one's own reports but one; none where there is one report."""
+    if len(own) < 2:
+        return []
+    whole = together(own)
+    return [together([others, scaled(outside(whole, one), base // (len(own) - 1))]) for one in own]
 
 
 # ---------------------------------------------------------------- values and errors
@@ -172,6 +207,25 @@ def jackknife_error(values):
     return math.sqrt((len(values) - 1) / len(values) * math.fsum((value - mean) ** 2 for value in values))
 
 
+def seeds_error(values):
+    """The part of the error that is over the seeds of one disorder, from the values without each report, file by file."""
+    if any(len(of_file) < 2 or None in of_file for of_file in values):
+        return None
+    return math.hypot(*(jackknife_error(of_file) for of_file in values))
+
+
+def print_seeds(averages, names, head):
+    """The errors over the seeds of the same couplings."""
+    volume, reports = averages.size ** 3, [len(of_file) or 1 for of_file in averages.seeds[0]]
+    print(f"couplings files: {averages.blocks}, each a block, of {' '.join(map(str, reports))} reports; "
+          "of the errors above, the part over the seeds of a file:")
+    print(f"slot {head:>10}" + "".join(f" {what:>20}" for what in ("energy", "q^2", "q^4", "Binder")))
+    for slot, name in enumerate(names):
+        values = [[values_of(sums, volume) for sums in of_file] for of_file in averages.seeds[slot]]
+        print(f"{slot:>4} {name:>10}" + "".join(f" {spelled(seeds_error([[one[k] for one in of_file] for of_file in values]), 6, 20)}"
+                                               for k in range(4)))
+
+
 def print_averages(averages, names, head):
     volume = averages.size ** 3
     print(f"size {averages.size}, slots {averages.slots}, samples {averages.samples}, blocks {averages.blocks}, "
@@ -184,6 +238,8 @@ def print_averages(averages, names, head):
         for k, value in enumerate(values):
             line += f" {spelled(value, 6, 10)} {spelled(jackknife_error([part[k] for part in parts]), 6, 9)}"
         print(line)
+    if averages.seeds:
+        print_seeds(averages, names, head)
 
 
 # ---------------------------------------------------------------- the program
@@ -197,7 +253,8 @@ def jackknife(options):
         raise Refusal("of several files each is a block: --blocks is for one")
     options.files = options.files or ["-"]
     parts = list(read_each(options.files, lambda name, stream: read(name, stream, options)))
-    averages = joined(options.files, parts) if len(parts) > 1 else parts[0]
+    numbers = study_of(tuple(options.files), tuple(options.run)).blocks
+    averages = joined(options.files, parts, numbers) if len(parts) > 1 else parts[0]
     if betas and len(betas) != averages.slots:
         raise Refusal(f"{len(betas)} temperatures, and there are {averages.slots} slots")
     if not averages.rows:
@@ -212,6 +269,7 @@ def main(words=None):
     parser.add_argument("files", nargs="*", metavar="FILE",
                         help="what glass average printed, or a report; - for standard input (the default); or several")
     add_temperatures(parser)
+    add_run(parser)
     parser.add_argument("--blocks", type=int, metavar="K", help="of a report: the number of blocks of its samples")
     parser.add_argument("--skip", type=int, default=0, metavar="EPOCH",
                         help="of a report: leave out the epochs before this one")

@@ -1,16 +1,14 @@
-"""What `glass lines` prints: the link overlap and the correlation length of each temperature slot, with errors.
+"""What `glass lines` prints: the link overlap of each temperature slot and how far it reaches, with errors.
 
 For each slot, the coldest first, each with its error:
-  link  mean of q(i) q(j) over all bonds (i, j) and samples, with q the overlap of the two replicas at a site
-  xi    second-moment correlation length in lattice steps: the root of a sum of r^4 C(r) over six times that of
-        r^2 C(r), r from 1 to half the side, with C(r) the mean of q(i) q(k) over sites, directions and samples, k
-        being r steps from i along an axis. It takes C as the same in all directions, and the state as
-        far from equilibrium, where C is gone at half the side. A sum that is not above 0 gives none.
+  link    mean of q(i) q(j) over all bonds (i, j) and samples, with q the overlap of the two replicas at a site
+  C(L/2)  mean of q(i) q(k) over sites, directions and samples, k being half the side from i along an axis: where it
+          isn't near 0 the lattice bounds what is correlated, and no length can be told from such lines
 
 The error is a jackknife over the samples, or of several files, which must differ in their seeds alone, over the
-files. The samples of one run share each random number, so compare it with that of several seeds.
+files. The samples of one run share each random number, so compare it with that of several seeds. The coherence
+length of states far from equilibrium is told by estimate.py lengths.
 """
-import math
 import re
 from collections import namedtuple
 from fractions import Fraction
@@ -107,14 +105,13 @@ def blocks_of(files):
 
 
 def values_of(sums, size):
-    """Link overlap and correlation length; None where it isn't defined."""
-    second, fourth = (sum(r ** power * line for r, line in enumerate(sums.lines, 1)) for power in (2, 4))
-    length = math.sqrt(Fraction(fourth, 6 * second)) if second > 0 and fourth > 0 else None
-    return float(Fraction(sums.link, 3 * size ** 3 * sums.samples)), length
+    """Link overlap and the correlation at half the side."""
+    terms = 3 * size ** 3 * sums.samples
+    return float(Fraction(sums.link, terms)), float(Fraction(sums.lines[-1], terms))
 
 
 def estimates(blocks, size):
-    """Link overlap and correlation length, each with its error."""
+    """Link overlap and the correlation at half the side, each with its error."""
     values = values_of(together(blocks), size)
     parts = [values_of(together(blocks[:k] + blocks[k + 1:]), size) for k in range(len(blocks))] if blocks[1:] else []
     return [(value, jackknife_error([part[k] for part in parts])) for k, value in enumerate(values)]
@@ -124,8 +121,7 @@ def print_estimates(files, names, head):
     header, slots = files[0].header, blocks_of(files)
     what = files[0].name if len(files) == 1 else f"{len(files)} files"
     print(f"{what}: size {header.size}, slots {header.slots}, samples {header.samples}, epoch {header.epoch}")
-    print(f"slot {head:>10} {'link':>10} {'error':>9} {'xi':>9} {'error':>9}")
+    print(f"slot {head:>10} {'link':>10} {'error':>9} {'C(L/2)':>10} {'error':>9}")
     for slot, (name, blocks) in enumerate(zip(names, slots)):
-        (link, link_error), (length, length_error) = estimates(blocks, header.size)
-        print(f"{slot:>4} {name:>10} {spelled(link, 6, 10)} {spelled(link_error, 6, 9)} "
-              f"{spelled(length, 4, 9)} {spelled(length_error, 4, 9)}")
+        print(f"{slot:>4} {name:>10} " + " ".join(f"{spelled(value, 6, 10)} {spelled(error, 6, 9)}"
+                                                  for value, error in estimates(blocks, header.size)))

@@ -37,10 +37,8 @@ def true_lines(seed):
 
 
 def values(samples):
-    """The link overlap and the correlation length of some samples, from the overlaps at the sites."""
-    correlation = [statistics.mean(line_sum(q, d, r) / VOLUME for q in samples for d in range(3)) for r in range(1, HALF + 1)]
-    fourth, second = (math.fsum(r ** power * c for r, c in enumerate(correlation, 1)) for power in (4, 2))
-    return correlation[0], math.sqrt(fourth / (6 * second))
+    """The link overlap and the correlation at half the side of some samples, from the overlaps at the sites."""
+    return [statistics.mean(line_sum(q, d, r) / VOLUME for q in samples for d in range(3)) for r in (1, HALF)]
 
 
 def with_errors(blocks):
@@ -94,12 +92,12 @@ def check_refusals(checks, caller, text, others, report):
         checks.same(what, (status, out, err.count("\n"), err[:9]), (2, "", 1, "analyse: "))
 
 
-def check_no_length(checks, caller):
-    """Where neighbours are opposite in all directions no sum of correlations is above 0."""
+def check_one_sample(checks, caller):
+    """Where neighbours are opposite in all directions the link overlap is -1; one sample has no error."""
     lines = ["lines 1 size=4 slots=1 samples=1 epoch=0", "link,0,0,-192"]
-    lines += [f"line,0,0,{d},{r},{(-64, -62)[r - 1]}" for d in range(3) for r in (1, 2)]
+    lines += [f"line,0,0,{d},{r},{(-64, 64)[r - 1]}" for d in range(3) for r in (1, 2)]
     status, out, err = caller.call([text_of_lines(lines + ["end"])])
-    checks.same("no length, no error", (status, out.splitlines()[2].split()), (0, ["0", "-1.000000", "-", "-", "-"]))
+    checks.same("opposite neighbours", (status, out.splitlines()[2].split()), (0, ["0", "-1.000000", "-", "1.000000", "-"]))
 
 
 def check_lines(checks, caller, report):
@@ -112,4 +110,4 @@ def check_lines(checks, caller, report):
                  "3 files: size 6, slots 2, samples 3, epoch 5")
     check_damage(checks, caller, texts[0])
     check_refusals(checks, caller, text_of_lines(texts[0]), text_of_lines(texts[1]).replace("epoch=5", "epoch=6"), report)
-    check_no_length(checks, caller)
+    check_one_sample(checks, caller)

@@ -27,13 +27,12 @@ from long_run_stop import Stop  # noqa: E402
 STOP = Stop().install() if __name__ == "__main__" and sys.argv[1:2] == ["run"] else Stop()
 
 import argparse  # noqa: E402
-import os  # noqa: E402
 import re  # noqa: E402
-import shutil  # noqa: E402
 from pathlib import Path  # noqa: E402
 from typing import Optional, Sequence  # noqa: E402
 
 from exit_status import NotWritten, output, status_of  # noqa: E402
+from glass_program import find_program  # noqa: E402
 from long_run_driver import Driver, Options  # noqa: E402
 from long_run_folder import NOT_HELD, STOPPED, Fault, RunFolder  # noqa: E402
 from long_run_report import check_reports, place_joined, write_joined  # noqa: E402
@@ -43,21 +42,6 @@ from make_tables import OneLineParser, Refusal  # noqa: E402
 WRONG_WORDS = 2
 TOO_SHORT = "stopped before one part was done: give it more time, or shorter parts"
 TIME = re.compile("(?:(?:([0-9]{1,4})-)?([0-9]{1,4}):([0-9]{2}):([0-9]{2})|([0-9]{1,7}))")
-
-
-def find_program(word: Optional[str]) -> str:
-    """The program that is named, or the repository's, or the installed one beside these tools, or that of PATH."""
-    above = list(Path(__file__).resolve().parents)
-    given = word or os.environ.get("GLASS")
-    installed = [above[3] / "bin" / "glass"] if [it.name for it in above[1:3]] == ["glass", "share"] else []
-    places = [Path(given)] if given else [above[1] / "glass", *installed]
-    for place in places:
-        if place.is_file() and os.access(place, os.X_OK):
-            return str(place.resolve())
-    found = None if given and os.sep in given else shutil.which(given or "glass")
-    if not found:
-        raise Fault(NOT_HELD, f"the program {given or 'glass'} is not there: build it by make, or name it by --program")
-    return os.path.abspath(found)
 
 
 def seconds_of(text: str) -> float:

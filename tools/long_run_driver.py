@@ -2,13 +2,10 @@
 from __future__ import annotations
 
 import contextlib
-import ctypes
 import datetime
 import fcntl
 import os
-import re
 import secrets
-import signal
 import socket
 import subprocess
 import sys
@@ -17,23 +14,21 @@ from dataclasses import dataclass
 from pathlib import Path
 from typing import Callable, Dict, Iterator, List, Optional
 
+from glass_program import child_setup, plan_of
 from long_run_folder import (DAMAGED, DIED, HELD, NO_PART, NOT_HELD, NOT_PLACED, REFUSED, STOPPED, UNREADABLE, Fault,
                              Record, RunFolder, Value, digest_of, read_keys, remove)
 from long_run_report import header_of, is_joined, place_joined
 from long_run_stop import Stop
+from make_tables import Refusal
+from manifest import of_run_file, write_manifest
 
-PLAN = re.compile("plan 1 size=([0-9]+) slots=([0-9]+) samples=([0-9]+) rule=[a-z]+ sweeps=([0-9]+) "
-                  "digest=([0-9a-f]{64})\n")
 GREATEST_ROWS = 4194304
-# The program moves disorder samples in banks of so many, also where it prints fewer.
-BANK = 64
 CHECKPOINT_REFUSED = 6
 # A part that another machine's pace would make 15 minutes long begins with an eighth of its epochs.
 NEW_MACHINE = 8
 # A part is begun in what is left of the time where it would take at most so much of it.
 SAFE_SHARE = 0.8
 LOOK_SECONDS = 0.1
-PR_SET_PDEATHSIG = 1
 
 
 @dataclass(frozen=True)
@@ -50,19 +45,6 @@ class Options:
 
 
 @dataclass(frozen=True)
-class Plan:
-    size: int
-    slots: int
-    samples: int
-    sweeps: int
-    digest: str
-
-    def updates(self, epochs: float) -> float:
-        """Spin updates of so many epochs: all samples that are moved, slots and both replicas."""
-        return epochs * self.sweeps * 2 * moved(self.samples) * self.slots * self.size ** 3
-
-
-@dataclass(frozen=True)
 class Pace:
     """The length of the last part, and the epochs that it made a second."""
 
@@ -71,11 +53,6 @@ class Pace:
 
 
 # ---------------------------------------------------------------- lengths
-
-
-def moved(samples: int) -> int:
-    """How many samples the program moves where it prints so many."""
-    return (samples + BANK - 1) // BANK * BANK
 
 
 def most_until(first: int, every: int, rows_an_epoch: int) -> int:
@@ -97,43 +74,6 @@ def part_length(pace: Optional[Pace], options: Options, left: Optional[float]) -
         fits = int(pace.rate * left * SAFE_SHARE) if pace is not None else 1 if left > 0 else 0
         length = min(length, fits)
     return max(0, length)
-
-
-# ---------------------------------------------------------------- the program
-
-
-def plan_of(program: str, folder: RunFolder, stop: Stop) -> Plan:
-    """What `glass check` says of the run file; its refusals are passed on."""
-    try:
-        ran = subprocess.run([program, "check", "run.toml"], cwd=folder.path, stdin=subprocess.DEVNULL,
-                             stdout=subprocess.PIPE, stderr=subprocess.PIPE, universal_newlines=True, check=False,
-                             preexec_fn=child_setup())
-    except OSError as fault:
-        raise Fault(NOT_HELD, f"{program} can't be run: {fault.strerror}") from None
-    if ran.returncode < 0:
-        raise Fault(*(STOPPED, "stopped") if stop.is_end() else (DIED, f"{program} died by signal {-ran.returncode}"))
-    if ran.returncode:
-        raise Fault(ran.returncode, ran.stderr.strip() or f"{program} check ended with status {ran.returncode}")
-    found = PLAN.fullmatch(ran.stdout)
-    if not found:
-        raise Fault(REFUSED, f"{program} check printed no plan")
-    return Plan(*(int(found[k]) for k in range(1, 5)), found[5])
-
-
-def child_setup() -> Callable[[], None]:
-    """What the program does before it starts: it ends with this driver, and leaves Ctrl-C and warnings to it."""
-    parent = os.getpid()
-    prctl = ctypes.CDLL(None, use_errno=True).prctl if sys.platform.startswith("linux") else None
-
-    def setup() -> None:
-        signal.signal(signal.SIGINT, signal.SIG_IGN)
-        signal.signal(signal.SIGUSR1, signal.SIG_IGN)
-        if prctl is not None:
-            prctl(PR_SET_PDEATHSIG, signal.SIGKILL, 0, 0, 0)
-            if os.getppid() != parent:
-                os._exit(1)
-
-    return setup
 
 
 # ---------------------------------------------------------------- the lock
@@ -191,7 +131,7 @@ class Driver:
         """Works until the run is done (0) or is to be gone on with (74, 75)."""
         with held(self.folder, self.options, self.stop) as lock:
             self.lock = lock
-            self.plan = plan_of(self.options.program, self.folder, self.stop)
+            self.plan = plan_of(self.options.program, self.folder.run_file, self.stop)
             self.keys: Dict[str, Value] = read_keys(self.folder.run_file)
             self.program = digest_of(Path(self.options.program)) or ""
             self.folder.clear_rooms()
@@ -201,6 +141,7 @@ class Driver:
             if not int(self.keys["epochs"]):
                 raise Fault(REFUSED, f"{self.folder.run_file}: epochs is 0, so there is nothing to do")
             if is_joined(self.folder, int(self.keys["epochs"])) and self.epoch() == self.keys["epochs"]:
+                self.leave_manifest()
                 return 0
             self.repair()
             self.folder.drop_checkpoints(self.chain)
@@ -209,7 +150,17 @@ class Driver:
                 # Without a lock a killed driver may have left one since.
                 self.folder.drop_checkpoints(self.chain)
                 place_joined(self.folder, self.chain, self.folder.report)
+                self.leave_manifest()
             return status
+
+    def leave_manifest(self) -> None:
+        """What the joined report was made of, for the tools that take it together with others."""
+        programs = " ".join(dict.fromkeys(record.program for record in self.chain))
+        report = digest_of(self.folder.report) or ""
+        try:
+            write_manifest(self.folder.report, of_run_file(self.folder.run_file, self.plan.digest, report, programs))
+        except Refusal as refusal:
+            raise Fault(NOT_PLACED, str(refusal)) from None
 
     def epoch(self) -> int:
         return self.chain[-1].until if self.chain else 0

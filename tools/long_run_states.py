@@ -11,7 +11,8 @@ from dataclasses import dataclass
 from pathlib import Path
 from typing import List, Optional, Sequence
 
-from long_run_driver import Driver, moved
+from glass_program import moved
+from long_run_driver import Driver
 from long_run_folder import REFUSED, Fault, Record, RunFolder, read_keys
 from long_run_report import header_of, is_joined
 

@@ -11,10 +11,12 @@ from pathlib import Path
 from typing import List, Tuple
 
 import long_run_folder
-from long_run_driver import GREATEST_ROWS, Options, Pace, Plan, most_until, part_length
-from long_run_folder import Fault, plain_keys, read_keys
+from glass_program import Plan
+from long_run_driver import GREATEST_ROWS, Options, Pace, most_until, part_length
+from long_run_folder import Fault, digest_of, plain_keys, read_keys
 from long_run_states import duration, index_of, print_states, ranges
 from make_tables import Checks
+from manifest import read_manifest
 
 TOOLS = Path(__file__).resolve().parent
 STAND_IN = TOOLS / "long_run_stand_in.py"
@@ -41,6 +43,8 @@ class Case:
         self.path = path
         path.mkdir()
         self.write(RUN_FILE)
+        for table in ("rules.csv", "swaps.csv"):
+            (path / table).write_text("")
 
     def write(self, text: str) -> None:
         (self.path / "run.toml").write_text(text)
@@ -134,6 +138,9 @@ def check_run_file(checks: Checks, folder: Path) -> None:
 def check_end(checks: Checks, case: Case) -> None:
     checks.same("a run", case.call(), (0, ""))
     checks.same("is one run", case.is_one_run(), True)
+    left = read_manifest(str(case.path / "report"))
+    checks.same("its manifest", left and (left.keys, left.programs, sorted(left.digests)),
+                (read_keys(case.path / "run.toml"), digest_of(STAND_IN), ["rules", "swaps"]))
     before = case.parts()
     checks.same("done twice", (case.call(), case.parts()), ((0, ""), before))
     for part in before:  # as a kill behind a placing leaves them
@@ -142,6 +149,8 @@ def check_end(checks: Checks, case: Case) -> None:
     checks.same("checkpoints that a kill has left", (case.call(), case.is_one_run()), ((0, ""), True))
     case.write(RUN_FILE.replace("epochs = 40", "epochs = 50"))
     checks.same("a longer run", (case.call(), case.is_one_run()), ((0, ""), True))
+    left = read_manifest(str(case.path / "report"))
+    checks.same("and its manifest", left and left.keys["epochs"], 50)
 
 
 def check_states(checks: Checks, case: Case) -> None:

@@ -5,13 +5,16 @@
     python3 tools/make_seeds.py run.toml --count 20 --couplings a.couplings b.couplings --into study
 
 The folders are study/seed-0001, seed-0002 and so on. Each has the template's run file with a seed of its own,
-which is the template's seed plus the folder's number, and copies of its tables. With couplings files each is
+which is the template's seed plus 10000 times the size plus the folder's number, and copies of its tables. The
+generators of a run don't know its size: with one seed the couplings of a small lattice are the first ones of a
+greater one. So two sizes of a study get different seeds from one template's seed. With couplings files each is
 taken with --count seeds: the first --count folders have the first file, the next ones the second. A couplings
 file is linked where the file system can, so that it takes its room once. index.csv in the same place lists
 folders, seeds and couplings.
 
---first begins at another number, so that a study is made larger; a template of other tables, or of another size,
-rule, start or number of sweeps, is refused then. A folder that is there is never touched.
+--first begins at another number, so that a study is made larger; a template of other tables, of another size, rule,
+start, number of sweeps or kind of couplings, or one that would make a seed a second time, is refused then. A folder that
+is there is never touched.
 """
 from __future__ import annotations
 
@@ -25,12 +28,15 @@ from pathlib import Path
 from typing import Dict, List, Optional, Sequence, Tuple
 
 sys.dont_write_bytecode = True
-from couplings import GREATEST_SEED, read_bytes  # noqa: E402
+from couplings import GREATEST_SEED  # noqa: E402
 from exit_status import status_of  # noqa: E402
 from long_run_folder import Fault, Value, read_keys, read_text  # noqa: E402
 from make_tables import Checks, OneLineParser, Refusal, outcome  # noqa: E402
+from manifest import FILE, TABLES, Manifest, check_same, digests_of, of_run_file  # noqa: E402
 
 GREATEST_NUMBER = 9999
+# Of sizes that follow each other, seeds are so far apart for each step of the size.
+SEEDS_OF_A_SIZE = GREATEST_NUMBER + 1
 INDEX = "index.csv"
 
 
@@ -80,17 +86,27 @@ def check_sources(template: Path, keys: Dict[str, Value], couplings: Sequence[st
             raise Refusal(f"{path} has a name that isn't UTF-8, so no run file names it")
 
 
-def check_study(template: Path, keys: Dict[str, Value], into: Path) -> None:
-    """Refuses a template of another study than the folders that are there: reports tell neither tables nor sweeps, so
-    they would be averaged with the new ones without a word."""
-    for folder in sorted(into.glob("seed-[0-9]*"))[:1]:
-        old = read_keys(folder / "run.toml")
-        for key in ("size", "rule", "sweeps", "start"):
-            if old[key] != keys[key]:
-                raise Refusal(f"{key} is {old[key]} in {folder}, and {keys[key]} in {template}: make another study elsewhere")
-        for key in ("rules", "swaps"):
-            if read_bytes(folder / str(old[key])) != read_bytes(template.parent / str(keys[key])):
-                raise Refusal(f"{key} of {folder} is another table than that of {template}: make another study elsewhere")
+def check_study(template: Path, keys: Dict[str, Value], couplings: Sequence[str], seeds: Sequence[int], into: Path) -> None:
+    """Refuses a template of another study than the folders that are there, and a seed that one of them has: their
+    reports could not be averaged with the new ones."""
+    folders = sorted(into.glob("seed-[0-9]*"))
+    tables = digests_of(template.parent, {key: str(keys[key]) for key in TABLES})
+    wanted = Manifest(str(template), dict(keys, couplings=FILE) if couplings else keys, tables)
+    for folder in folders[:1]:
+        try:
+            check_same(of_run_file(folder / "run.toml"), wanted)
+        except Refusal as refusal:
+            raise Refusal(f"{refusal}: make another study elsewhere") from None
+    for folder in folders:
+        seed = read_keys(folder / "run.toml")["seed"]
+        if seed in seeds:
+            raise Refusal(f"{folder} has the seed {seed} already: give the template another one")
+
+
+def size_of(template: Path, keys: Dict[str, Value]) -> int:
+    if type(keys["size"]) is not int or not 4 <= keys["size"] <= 64:
+        raise Refusal(f"{template}: size is not from 4 to 64: {keys['size']!r}")
+    return keys["size"]
 
 
 def make_folder(path: Path, template: Path, seed: int, couplings: Optional[Path]) -> None:
@@ -141,11 +157,11 @@ def make(options: argparse.Namespace) -> None:
     check_sources(template, keys, options.couplings or [])
     if type(keys["seed"]) is not int:
         raise Refusal(f"{template}: seed is no whole number: {keys['seed']!r}")
-    found = tasks(options, keys["seed"])
+    found = tasks(options, keys["seed"] + SEEDS_OF_A_SIZE * size_of(template, keys))
     taken = [number for number, _, _ in found if (into / f"seed-{number:04d}").exists()]
     if taken:
         raise Refusal(f"{into / f'seed-{taken[0]:04d}'} is there: give --first a number above it")
-    check_study(template, keys, into)
+    check_study(template, keys, options.couplings or [], [seed for _, seed, _ in found], into)
     try:
         write_folders(into, template, found, str(keys["couplings"]))
     except OSError as fault:
@@ -194,6 +210,45 @@ def check_refusals(checks: Checks, folder: Path) -> None:
     checks.same("a folder that was begun is gone", (found[0], found[2].count("\n"), list(into.glob("seed-*"))), (2, 1, []))
 
 
+def check_files(checks: Checks, folder: Path) -> None:
+    into = folder / "files"
+    words = [str(folder / "run.toml"), "--into", str(into), "--count", "2", "--couplings", str(folder / "a"), str(folder / "b")]
+    checks.same("two files with two seeds each", outcome(words, main)[0], 0)
+    keys = read_keys(into / "seed-0003" / "run.toml")
+    third = (keys["seed"], keys["couplings"], (into / "seed-0003" / "b").read_text())
+    checks.same("the third", third, (41003, "file:b", "B"))
+    checks.same("the index", (into / INDEX).read_text().splitlines()[-1], "4,seed-0004,41004,b")
+    checks.same("a larger study of other files", outcome([*words[:-1], "--first", "5"], main)[0], 0)
+
+
+def check_another_study(checks: Checks, folder: Path, words: Sequence[str]) -> None:
+    (folder / "other.csv").write_text("2\n")
+    for old, new in (("sweeps = 1", "sweeps = 2"), ("rules.csv", "other.csv"), ("size = 4", "size = 6"), ('"random"', '"plus"'),
+                     ("1000 # the base", "995")):
+        (folder / "run.toml").write_text(TEMPLATE.replace(old, new))
+        status, out, err = outcome([*words, "--first", "7"], main)
+        is_there = (folder / "study" / "seed-0007").exists()
+        checks.same(f"another study, {new}", (status, out, err.count("\n"), is_there), (2, "", 1, False))
+    (folder / "run.toml").write_text(TEMPLATE)
+    found = outcome([*words, "--first", "7", "--couplings", str(folder / "a")], main)
+    checks.same("another kind of couplings", (found[0], found[2].count("\n")), (2, 1))
+
+
+def check_sizes(checks: Checks, folder: Path) -> None:
+    """With one template's seed no two sizes have a seed in common."""
+    seeds: Dict[int, int] = {}
+    for size in (4, 6, 8):
+        (folder / "run.toml").write_text(TEMPLATE.replace("size = 4", f"size = {size}"))
+        into = folder / f"size_{size}"
+        checks.same(f"size {size}", outcome([str(folder / "run.toml"), "--into", str(into), "--count", "3"], main)[0], 0)
+        for path in into.glob("seed-*"):
+            seed = int(str(read_keys(path / "run.toml")["seed"]))
+            checks.same(f"seed {seed} of size {size}", seeds.setdefault(seed, size), size)
+    checks.same("seeds of all sizes", len(seeds), 9)
+    checks.same("the last seed is below the next size's first", SEEDS_OF_A_SIZE > GREATEST_NUMBER, True)
+    (folder / "run.toml").write_text(TEMPLATE)
+
+
 def self_test() -> int:
     checks = Checks("make_seeds")
     with tempfile.TemporaryDirectory() as name:
@@ -204,25 +259,17 @@ def self_test() -> int:
         words = [template, "--into", str(into), "--count", "2"]
         checks.same("two seeds", outcome(words, main)[0], 0)
         text = (into / "seed-0002" / "run.toml").read_text()
-        checks.same("only the seed's line differs", text, TEMPLATE.replace("1000", "1002"))
+        checks.same("only the seed's line differs", text, TEMPLATE.replace("1000", "41002"))
         checks.same("its files", sorted(os.listdir(into / "seed-0002")), ["rules.csv", "run.toml", "swaps.csv"])
         checks.same("a folder is there", outcome(words, main)[0], 2)
-        more = [*words, "--first", "3", "--couplings", str(folder / "a"), str(folder / "b")]
-        checks.same("two files with two seeds each", outcome(more, main)[0], 0)
-        keys = read_keys(into / "seed-0005" / "run.toml")
-        fifth = (keys["seed"], keys["couplings"], (into / "seed-0005" / "b").read_text())
-        checks.same("the fifth", fifth, (1005, "file:b", "B"))
-        checks.same("the index", (into / INDEX).read_text().splitlines()[-1], "6,seed-0006,1006,b")
-        for old, new in (("sweeps = 1", "sweeps = 2"), ("rules.csv", "other.csv")):
-            (folder / "run.toml").write_text(TEMPLATE.replace(old, new))
-            (folder / "other.csv").write_text("2\n")
-            status, out, err = outcome([*words, "--first", "7"], main)
-            checks.same(f"another study, {new}", (status, out, err.count("\n"), (into / "seed-0007").exists()), (2, "", 1, False))
+        check_files(checks, folder)
+        check_another_study(checks, folder, words)
         (folder / "run.toml").write_text(TEMPLATE.replace("epochs = 4", "epochs = 8"))
         checks.same("a longer one", outcome([*words, "--first", "7"], main)[0], 0)
         (folder / "run.toml").write_text(TEMPLATE.replace("seed = 1000 # the base", '"seed" = 1000'))
         checks.same("no plain line", outcome([*words, "--first", "9"], main)[0], 2)
         check_refusals(checks, folder)
+        check_sizes(checks, folder)
     return checks.end()
 
 

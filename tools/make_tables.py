@@ -5,6 +5,7 @@
     python3 tools/make_tables.py metropolis --temperatures 0.8 1.0 1.2 1.4
     python3 tools/make_tables.py metropolis --range 1.1 3 --slots 12 --size 8 --acceptance
     python3 tools/make_tables.py --check run.toml
+    python3 tools/make_tables.py metropolis --temperatures 1.1 1.3 1.6 2 --exact
 
 Slot 0 is the coldest: temperatures rise strictly from slot to slot, inverse temperatures fall.
 They are in units of the coupling, plain decimals such as 0.2217 or 2.5e-1, and are taken exactly.
@@ -19,7 +20,9 @@ An entry is 2^32 times a probability, to the nearest whole number:
   Metropolis   2^32 exp(-beta dE),  dE = 4k - 12, for k = 4 to 6 satisfied bonds
   swap         2^32 exp(-(beta of the colder - beta of the hotter) dE),  dE = 2 gap,
                entry j for the gap 2(j + 1): so many more unsatisfied bonds has the hotter slot
-A swap record ends before its first entry that is 0, and after 4096 entries.
+A swap record ends before its first entry that is 0, and after 4096 entries. Where rounding puts a threshold off by
+more than 0.1 % of itself a warning tells it. --exact takes the nearest Metropolis temperatures at which no threshold
+is rounded, those with exp(-4 beta) = j / 1024.
 
 Products and differences of the temperatures are exact fractions. Exponentials are computed with 50
 decimal digits, and with more where that leaves the nearest whole number open. So every machine
@@ -31,13 +34,14 @@ import io
 import os
 import re
 import sys
-import tempfile
 from decimal import ROUND_HALF_EVEN, ROUND_HALF_UP, Context, Decimal, localcontext
 from fractions import Fraction
 from pathlib import Path
 
 # An installed tool leaves no bytecode of the modules that it imports.
 sys.dont_write_bytecode = True
+import exact_tables  # noqa: E402
+from exact_tables import rounding_warning  # noqa: E402
 
 SCALE = 2 ** 32
 DIGITS = 50
@@ -66,6 +70,7 @@ def add_temperatures(parser):
     group = parser.add_mutually_exclusive_group()
     group.add_argument("--betas", nargs="+", metavar="B", help="inverse temperatures, strictly falling")
     group.add_argument("--temperatures", nargs="+", metavar="T", help="temperatures, strictly rising")
+    return group
 
 
 def positive(text, slot, what):
@@ -145,14 +150,18 @@ def swap_entry(difference, j):
     return boltzmann_threshold(difference * 4 * (j + 1))
 
 
+def useful_entries(size):
+    """Past the greatest gap of a lattice, all 3 size^3 bonds, none is asked for."""
+    return 3 * size ** 3 // 2 if size else GREATEST_ENTRIES + 1
+
+
 def swap_record(difference, size):
     """The record of a pair, and whether it was cut though the next entry would still count.
 
     With a size, entries past the greatest gap of that lattice are left out: all 3 size^3 bonds.
     """
-    useful = 3 * size ** 3 // 2 if size else GREATEST_ENTRIES + 1
     entries = [swap_entry(difference, 0)]
-    while entries[-1] > 0 and len(entries) < min(useful, GREATEST_ENTRIES + 1):
+    while entries[-1] > 0 and len(entries) < min(useful_entries(size), GREATEST_ENTRIES + 1):
         entries.append(swap_entry(difference, len(entries)))
     if entries[-1] == 0 and len(entries) > 1:
         entries.pop()
@@ -183,6 +192,8 @@ def parser_of_words():
     parser.add_argument("--acceptance", nargs="?", const="", metavar="FILE",
                         help="of a range: even acceptance, from lines temperature,energy per site; without FILE those of "
                              "the glass with random couplings")
+    parser.add_argument("--exact", action="store_true",
+                        help="of metropolis: take the nearest of the 1,025 temperatures whose three thresholds are whole")
     parser.add_argument("--size", type=int, metavar="L",
                         help="leave out swap entries for gaps that a lattice of this size can't have")
     parser.add_argument("--rules", default="rules.csv", metavar="FILE", help="the rule table (rules.csv)")
@@ -221,6 +232,30 @@ def check(options):
         raise Refusal(str(fault)) from None
 
 
+def records_of(options, betas):
+    """The rule records, the swap records with whether each was cut, and the probability behind the end of each."""
+    differences = [colder - hotter for colder, hotter in zip(betas, betas[1:])]
+    swaps = [swap_record(difference, options.size) for difference in differences]
+    return ([rule_record(options.rule, beta) for beta in betas], swaps,
+            [swap_entry(difference, GREATEST_ENTRIES) / SCALE if cut else 0 for difference, (_, cut) in zip(differences, swaps)])
+
+
+def exact_records(options, betas, placing):
+    """The same at the nearest temperatures whose thresholds are whole, which `placing` then tells."""
+    if options.rule != "metropolis":
+        raise Refusal("--exact is for metropolis: no other temperatures of the heat bath have whole thresholds")
+    try:
+        ratios = exact_tables.nearest_ratios(betas)
+    except exact_tables.Unlawful as fault:
+        raise Refusal(str(fault)) from None
+    placing += exact_tables.told(ratios)
+    useful = useful_entries(options.size)
+    pairs = list(zip(ratios, ratios[1:]))
+    return ([exact_tables.rule_record(ratio) for ratio in ratios],
+            [exact_tables.swap_record(colder, hotter, useful) for colder, hotter in pairs],
+            [(colder / hotter) ** (GREATEST_ENTRIES + 1) for colder, hotter in pairs])
+
+
 def make(options):
     check_size(options)
     placing = place(options)
@@ -229,16 +264,17 @@ def make(options):
         raise Refusal("a rule and --betas, --temperatures or --range are needed; --help says more")
     if os.path.realpath(options.rules) == os.path.realpath(options.swaps):
         raise Refusal(f"both tables would go to one file: {options.rules}")
-    rules = [rule_record(options.rule, beta) for beta in betas]
-    swaps = [swap_record(betas[k] - betas[k + 1], options.size) for k in range(len(betas) - 1)]
+    rules, swaps, chances = exact_records(options, betas, placing) if options.exact else records_of(options, betas)
     write_text(options.rules, text_of(rules))
     write_text(options.swaps, text_of(entries for entries, _ in swaps))
     for pair, (_, cut) in enumerate(swaps):
         if cut:
-            chance = swap_entry(betas[pair] - betas[pair + 1], GREATEST_ENTRIES) / SCALE
             print(f"make_tables: warning: the record of pair {pair} is cut at {GREATEST_ENTRIES} entries: a swap at the "
-                  f"gap {2 * GREATEST_ENTRIES + 2} would have the probability {chance:.2g} and will never be made",
+                  f"gap {2 * GREATEST_ENTRIES + 2} would have the probability {chances[pair]:.2g} and will never be made",
                   file=sys.stderr)
+    rounded = None if options.exact else rounding_warning(options.rule, betas, rules)
+    if rounded:
+        print(f"make_tables: warning: {rounded}", file=sys.stderr)
     for line in placing:
         print(line)
     name = "heat bath" if options.rule == "heat" else "Metropolis"
@@ -251,6 +287,7 @@ def main(words=None):
     try:
         options = parser_of_words().parse_args(words)
         if options.self_test:
+            from make_tables_test import self_test
             return self_test()
         (check if options.check else make)(options)
     except Refusal as refusal:
@@ -259,36 +296,7 @@ def main(words=None):
     return 0
 
 
-# ---------------------------------------------------------------- the self-test
-
-
-def bounds(exponent):
-    """Two fractions with exp(-exponent) between them, by Taylor's series of exp(-y) for y below 1.
-
-    The terms fall and alternate in sign, so two neighbouring partial sums enclose the value, and so
-    do their powers.
-    """
-    powers = int(exponent) + 1
-    y = exponent / powers
-    term, total, sums = Fraction(1), Fraction(1), []
-    for n in range(1, 42):
-        term *= -y / n
-        total += term
-        sums.append(total)
-    grid = 2 ** 200
-    low, high = sorted(sums[-2:])
-    low, high = Fraction(int(low * grid), grid), Fraction(int(high * grid) + 1, grid)
-    return low ** powers, high ** powers
-
-
-def rounded(value):
-    return int(value + Fraction(1, 2))
-
-
-def enclosed(exponent, probability):
-    """The nearest whole number to 2^32 probability(exp(-exponent)), known where both bounds agree."""
-    ends = {rounded(SCALE * probability(end)) for end in bounds(exponent)}
-    return ends.pop() if len(ends) == 1 else None
+# ---------------------------------------------------------------- what self-tests of tools share
 
 
 def outcome(words, program=main):
@@ -314,101 +322,6 @@ class Checks:
     def end(self):
         print(f"{self.name}: {self.done} checks, {self.failed} failed")
         return 1 if self.failed else 0
-
-
-def self_test():
-    checks = Checks("make_tables")
-    # exp(-1), exp(-2), exp(-3) and exp(-4) to 20 places, from tables of mathematical functions.
-    known = ("0.36787944117144232160", "0.13533528323661269189", "0.04978706836786394298", "0.01831563888873418029")
-    powers = [rounded(SCALE * Fraction(text)) for text in known]
-    checks.same("Metropolis at 1/4", rule_record("metropolis", Fraction(1, 4)), powers[:3])
-    checks.same("swap entries at 1/4", [swap_entry(Fraction(1, 4), j) for j in range(4)], powers)
-    betas = [Fraction(text) for text in ("0.3", "0.22165463", "0.2", "0.1", "3", "1e-3", "0.000031", "1.4426950408889634")]
-    for beta in betas:
-        wanted = [enclosed(beta * energy, lambda e: e) for energy in (4, 8, 12)]
-        checks.same(f"Metropolis at {beta}", rule_record("metropolis", beta), wanted)
-        down = [enclosed(2 * beta * field, lambda e: e / (1 + e)) for field in (6, 4, 2)]
-        up = [enclosed(2 * beta * field, lambda e: 1 / (1 + e)) for field in (2, 4, 6)]
-        checks.same(f"heat bath at {beta}", rule_record("heat", beta), down + [SCALE // 2] + up)
-        for j in (j for j in (0, 1, 2, 17, 56, 57, 263, 264, 4095) if beta * (j + 1) < 8):
-            checks.same(f"entry {j} at {beta}", swap_entry(beta, j), enclosed(4 * beta * (j + 1), lambda e: e))
-    # 2^32 exp(-x) passes 1/2 at x = 33 ln 2 = 22.8738..: before it an entry is 1, after it 0.
-    checks.same("last entry", [boltzmann_threshold(Fraction(text)) for text in ("22.8738", "22.8739", "23", "23.1")],
-                [1, 0, 0, 0])
-    checks.same("no matter how cold", rule_record("heat", Fraction(10) ** 99), [0, 0, 0, SCALE // 2] + [SCALE] * 3)
-    checks.same("no matter how hot", rule_record("metropolis", Fraction(1, 10 ** 99)), [SCALE] * 3)
-    checks.same("a record ends before its first 0", len(swap_record(Fraction(1, 10), None)[0]), 57)
-    checks.same("a record has an entry", swap_record(Fraction(100), None), ([0], False))
-    checks.same("entries of size 4", len(swap_record(Fraction("0.001"), 4)[0]), 96)
-    for text, cut in (("0.00139577", False), ("0.00139576", True)):
-        entries, was_cut = swap_record(Fraction(text), None)
-        checks.same(f"4096 entries at {text}", (len(entries), entries[-1], was_cut), (4096, 1, cut))
-    with tempfile.TemporaryDirectory() as folder:
-        test_calls(checks, Path(folder))
-    example = Path(__file__).resolve().parent.parent / "examples" / "ising_4"
-    if example.is_dir():
-        betas = [Fraction(text) for text in ("0.3", "0.22165463", "0.2", "0.1")]
-        checks.same("rules.csv of ising_4", (example / "rules.csv").read_bytes().decode(),
-                    text_of(rule_record("heat", beta) for beta in betas))
-        checks.same("swaps.csv of ising_4", (example / "swaps.csv").read_bytes().decode(),
-                    text_of(swap_record(betas[k] - betas[k + 1], None)[0] for k in range(3)))
-    return checks.end()
-
-
-def test_calls(checks, folder):
-    rules, swaps = folder / "rules.csv", folder / "swaps.csv"
-    files = ["--rules", str(rules), "--swaps", str(swaps)]
-    refused = [(["heat", "--betas", *words.split()]) for words in
-               ("0", "-1", "nan", "inf", "1e999", "0x1", "1_0", "", "0.1 0.2", "0.2 0.20", "1 0.5 0", "0.3 ,0.2", "-inf")]
-    refused += [["heat", "--temperatures", *words.split()] for words in
-                ("2 1", "1 1.0", "0", "1 nan", " ".join(map(str, range(1, 34))))]
-    refused += [[], ["heat"], ["glauber", "--betas", "1"], ["heat", "--betas", "1", "--temperatures", "1"],
-                ["heat", "--betas", "1", "--size", "5"], ["heat", "--betas", "1", "--size", "66"], ["heat", "--betas", ""],
-                ["heat", "--betas", "1\n"], ["heat", "--betas", "9" * 41]]
-    refused += [["heat", "--range", *words.split()] for words in
-                ("1 2", "2 1 --slots 4", "0 1 --slots 4", "1 x --slots 4", "1 2 --slots 1", "1 2 --slots 33", "1 nan --slots 2",
-                 "1 2 --slots 4 --acceptance", "0.1 2 --slots 4 --size 8 --acceptance", "1 2 --slots 3 --size 7 --acceptance",
-                 "1 2 --slots 4 --size 8 --acceptance none/such", "1 2 --slots 4 --size 8 --acceptance /dev/zero",
-                 "1 2 --slots 3 --betas 1", "1 1.00001 --slots 9")]
-    refused += [["--range", "1", "2", "--slots", "3"], ["--range", "1", "2", "--slots", "3", "--size", "8", "--acceptance"]]
-    refused += [["heat", "--betas", "1", "--slots", "1"], ["heat", "--betas", "1", "--acceptance"]]
-    for words in refused:
-        status, out, err = outcome(words + files)
-        checks.same(f"{words} is refused in a line", (status, out, err[:13], err.count("\n"), err[-1:]),
-                    (2, "", "make_tables: ", 1, "\n"))
-    checks.same("nothing was written", list(folder.iterdir()), [])
-    status, out, err = outcome(["heat", "--betas", "0.1", *files])
-    checks.same("one slot", (status, err, swaps.read_bytes(), rules.read_bytes().count(b"\n")), (0, "", b"", 1))
-    checks.same("inverse temperatures and temperatures",
-                [outcome(["metropolis", *words, *files])[0] or (rules.read_bytes(), swaps.read_bytes())
-                 for words in (["--betas", "2", "0.5"], ["--temperatures", ".5", "2e0"])],
-                [(text_of([rule_record("metropolis", Fraction(2)), rule_record("metropolis", Fraction(1, 2))]).encode(),
-                  text_of([swap_record(Fraction(3, 2), None)[0]]).encode())] * 2)
-    test_ranges(checks, folder, files)
-    status, out, err = outcome(["heat", "--betas", "0.101", "0.1", *files])
-    checks.same("a warning", (status, err.count("\n"), "pair 0 is cut at 4096 entries" in err), (0, 1, True))
-    checks.same("no warning at size 4", outcome(["heat", "--betas", "0.101", "0.1", "--size", "4", *files])[2], "")
-    once = rules.read_bytes()
-    twice = ["--rules", str(rules), "--swaps", f"{folder}/./rules.csv"]
-    checks.same("both tables in one file", outcome(["heat", "--betas", "1", "0.5", *twice]),
-                (2, "", f"make_tables: both tables would go to one file: {rules}\n"))
-    checks.same("which is as it was", rules.read_bytes(), once)
-    for words in (["--betas", "1"], ["--range", "1", "2", "--slots", "3"]):
-        status, out, err = outcome(["heat", *words, "--rules", str(folder / "none" / "rules.csv")])
-        checks.same("a folder that isn't there", (status, out, err.count("\n")), (2, "", 1))
-
-
-def test_ranges(checks, folder, files):
-    out = outcome(["heat", "--range", "1", "16", "--slots", "5", *files])[1]
-    checks.same("geometric steps", out.splitlines()[0], "temperatures: 1 2 4 8 16")
-    # With e = -beta the exchange of neighbours is equally probable where they are even in beta.
-    (folder / "energies.csv").write_text("".join(f"{t / 10},{-10 / t}\n" for t in range(5, 60)))
-    words = ["heat", "--range", "1", "4", "--slots", "4", "--size", "4", "--acceptance", str(folder / "energies.csv")]
-    out = outcome(words + files)[1].splitlines()
-    # dbeta = 1/4 and V = 64: erfc(sqrt(4) / 2).
-    checks.same("even acceptance", out[:2], ["temperatures: 1 1.33333 2 4", "acceptance of exchanges, estimated: 0.16 to 0.16"])
-    out = outcome(["metropolis", "--range", "1.1", "3", "--slots", "12", "--size", "8", "--acceptance", *files])[1]
-    checks.same("of the glass", (out.count("\n"), out[:18]), (4, "temperatures: 1.1 "))
 
 
 if __name__ == "__main__":

@@ -104,8 +104,13 @@ def placed(options: argparse.Namespace) -> Tuple[List[str], List[str]]:
     table = GLASS if options.acceptance == "" else read_energies(options.acceptance)
     texts = texts_of(options, even(table, low, high, options.slots))
     rates = acceptances(table, [float(text) for text in texts], options.size ** 3)
-    return texts, ["temperatures: " + " ".join(texts),
-                   f"acceptance of exchanges, estimated: {min(rates):.2f} to {max(rates):.2f}"]
+    return texts, ["temperatures: " + " ".join(texts), told(rates)]
+
+
+def told(rates: Sequence[float]) -> str:
+    """The line of estimated acceptances, also where they are below a hundredth."""
+    ends = (f"{rate:.2f}" if rate >= 0.01 else f"{rate:.1g}" for rate in (min(rates), max(rates)))
+    return "acceptance of exchanges, estimated: " + " to ".join(ends)
 
 
 def texts_of(options: argparse.Namespace, temperatures: Sequence[float]) -> List[str]:

@@ -62,8 +62,8 @@ def text(x, y, content, anchor, turned=False):
 
 def energy_panel(means, temperatures, exact):
     xs = temperatures or list(range(len(means)))
-    low = [m.energies[r] - (m.spreads[r] or 0) for m in means for r in range(2)] + (exact or [])
-    high = [m.energies[r] + (m.spreads[r] or 0) for m in means for r in range(2)] + (exact or [])
+    low = [m.energies[r] - (m.deviations[r] or 0) for m in means for r in range(2)] + (exact or [])
+    high = [m.energies[r] + (m.deviations[r] or 0) for m in means for r in range(2)] + (exact or [])
     panel = Panel(0, "energy per site" + (", exact values as rings" if exact else ""), (min(xs), max(xs)),
                   (min(low), max(high)), ("temperature" if temperatures else "temperature slot", "energy per site"))
     for replica in range(2):
@@ -71,8 +71,8 @@ def energy_panel(means, temperatures, exact):
         panel.line([(x, m.energies[replica]) for x, m in zip(xs, means)], colour)
         for x, m in zip(xs, means):
             panel.mark(x, m.energies[replica], colour, True)
-            if m.spreads[replica]:
-                panel.line([(x, m.energies[replica] + sign * m.spreads[replica]) for sign in (-1, 1)], colour)
+            if m.deviations[replica]:
+                panel.line([(x, m.energies[replica] + sign * m.deviations[replica]) for sign in (-1, 1)], colour)
     for x, value in zip(xs, exact or []):
         panel.mark(x, value, "#000000", False)
     return panel

@@ -18,10 +18,11 @@ import numpy as np  # noqa: E402
 from numpy.typing import NDArray  # noqa: E402
 
 from exit_status import status_of_study  # noqa: E402
-from glass_analysis import Estimate, binder, doubling_bins, jackknife, moments, read_report, round_trips  # noqa: E402
+from glass_analysis import (Estimate, binder, bootstrap, densities, doubling_bins, jackknife, moments,  # noqa: E402
+                            overlap_edges, read_report, round_trips)
+from glass_analysis.errors import Interval  # noqa: E402
 from glass_analysis.figures import plt, save  # noqa: E402
-from glass_analysis.observables import SQUARE, overlap_edges  # noqa: E402
-from glass_analysis.times import part  # noqa: E402
+from glass_analysis.observables import SQUARE  # noqa: E402
 from make_tables import Refusal  # noqa: E402
 
 # M. Baity-Jesi et al., Phys. Rev. B 88, 224416 (2013).
@@ -50,20 +51,17 @@ def in_blocks(by_sample: NDArray[np.float64]) -> NDArray[np.float64]:
 
 def read_size(size: int, seeds: int) -> Size:
     """One report at a time, so that none but its means is kept."""
-    parts, densities, trips, until = [], [], [], None
-    edges = overlap_edges(size ** 3)
+    parts, distributions, trips, until = [], [], [], None
     for seed in range(1, seeds + 1):
         records = read_report(str(here / f"seed_{size}_{seed}.txt"))
         until = until or records.until
         if records.until != until:
             raise Refusal(f"{records.name} goes to epoch {records.until}, and that of seed 1 to {until}")
         bins = doubling_bins(records.epochs)
-        parts.append(np.stack([in_blocks(moments(part(records, *ends))) for ends in bins], axis=1))
-        overlaps = part(records, *bins[0]).overlaps[:, :, 0] / records.sites
-        counted = np.stack([np.histogram(of_sample, edges, density=True)[0] for of_sample in overlaps.T])
-        densities.append(in_blocks((counted + counted[:, ::-1]) / 2))
+        parts.append(np.stack([in_blocks(moments(records.part(*ends))) for ends in bins], axis=1))
+        distributions.append(in_blocks(densities(records.part(*bins[0]), 0)))
         trips.append(int(round_trips(records).sum()))
-    return Size(np.array(parts), np.array(densities), trips)
+    return Size(np.array(parts), np.array(distributions), trips)
 
 
 def crossing(temperatures: NDArray[np.float64], small: NDArray[np.float64], large: NDArray[np.float64]) -> NDArray[np.float64]:
@@ -77,12 +75,10 @@ def crossing(temperatures: NDArray[np.float64], small: NDArray[np.float64], larg
     return np.array(max(roots, default=np.nan))
 
 
-def crossing_of(temperatures: NDArray[np.float64], small: Size, large: Size) -> Estimate:
-    """With the error of both sizes, whose seeds are independent."""
-    a, b = small.blocks(), large.blocks()
-    one = jackknife(a, lambda means: crossing(temperatures, binder(means), binder(b.mean(axis=0))))
-    other = jackknife(b, lambda means: crossing(temperatures, binder(a.mean(axis=0)), binder(means)))
-    return Estimate(one.value, np.hypot(one.error, other.error))
+def crossing_of(temperatures: NDArray[np.float64], small: Size, large: Size) -> Interval:
+    """By the bootstrap over the blocks of both sizes, which are independent: curves need not cross in every resample."""
+    return bootstrap([small.blocks(), large.blocks()],
+                     lambda a, b: crossing(temperatures, binder(a), binder(b)))
 
 
 def print_rest(size: int, found: Size, temperatures: NDArray[np.float64]) -> None:
@@ -108,22 +104,23 @@ def main(words: List[str]) -> int:
     for slot, temperature in enumerate(temperatures):
         print(f"{temperature:<8g}" + "".join(f"{r.value[slot]:>11.5f} {r.error[slot]:>8.5f}" for r in ratios.values()))
     for small, large in combinations(sizes, 2):
-        value, error = crossing_of(temperatures, sizes[small], sizes[large])
-        print(f"sizes {small:>2} and {large:>2} cross at T = {float(value):.3f} +- {float(error):.3f}")
+        found = crossing_of(temperatures, sizes[small], sizes[large])
+        print(f"sizes {small:>2} and {large:>2} cross at T = {found.value:.3f}, between {found.low:.3f} and {found.high:.3f}"
+              + (f"; in {found.missing:.1%} of the resamples nowhere" if found.missing else ""))
     print(f"the transition: {TRANSITION} +- {ITS_ERROR}")
     draw(temperatures, ratios, {size: jackknife(found.density.reshape(-1, found.density.shape[-1]))
                                for size, found in sizes.items()})
     return 0
 
 
-def draw(temperatures: NDArray[np.float64], ratios: Dict[int, Estimate], densities: Dict[int, Estimate]) -> None:
+def draw(temperatures: NDArray[np.float64], ratios: Dict[int, Estimate], distributions: Dict[int, Estimate]) -> None:
     figure, panels = plt.subplots(1, 2, figsize=(6.4, 2.7), layout="constrained")
     for size, (value, error) in ratios.items():
         panels[0].errorbar(temperatures, value, error, marker="o", markersize=2, linewidth=0.8, label=f"L = {size}")
     panels[0].axvspan(TRANSITION - ITS_ERROR, TRANSITION + ITS_ERROR, alpha=0.3)
     panels[0].set(xlabel="T", ylabel="Binder ratio")
     panels[0].legend()
-    for size, (value, error) in densities.items():
+    for size, (value, error) in distributions.items():
         edges = overlap_edges(size ** 3)
         middle = (edges[1:] + edges[:-1]) / 2
         line, = panels[1].plot(middle, value, linewidth=0.9)

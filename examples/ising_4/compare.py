@@ -1,5 +1,5 @@
 #!/usr/bin/env python3
-"""Tells whether the runs of this study are at rest, and draws their energies beside the exact ones: figure.png.
+"""Tells whether the runs of this study are equilibrated, and draws their energies beside the exact ones: figure.png.
 
     python3 compare.py seed_1.txt seed_2.txt ..        reports of study
 """

@@ -34,7 +34,7 @@ def exact(beta: float) -> float:
 
 def squares(values: NDArray[np.float64], known: float) -> List[float]:
     """Of energies, samples along axis 1: the mean square of how far their mean over the samples is from the exact
-    energy, and that of the error which the spread over the samples tells."""
+    energy, and that of the error which the deviation of the sample means tells."""
     means, variances = values.mean(axis=1), values.var(axis=1, ddof=1) / values.shape[1]
     return [float(np.mean((means - known) ** 2)), float(np.mean(variances))]
 

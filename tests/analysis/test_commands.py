@@ -40,7 +40,7 @@ def test_means_are_those_of_the_other_tools(reports):
     other = outcome([str(name) for name in given], jackknife.main)[1].splitlines()[2:]
     for mine, theirs in zip(call("means", *given)[1].splitlines()[2:], other):
         mine, theirs = mine.split(), theirs.split()
-        assert mine[:5] == theirs[:5] and mine[7:] == theirs[7:]
+        assert mine[:5] == theirs[:5] and mine[7:9] == theirs[7:9]
 
 
 def test_a_figure_and_a_table_of_lengths(tmp_path):
@@ -54,12 +54,12 @@ def test_a_figure_and_a_table_of_lengths(tmp_path):
         assert ("share each random number" in out) == (len(files) == 1)
         other = outcome([str(name) for name in files] + ["--temperatures", "1", "1.5"], analyse.main)[1].splitlines()[2:4]
         for mine, theirs in zip(out.splitlines()[2:4], other):
-            assert [f"{float(x):.4f}" for x in mine.split()[2:]] == [f"{float(x):.4f}" for x in theirs.split()[2:]]
+            assert mine.split()[:4] == theirs.split()[:4] and " no length: " in mine
     for words in ([given[0], given[0]], [given[0], "--blocks", 2], [tmp_path / "none"], [given[0], "--temperatures", 1]):
         assert call("lengths", *words)[0] == 2
 
 
-# Replicas of slot 1 that agree at half of the sites, and correlations that are 0: no Binder ratio there, and no length.
+# Replicas of slot 1 that agree at half of the sites, and correlations that are 0: no Binder ratio there, and no errors.
 NO_OVERLAP = """glass 1 size=4 slots=2 samples=2 rule=heat from=0 to=1
 row,0,0,0,192,192,64,0,0
 row,0,0,1,0,0,0,1,1
@@ -79,7 +79,7 @@ def test_what_is_not_defined_is_nan_without_a_warning(tmp_path, command, text, u
     (tmp_path / "text").write_text(text)
     status, out, err = call(command, tmp_path / "text", "--plot", tmp_path / "figure.png")
     slots = out.splitlines()[2:4]
-    assert (status, err) == (0, "") and [line.split()[-2] == "nan" for line in slots] == undefined
+    assert (status, err) == (0, "") and ["nan" in line for line in slots] == undefined
 
 
 def test_the_two_kinds_of_files_are_not_taken_for_each_other(reports, tmp_path):
@@ -106,7 +106,12 @@ def test_arrays_on_a_full_disk_are_told_in_a_line(reports, kind):
                                    ["export", "1.txt"], ["means", "1.txt", "--skip", "99"], ["means", "1.txt", "--blocks", "3"],
                                    ["means", "1.txt", "2.txt", "--blocks", "1"], ["means", "1.txt", "--plot", "x.what"],
                                    ["means", "1.txt", "1.txt"], ["times", "1.txt", "--blocks", "2"],
-                                   ["export", "1.txt", "--npz", "x.npz", "--blocks", "2"]])
+                                   ["export", "1.txt", "--npz", "x.npz", "--blocks", "2"],
+                                   ["export", "1.txt", "2.txt", "--npz", "x.npz"], ["export", "1.txt", "--hdf5", "none/x.h5"],
+                                   ["reweight", "1.txt"], ["reweight", "1.txt", "--at", "1.5"], ["bracket", "1.txt"],
+                                   ["bracket", "1.txt", "--random", "1.txt"], ["bracket", "1.txt", "--random", "2.txt", "3.txt"],
+                                   ["walks", "1.txt", "--feedback"], ["overlaps", "1.txt", "--below", "2"],
+                                   ["means", "1.txt", "--run", "none.toml"], ["means", "1.txt", "--run", "x", "--betas", "1"]])
 def test_a_refusal_is_a_line(reports, words, monkeypatch):
     monkeypatch.chdir(reports)
     status, _, err = call(*words)

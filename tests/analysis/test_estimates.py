@@ -8,19 +8,22 @@ from analyse_test import text_of_lines
 from make_tables import Refusal
 from scipy import stats
 
-from glass_analysis import (Records, acceptance, autocorrelation_time, binder, blocks, distribution, doubling_bins,
-                            equilibration, jackknife, moments, round_trips)
-from glass_analysis.observables import overlap_edges
+from glass_analysis import (Records, acceptance, autocorrelation_time, below, binder, blocks, bootstrap, densities,
+                            distribution, energy_moments, feedback_temperatures, jackknife, moments, overlap_edges,
+                            round_trips, specific_heat)
+from glass_analysis.distributions import below_errors
+from glass_analysis.errors import uncertainty
 from glass_analysis.reports import records_of
+from glass_analysis.walks import downward_counts, downward_share
 
 
-def records_with(overlaps=None, labels=None, energies=None, epochs=None):
-    """Records of size 4 from what is given; the rest is zero."""
+def records_with(overlaps=None, labels=None, energies=None, epochs=None, size=4):
+    """Records from what is given; the rest is zero."""
     shape = next(given.shape[:3] for given in (overlaps, labels, energies) if given is not None)
     epochs = np.arange(shape[0]) if epochs is None else epochs
     every = int(epochs[1] - epochs[0]) if len(epochs) > 1 else None
     zeros = np.zeros((*shape, 2), np.int64)
-    return Records("r", 4, "heat", 0, int(epochs[-1]) + 1, every, epochs, zeros if energies is None else energies,
+    return Records("r", size, "heat", 0, int(epochs[-1]) + 1, every, epochs, zeros if energies is None else energies,
                    zeros[..., 0] if overlaps is None else overlaps, zeros if labels is None else labels)
 
 
@@ -57,11 +60,47 @@ def test_the_distribution_is_symmetric_and_normal():
     assert np.isnan(error).all()
 
 
-@pytest.mark.parametrize("size, bins", [(4, 65), (6, 31), (8, 57), (10, 91)])
-def test_each_bin_has_as_many_values(size, bins):
-    values = np.arange(-size ** 3, size ** 3 + 1, 2) / size ** 3
-    counted, _ = np.histogram(values, overlap_edges(size ** 3))
-    assert counted.tolist() == [len(values) // bins] * bins
+@pytest.mark.parametrize("size, bins", [(4, None), (4, 8), (8, 20), (16, None), (16, 40), (16, 4097)])
+def test_overlaps_that_are_equally_probable_have_a_flat_distribution(size, bins):
+    """Also where the bins don't have as many values of q each."""
+    sites = size ** 3
+    values = np.arange(-sites, sites + 1, 2).reshape(-1, 1, 1)
+    found = densities(records_with(overlaps=values, size=size), 0, bins)
+    edges = overlap_edges(sites, bins)
+    assert len(edges) == found.shape[1] + 1 == (min(65, sites + 1) if bins is None else bins) + 1
+    assert np.allclose(found, sites / (2 * (sites + 1))) and found.sum() * (edges[1] - edges[0]) == pytest.approx(1)
+
+
+def test_more_bins_than_values_are_refused():
+    for bins in (0, 66):
+        with pytest.raises(Refusal):
+            overlap_edges(64, bins)
+
+
+def test_small_overlaps_of_each_sample_with_errors():
+    """Sample 0 has |q| < 0.5 in each fourth record, sample 1 in none."""
+    random = np.random.default_rng(12)
+    overlaps = np.full((4000, 2, 1), 48)
+    overlaps[:, 0, 0] = random.choice([48, -20, 32, -32], 4000)
+    records = records_with(overlaps=overlaps)
+    value, error = below(records, 0, 0.5), below_errors(records, 0, 0.5)
+    assert value[1] == error[1] == 0 and abs(value[0] - 0.25) < 4 * error[0]
+    assert error[0] == pytest.approx(math.sqrt(0.25 * 0.75 / 4000), rel=0.6)
+    assert np.isnan(below_errors(records.part(0, 7), 0, 0.5)).all()
+
+
+def test_the_specific_heat_is_that_of_short_runs_too():
+    """Of independent bonds beta^2 bonds / (sites cosh(beta)^2). The square of a run's own mean makes it too low by a part
+    1 / 16 of eight records of two replicas."""
+    bonds, beta = 192, 0.4
+    random = np.random.default_rng(13)
+    energies = 2 * random.binomial(bonds, 1 / (1 + math.exp(2 * beta)), (8, 8192, 1, 2)) - bonds
+    records = records_with(energies=energies)
+    wanted = beta ** 2 * bonds / 64 / math.cosh(beta) ** 2
+    value, error = jackknife(blocks([energy_moments(records)]), lambda means: specific_heat(means, [beta], 64))
+    assert abs(value[0] - wanted) < 3 * error[0] and error[0] < wanted / 100
+    of_its_own_mean = beta ** 2 / 64 * energies.var(axis=(0, 3)).mean()
+    assert of_its_own_mean == pytest.approx(wanted * 15 / 16, rel=0.02)
 
 
 @pytest.mark.parametrize("memory", [0.0, 0.5, 0.9])
@@ -86,22 +125,6 @@ def test_a_drift_has_no_settled_time():
     assert math.isnan(autocorrelation_time(np.ones(30)).value)
 
 
-def test_bins_double():
-    assert doubling_bins(np.arange(16)) == [(8, 16), (4, 8), (2, 4)]
-    assert doubling_bins(np.arange(9, 160, 10)) == [(8, 16), (4, 8), (2, 4)]
-    assert doubling_bins(np.arange(3)) == []
-
-
-def test_steps_of_a_run_that_falls_and_of_one_that_rests():
-    random = np.random.default_rng(4)
-    noise = np.rint(random.normal(0, 8, (4096, 16, 1, 2))).astype(np.int64)
-    fall = np.rint(-40 * np.log2(np.arange(1, 4097))).astype(np.int64).reshape(-1, 1, 1, 1)
-    for energies, is_at_rest in ((noise, True), (noise + fall, False)):
-        steps = [one.step for one in equilibration([records_with(energies=energies)]) if one.step is not None]
-        in_errors = [float(abs(step.value[0, 0] / step.error[0, 0])) for step in steps[-3:]]
-        assert (max(in_errors) < 4) == is_at_rest
-
-
 def test_exchanges_are_those_counted_row_by_row(made_reports):
     lines, taken = made_reports[1, False]
     rates = acceptance([records_of("r", text_of_lines(lines).encode())])
@@ -120,7 +143,7 @@ def test_round_trips_by_hand():
 
 
 def test_what_samples_have_in_common_shows_over_seeds_alone():
-    # x = (what the sample has) + (what the run's random numbers bring to all its samples), of spread 1 and 0.5.
+    # x = (what the sample has) + (what the run's random numbers bring to all its samples), of standard deviation 1 and 0.5.
     random = np.random.default_rng(5)
     runs = [random.normal(0, 1, 64) + random.normal(0, 0.5) for _ in range(400)]
     of_one = np.mean([jackknife(blocks([run.reshape(64, 1)])).error for run in runs])
@@ -136,3 +159,52 @@ def test_blocks_of_one_report_are_of_equal_size():
     for count in (0, 4, 7):
         with pytest.raises(Refusal):
             blocks([values], count)
+
+
+def chain(chances, epochs, seed):
+    """Walks of 8 samples, in which pair k trades with its own chance whenever it has its turn."""
+    random, slots = np.random.default_rng(seed), len(chances) + 1
+    labels = np.tile(np.arange(slots, dtype=np.int8)[:, None], (8, 1, 2))
+    found = np.empty((epochs, 8, slots, 2), np.int8)
+    for epoch in range(epochs):
+        found[epoch] = labels
+        for pair in range(epoch % 2, slots - 1, 2):
+            trade = random.random((8, 2)) < chances[pair]
+            one, other = labels[:, pair].copy(), labels[:, pair + 1].copy()
+            labels[:, pair], labels[:, pair + 1] = np.where(trade, other, one), np.where(trade, one, other)
+    return records_with(labels=found)
+
+
+def test_the_share_from_the_hottest_slot_rises_as_the_resistances():
+    """In the steady state as many come through each pair, p_k (f_k+1 - f_k) is one for all, so f rises by 1 / p_k."""
+    chances = np.array([0.4, 0.4, 0.04, 0.4, 0.2])
+    share = downward_share(downward_counts(chain(chances, 12000, 1)).sum(axis=0))
+    wanted = np.concatenate([[0], np.cumsum(1 / chances)]) / (1 / chances).sum()
+    assert share[0] == 0 and share[-1] == 1 and np.allclose(share, wanted, atol=0.04)
+    assert acceptance([chain(chances, 3000, 2)]).value == pytest.approx(chances, rel=0.1)
+
+
+def test_feedback_puts_temperatures_where_walks_are_slow():
+    # f rises by 1, 9 and 16 of 26: roots 1, 3 and 4 of 8. Three equal steps of 8 / 3 along them.
+    found = feedback_temperatures([1, 2, 4, 5], np.array([0, 1, 10, 26]) / 26)
+    assert found == pytest.approx([1, 2 + 2 * (8 / 3 - 1) / 3, 4 + (16 / 3 - 4) / 4, 5])
+    for given, share in (([1, 2, 3], [0, 0, 1]), ([1, 2, 3], [0, np.nan, 1]), ([1, 2, np.inf], [0, 0.5, 1])):
+        with pytest.raises(Refusal):
+            feedback_temperatures(given, np.array(share))
+
+
+def test_the_bootstrap_of_a_mean_and_of_what_is_not_always_there():
+    values = np.random.default_rng(14).normal(3, 1, (100, 1))
+    found = bootstrap([values], lambda means: means[0])
+    assert found.value == values.mean() and found.missing == 0
+    assert (found.high - found.low) / 2 == pytest.approx(0.1, rel=0.25) and found.low < found.value < found.high
+    half = bootstrap([values], lambda means: means[0] if means[0] > values.mean() else np.nan)
+    assert half.missing == pytest.approx(0.5, abs=0.06) and values.mean() < half.low < half.high
+    assert bootstrap([values], lambda means: np.nan).missing == 1
+
+
+def test_the_error_of_an_error():
+    """Of sixteen blocks it is known to 18 %."""
+    errors = [jackknife(np.random.default_rng(seed).normal(size=(16, 1))).error[0] for seed in range(400)]
+    assert np.std(errors) / np.mean(errors) == pytest.approx(uncertainty(16), rel=0.15)
+    assert uncertainty(16) == pytest.approx(0.1826, abs=1e-4) and math.isnan(uncertainty(1))

@@ -23,7 +23,7 @@ def assert_alike(text, what):
     """Both readers accept, or refuse in the same words, and the fast one sees by itself whether to refuse."""
     wanted = refusal_of(lambda stored: Report("r", io.BytesIO(stored), 0), text)
     assert refusal_of(lambda stored: records_of("r", stored), text) == wanted, what
-    assert (lawful_records("r", text.encode("latin-1")) is None) == (wanted is not None), what
+    assert (lawful_records("r", io.BytesIO(text.encode("latin-1"))) is None) == (wanted is not None), what
 
 
 def damaged_lines(line):

@@ -28,13 +28,14 @@ def begun(script, words=(), **variables):
     return ran.returncode, ran.stderr
 
 
-@pytest.mark.parametrize("script", ["aging_32/run", "crossing/study", "ising_4/study", "nishimori_8/study", "samples_4/study"])
+@pytest.mark.parametrize("script", ["aging_32/run", "crossing/study", "ising_4/study", "nishimori_8/study", "samples_4/study",
+                                    "validation/study"])
 def test_a_study_without_a_program_is_told_in_a_line(script):
     status, said = begun(script, GLASS="/none/such", PYTHON=sys.executable)
     assert status == 2 and said.count("\n") == 1 and "there is no program /none/such" in said
 
 
-@pytest.mark.parametrize("name", ["crossing", "nishimori_8", "samples_4"])
+@pytest.mark.parametrize("name", ["crossing", "nishimori_8", "samples_4", "validation"])
 def test_a_study_looks_for_numpy_before_it_runs(name):
     status, said = begun(f"{name}/study", GLASS="/bin/true", PYTHON="/bin/false")
     assert status == 2 and said.count("\n") == 1 and "lacks numpy" in said
@@ -47,7 +48,7 @@ def test_a_word_that_is_no_number_is_refused(script, word):
     assert status == 2 and said.count("\n") == 1 and said.endswith(f": {word}\n")
 
 
-@pytest.mark.parametrize("name", ["crossing", "ising_4", "nishimori_8", "samples_4"])
+@pytest.mark.parametrize("name", ["crossing", "ising_4", "nishimori_8", "samples_4", "validation"])
 def test_a_comparison_of_nothing_is_refused_in_a_line(name):
     words = [sys.executable, str(EXAMPLES / name / "compare.py")]
     ran = subprocess.run(words, stderr=subprocess.PIPE, universal_newlines=True, check=False)
@@ -59,6 +60,22 @@ def test_curves_cross_where_the_smaller_size_comes_to_be_above():
     small, large = (0.5 - slope * (temperatures - 1.1) + 0.1 * (temperatures - 1.1) ** 2 for slope in (0.2, 0.6))
     assert crossing(temperatures, small, large) == pytest.approx(1.1)
     assert math.isnan(crossing(temperatures, large, small)) and math.isnan(crossing(temperatures, small + 1, large))
+
+
+def test_crossings_of_noisy_curves_have_ends_and_no_error_that_is_nan():
+    """Curves of the slopes 0.2 and 0.6 cross at 1.1; with this noise some resamples of flatter ones don't cross."""
+    examples, temperatures, random = study("crossing"), np.linspace(1, 1.8, 10), np.random.default_rng(15)
+
+    def size(slope):
+        ratio = 0.5 - slope * (temperatures - 1.1) + random.normal(0, 0.02, (6, 8, 1))
+        # Moments whose Binder ratio is this one: q^2 is 1, and q^4 is 3 - 2 ratio.
+        moments = np.stack([0 * ratio, 1 + 0 * ratio, 3 - 2 * ratio, 0 * ratio], axis=-1)
+        return examples.Size(moments[:, :, None], np.zeros((6, 8, 1)), [])
+
+    steep = examples.crossing_of(temperatures, size(0.2), size(0.6))
+    assert steep.missing < 0.01 and steep.low < 1.1 < steep.high and steep.high - steep.low < 0.06
+    flat = examples.crossing_of(temperatures, size(0.2), size(0.21))
+    assert 0 < flat.missing < 1 and math.isfinite(flat.low) and math.isfinite(flat.high)
 
 
 def test_reports_of_two_numbers_of_epochs_are_not_taken_together(tmp_path):

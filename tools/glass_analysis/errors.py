@@ -1,10 +1,10 @@
-"""Values with errors, by the jackknife over independent blocks.
+"""Values with errors, by the jackknife or the bootstrap over independent blocks.
 
 B. Efron, The Jackknife, the Bootstrap and Other Resampling Plans, SIAM 1982.
 """
 from __future__ import annotations
 
-from typing import Callable, NamedTuple
+from typing import Callable, NamedTuple, Sequence
 
 import numpy as np
 from numpy.typing import NDArray
@@ -30,3 +30,31 @@ def jackknife(parts: Numbers, function: Callable[[Numbers], Numbers] = lambda me
         return Estimate(value, np.full(value.shape, np.nan))
     without = np.stack([function(rest) for rest in (parts.sum(axis=0) - parts) / (count - 1)])
     return Estimate(value, np.sqrt((count - 1) * without.var(axis=0)))
+
+
+class Interval(NamedTuple):
+    """A value, the ends of its interval of 68 %, and the share of resamples that have no value."""
+    value: float
+    low: float
+    high: float
+    missing: float
+
+
+def bootstrap(groups: Sequence[Numbers], function: Callable[..., Numbers], count: int = 1000, seed: int = 1) -> Interval:
+    """A number that is a function of the means of several independent groups of blocks, which need not always exist.
+
+    In each of `count` resamples of all groups, with as many blocks as they have, `function` gets the means of each
+    group. The interval is from the 16th to the 84th percentile of those resamples that have a value.
+    """
+    random = np.random.default_rng(seed)
+    found = np.array([function(*(group[random.integers(len(group), size=len(group))].mean(axis=0) for group in groups))
+                      for _ in range(count)], float)
+    known = found[np.isfinite(found)]
+    low, high = np.percentile(known, (16, 84)) if len(known) else (np.nan, np.nan)
+    return Interval(float(function(*(group.mean(axis=0) for group in groups))), float(low), float(high),
+                    1 - len(known) / count)
+
+
+def uncertainty(blocks: int) -> float:
+    """By which part an error over so many blocks is itself uncertain: that of a standard deviation of Gaussian values."""
+    return float("nan") if blocks < 2 else (2 * (blocks - 1)) ** -0.5

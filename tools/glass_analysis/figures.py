@@ -13,10 +13,11 @@ from matplotlib.figure import Figure  # noqa: E402
 
 from make_tables import Refusal  # noqa: E402
 
+from .distributions import Distribution  # noqa: E402
+from .equilibrium import Bin, Meeting  # noqa: E402
 from .errors import Estimate  # noqa: E402
-from .observables import ENERGY, SQUARE, Distribution  # noqa: E402
+from .observables import ENERGY, SQUARE  # noqa: E402
 from .reports import Records  # noqa: E402
-from .times import Bin  # noqa: E402
 from .walks import positions  # noqa: E402
 
 # Walks that are drawn of longer runs have so many points.
@@ -69,6 +70,35 @@ def equilibration(bins: Sequence[Bin], names: Sequence[str], drawn: Sequence[int
     return figure
 
 
+def bracket(meetings: Sequence[Meeting], names: Sequence[str], drawn: Sequence[int]) -> Figure:
+    """Energy and q^2 of runs from ordered and from random spins, by part and slot."""
+    figure, panels = plt.subplots(1, 2, figsize=(7, 3), layout="constrained")
+    ends = [one.end for one in meetings]
+    for panel, moment, what in zip(panels, (ENERGY, SQUARE), ("energy per site", "q²")):
+        for slot in drawn:
+            color = None
+            for side, line in (("ordered", "-"), ("random", "--")):
+                sides = [getattr(one, side) for one in meetings]
+                drawn_line = panel.errorbar(ends, [one.value[slot, moment] for one in sides],
+                                            [np.nan_to_num(one.error[slot, moment]) for one in sides], linestyle=line,
+                                            color=color, label=f"{names[slot]}, {side}", **MARKS)
+                color = drawn_line[0].get_color()
+        panel.set(xscale="log", xlabel="end of the part, epochs", ylabel=what)
+    panels[1].legend(fontsize="small")
+    return figure
+
+
+def correlations(names: Sequence[str], found: Estimate) -> Figure:
+    """C(r) along the axes by slot, with errors, where it is above 0."""
+    figure, panel = plt.subplots(figsize=(4.5, 3.2), layout="constrained")
+    for name, value, error in zip(names, found.value, found.error):
+        steps = np.flatnonzero(value > 0)
+        panel.errorbar(steps, value[steps], np.nan_to_num(error[steps]), label=name, **MARKS)
+    panel.set(yscale="log", xlabel="r, lattice steps", ylabel="C(r)")
+    panel.legend(fontsize="small")
+    return figure
+
+
 def walk(records: Records, sample: int = 0, replica: int = 0, labels: Optional[Sequence[int]] = None) -> Figure:
     """The slot of configurations of one sample, by epoch."""
     places = positions(records)[:, sample, :, replica]
@@ -77,5 +107,5 @@ def walk(records: Records, sample: int = 0, replica: int = 0, labels: Optional[S
     for label in labels if labels is not None else (0, records.slots - 1):
         panel.step(records.epochs[shown], places[shown, label], linewidth=0.8, label=f"began in slot {label}")
     panel.set(xlabel="epoch", ylabel="temperature slot")
-    panel.legend()
+    panel.legend(loc="upper right")
     return figure

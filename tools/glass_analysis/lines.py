@@ -1,13 +1,12 @@
-"""Link overlap and second-moment correlation length, from what `glass lines` prints of a saved state.
+"""Link overlap, correlations along the axes and coherence length, from what `glass lines` prints of a saved state.
 
-The reader is that of lines_report.py, which tests each line. The formula, and where it serves, stand in
-docs/specification/correlation_lines.md.
+The reader is that of lines_report.py, which tests each line. The sums stand in docs/specification/correlation_lines.md.
 """
 from __future__ import annotations
 
 import io
 from dataclasses import dataclass
-from typing import List, Sequence
+from typing import List, NamedTuple, Optional, Sequence
 
 import numpy as np
 
@@ -15,11 +14,22 @@ from analyse import read_each
 from lines_report import Lines, blocks_of
 from make_tables import Refusal
 
-from .errors import Numbers
+from .errors import Estimate, Numbers, jackknife
 from .reports import Integers
 
-# The last axis of `line_moments`.
-LINK, SECOND, FOURTH = range(3)
+# Distances are summed up to the first whose correlation is below so many times its error.
+CUT = 3.0
+# Fewer distances than these above the noise are no decay.
+LEAST_DISTANCES = 4
+# Correlations far from equilibrium fall as r^-POWER exp(-(r / xi)^STRETCH) near and below the transition (F. Belletti et
+# al., J. Stat. Phys. 135, 1121 (2009)). The part beyond the cut is taken from that shape.
+POWER, STRETCH = 0.4, 1.5
+# More than this part of the length may not come from beyond the cut.
+MOST_TAIL = 0.1
+# Below a side of so many lengths the lattice bounds a length (the same authors).
+SIDES = 7
+# The shape is summed so many sides far; there it is 0 for any length that is told.
+FAR = 8
 
 
 @dataclass(frozen=True)
@@ -61,21 +71,78 @@ def read_one(name: str, stream: io.BufferedReader) -> Lines:
     return Lines(name, stream)
 
 
-def line_moments(state: CorrelationLines) -> Numbers:
-    """By sample and slot: the link overlap, and the sums of r^2 C(r) and of r^4 C(r)."""
-    terms = 3 * state.size ** 3
-    steps = np.arange(1, state.size // 2 + 1)
-    correlation = state.lines / terms
-    return np.stack([state.links / terms, correlation @ steps ** 2, correlation @ steps ** 4], axis=-1)
+def axis_correlations(state: CorrelationLines) -> Numbers:
+    """C(r), the mean of q(i) q(k) over sites and directions, by sample, slot and distance r from 0, where it is 1."""
+    measured = state.lines / (3 * state.size ** 3)
+    return np.concatenate([np.ones((*measured.shape[:2], 1)), measured], axis=-1)
 
 
-def link_overlap(means: Numbers) -> Numbers:
-    """The mean of q(i) q(j) over the bonds (i, j)."""
-    return means[..., LINK]
+def link_overlap(correlations: Numbers) -> Numbers:
+    """The mean of q(i) q(j) over the bonds (i, j), which is C(1)."""
+    return correlations[..., 1]
 
 
-def correlation_length(means: Numbers) -> Numbers:
-    """The second-moment correlation length in lattice steps; nan where a sum isn't above 0."""
-    second, fourth = means[..., SECOND], means[..., FOURTH]
-    is_defined = (second > 0) & (fourth > 0)
-    return np.sqrt(np.where(is_defined, fourth, np.nan) / (6 * np.where(is_defined, second, 1)))
+class Coherence(NamedTuple):
+    """The coherence length of a slot in lattice steps, or why none can be told.
+
+    `cut` is the last distance whose correlation was summed, `tail` what the part beyond it adds to the length, and
+    `nearer` the length with a cut one step nearer less this one.
+    """
+    length: Optional[Estimate]
+    cut: int
+    tail: float
+    nearer: float
+    refusal: str
+
+
+def coherence_length(parts: Numbers, side: int) -> Coherence:
+    """xi_12 = I_2 / I_1 with I_k the sum of r^k C(r), of blocks of C(r) from r = 0 on, for a lattice of this side.
+
+    Sums take the measured correlations up to the cut, and beyond it the shape that is fitted to them. The error is a
+    jackknife of the whole, with the cut where it is (F. Belletti et al., J. Stat. Phys. 135, 1121 (2009)).
+    """
+    if len(parts) < 2:
+        return Coherence(None, 0, np.nan, np.nan, "one block has no errors, so no cut")
+    mean, error = jackknife(parts)
+    gone = np.flatnonzero(mean[1:] < CUT * error[1:])
+    if not len(gone):
+        return Coherence(None, side // 2, np.nan, np.nan, "correlated up to half the side")
+    cut = int(gone[0])
+    if cut < LEAST_DISTANCES:
+        return Coherence(None, cut, np.nan, np.nan, f"only {cut} distances above the noise")
+    weights = mean[: cut + 1] / error[: cut + 1].clip(min=1e-300)
+    length = jackknife(parts, lambda means: length_of(means, cut, weights, side))
+    summed = length_of(mean, cut, weights, 0)
+    found = Coherence(length, cut, float(length.value - summed),
+                      float(length_of(mean, cut - 1, weights, side) - length.value), "")
+    if not np.isfinite(length.value):
+        return found._replace(length=None, refusal="no decay up to the cut")
+    if abs(found.tail) > MOST_TAIL * length.value:
+        return found._replace(length=None, refusal=f"{found.tail / length.value:.0%} would come from beyond the cut")
+    if SIDES * length.value > side:
+        return found._replace(length=None, refusal=f"above a {SIDES}th of the side")
+    return found
+
+
+def length_of(correlations: Numbers, cut: int, weights: Numbers, side: int) -> Numbers:
+    """I_2 / I_1 of one line of correlations: measured ones up to the cut, the fitted shape beyond it unless the side is 0."""
+    steps = np.arange(1, cut + 1)
+    sums = [steps ** power @ correlations[1: cut + 1] for power in (1, 2)]
+    if side:
+        beyond = np.arange(cut + 1, FAR * side)
+        shape = fitted_shape(correlations, cut, weights, beyond)
+        sums = [total + beyond ** float(power) @ shape for power, total in zip((1, 2), sums)]
+    return np.asarray(sums[1] / sums[0])
+
+
+def fitted_shape(correlations: Numbers, cut: int, weights: Numbers, beyond: Numbers) -> Numbers:
+    """The shape through the outer half of the distances up to the cut, by weighted least squares of its logarithm, which
+    is a straight line in r^STRETCH; nan where it doesn't fall."""
+    steps = np.arange(max(1, cut - max(cut // 2, 2)), cut + 1).astype(float)
+    inner = steps.astype(int)
+    if not (correlations[inner] > 0).all():
+        return np.full(len(beyond), np.nan)
+    slope, constant = np.polyfit(steps ** STRETCH, np.log(correlations[inner] * steps ** POWER), 1, w=weights[inner])
+    if slope >= 0:
+        return np.full(len(beyond), np.nan)
+    return beyond ** -POWER * np.exp(constant + slope * beyond ** STRETCH)

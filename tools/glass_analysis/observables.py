@@ -1,23 +1,25 @@
-"""Means over epochs, what is made from them, and the distribution of overlaps.
+"""Means over epochs, and what is made from them.
 
 Errors are over blocks that are independent. `blocks` takes them from one report, as groups of its samples, or
 from several, each of which is one block. The samples of one run have couplings of their own but share each
-random number, so that they follow it together: the spread over them has the disorder in it and lacks what is
+random number, so that they follow it together: their standard deviation has the disorder in it and lacks what is
 common to all of them. Only runs with other seeds have all of it.
 """
 from __future__ import annotations
 
-from typing import NamedTuple, Optional, Sequence
+from collections.abc import Sequence
+from typing import Union
 
 import numpy as np
 
 from make_tables import Refusal
 
-from .errors import Estimate, Numbers, jackknife
+from .errors import Numbers
 from .reports import Records
 
 # The last axis of `moments`.
 ENERGY, SQUARE, FOURTH, MODULUS = range(4)
+MOMENTS = 4
 
 
 def moments(records: Records) -> Numbers:
@@ -27,11 +29,15 @@ def moments(records: Records) -> Numbers:
     return np.stack([energy, (overlap ** 2).mean(axis=0), (overlap ** 4).mean(axis=0), abs(overlap).mean(axis=0)], axis=-1)
 
 
-def blocks(values: Sequence[Numbers], count: Optional[int] = None) -> Numbers:
+def blocks(values: Sequence[Numbers], count: Union[int, Sequence[int], None] = None) -> Numbers:
     """Independent blocks of equal weight from values by sample, an array of each report.
 
-    Of several reports each is a block. Of one its samples make `count` blocks, one a sample where it isn't said.
+    Of several reports each is a block, or `count` has the number of each one's block: reports of one couplings file
+    are one. Of one report its samples make `count` blocks, one a sample where it isn't said.
     """
+    if isinstance(count, Sequence):
+        means = np.stack([by_sample.mean(axis=0) for by_sample in values])
+        return np.stack([means[np.array(count) == number].mean(axis=0) for number in sorted(set(count))])
     if len(values) > 1:
         return np.stack([by_sample.mean(axis=0) for by_sample in values])
     samples = len(values[0])
@@ -52,30 +58,16 @@ def susceptibility(means: Numbers, sites: int) -> Numbers:
     return sites * means[..., SQUARE]
 
 
-class Distribution(NamedTuple):
-    """A density over bins of the overlap per site, whose edges it has."""
-    edges: Numbers
-    density: Estimate
+def energy_moments(records: Records) -> Numbers:
+    """By sample and slot: the mean square of the energies of both replicas, and the product of their two means."""
+    energies = records.energies.astype(float)
+    return np.stack([(energies ** 2).mean(axis=(0, 3)), energies.mean(axis=0).prod(axis=-1)], axis=-1)
 
 
-def overlap_edges(sites: int, bins: Optional[int] = None) -> Numbers:
-    """Edges of bins of equal width for overlaps per site, which go from -1 to 1 in steps of 2 / sites.
+def specific_heat(means: Numbers, betas: Sequence[float], sites: int) -> Numbers:
+    """beta^2 / V ([<E^2>] - [<E>^2]) by slot, of means of `energy_moments`.
 
-    The ends reach half a step beyond. Where the number of bins divides sites + 1 each has as many values of q; the
-    greatest such number up to 100 is taken where none is said.
+    The square of a mean over the records is too great by the variance of that mean. The product of the means of two
+    replicas is not: with the same couplings they are independent.
     """
-    if bins is None:
-        bins = max(n for n in range(1, 101) if (sites + 1) % n == 0)
-    return np.linspace(-1 - 1 / sites, 1 + 1 / sites, bins + 1)
-
-
-def distribution(reports: Sequence[Records], slot: int, bins: Optional[int] = None,
-                 count: Optional[int] = None) -> Distribution:
-    """P(q) of a slot, made symmetric: q and -q are equally probable, since turning one replica's spins is a symmetry."""
-    edges = overlap_edges(reports[0].sites, bins)
-    values = []
-    for records in reports:
-        overlap = records.overlaps[:, :, slot] / records.sites
-        counted = np.stack([np.histogram(of_sample, edges, density=True)[0] for of_sample in overlap.T])
-        values.append((counted + counted[:, ::-1]) / 2)
-    return Distribution(edges, jackknife(blocks(values, count)))
+    return np.asarray(betas) ** 2 / sites * (means[..., 0] - means[..., 1])

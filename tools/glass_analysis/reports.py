@@ -1,22 +1,26 @@
 """Reports as arrays. What no run prints is refused by the reader of analyse.py, with its line and its text."""
 from __future__ import annotations
 
+import hashlib
 import io
 import re
 import sys
-from dataclasses import dataclass
-from pathlib import Path
-from typing import List, Optional, Sequence
+from dataclasses import dataclass, replace
+from typing import BinaryIO, Callable, Dict, List, NamedTuple, Optional, Sequence, Tuple, TypeVar
 
 import numpy as np
 from numpy.typing import NDArray
 
-from analyse import HEADER, Report
+from analyse import HEADER, LONGEST_LINE, Report
 from make_tables import Refusal
+from manifest import study_of
 
 Integers = NDArray[np.int64]
 COUNT, SIGNED = rb"(?:0|[1-9][0-9]{0,9})", rb"(?:0|-?[1-9][0-9]{0,6})"
 ROWS = re.compile(rb"(?:row,%b\n)*" % b",".join([COUNT] * 3 + [SIGNED] * 3 + [COUNT] * 2))
+# Bytes of a report that are taken at a time, for each row of which the match of ROWS takes room too; and more than a row has.
+PIECE, LONGEST_ROW = 2 ** 18, 100
+Taken = TypeVar("Taken")
 
 
 @dataclass(frozen=True)
@@ -36,7 +40,7 @@ class Records:
     epochs: Integers
     energies: Integers
     overlaps: Integers
-    labels: Integers
+    labels: NDArray[np.int8]
 
     @property
     def sites(self) -> int:
@@ -55,62 +59,122 @@ class Records:
         kept = self.epochs >= skip
         if not kept.any():
             raise Refusal(f"{self.name} has no row" + (f" from epoch {skip} on" if skip else ""))
-        return Records(self.name, self.size, self.rule, self.first, self.until, self.every, self.epochs[kept],
-                       self.energies[kept], self.overlaps[kept], self.labels[kept])
+        return self if kept.all() else self.part(int(np.argmax(kept)), len(kept))
+
+    def part_of_sample(self, sample: int) -> Records:
+        """The records of one sample alone."""
+        one = slice(sample, sample + 1)
+        return replace(self, energies=self.energies[:, one], overlaps=self.overlaps[:, one], labels=self.labels[:, one])
+
+    def part(self, start: int, end: int) -> Records:
+        """The records from place `start` among the epochs to before place `end`."""
+        return replace(self, epochs=self.epochs[start:end], energies=self.energies[start:end],
+                       overlaps=self.overlaps[start:end], labels=self.labels[start:end])
 
 
 def read_report(name: str) -> Records:
     """The report of a file, `-` for standard input. Refusal where no run prints it."""
     try:
-        stored = sys.stdin.buffer.read() if name == "-" else Path(name).read_bytes()
+        if name == "-":
+            return records_from("standard input", io.BytesIO(sys.stdin.buffer.read()))
+        with open(name, "rb") as stream:
+            # A pipe is read whole, since a report that no run prints is read twice.
+            return records_from(name, stream if stream.seekable() else io.BytesIO(stream.read()))
     except OSError as fault:
         raise Refusal(f"{name} can't be read: {fault.strerror}") from None
-    return records_of("standard input" if name == "-" else name, stored)
 
 
 def records_of(name: str, stored: bytes) -> Records:
     """The records of a report's bytes. Refusal where no run prints them."""
-    records = lawful_records(name, stored)
+    return records_from(name, io.BytesIO(stored))
+
+
+def records_from(name: str, stream: BinaryIO) -> Records:
+    records = lawful_records(name, stream)
     if records is None:
         # It goes line by line, and tells the first that is wrong.
-        Report(name, io.BytesIO(stored), 0)
+        stream.seek(0)
+        Report(name, stream, 0)
         raise AssertionError(f"{name}: two readers of reports differ")
     return records
 
 
-def lawful_records(name: str, stored: bytes) -> Optional[Records]:
+def lawful_records(name: str, stream: BinaryIO) -> Optional[Records]:
     """The records, or None where a line is wrong."""
-    start = stored.find(b"\n") + 1
-    header = HEADER.fullmatch(stored[:start - 1]) if start else None
+    line = stream.readline(LONGEST_LINE)
+    header = HEADER.fullmatch(line[:-1]) if line.endswith(b"\n") else None
     if header is None:
         return None
     size, slots, samples, first, until = (int(header[k]) for k in (1, 2, 3, 5, 6))
-    rows = ROWS.match(stored, start)
-    stop = rows.end() if rows else start
-    if not is_lawful_frame(name, header, stored[stop:]):
+    columns, behind = rows_of(stream, slots, samples) if 0 < slots <= 32 and samples else (None, 0)
+    if columns is None or not is_lawful_frame(name, header, stream, behind):
         return None
-    text = io.BytesIO(stored[start:stop])
-    table = (np.loadtxt(text, np.int64, delimiter=",", usecols=range(1, 9), ndmin=2) if start < stop
-             else np.zeros((0, 8), np.int64))
-    if len(table) % (samples * slots):
+    rows = len(columns.overlaps)
+    if rows % (samples * slots):
         return None
-    table = table.reshape(-1, samples, slots, 8)
-    epochs = table[:, 0, 0, 0]
+    shape = (-1, samples, slots)
+    epochs = columns.epochs.reshape(shape)
+    if (epochs != epochs[:, :1, :1]).any():
+        return None
+    recorded = epochs[:, 0, 0].copy()
     records = Records(name, size, header[4].decode(), first, until,
-                      int(epochs[1] - epochs[0]) if len(epochs) > 1 else None, epochs,
-                      table[..., 3:5], table[..., 5], table[..., 6:8])
-    in_order = ((table[..., 0] == epochs[:, None, None]).all() and (table[..., 1] == np.arange(samples)[:, None]).all()
-                and (table[..., 2] == np.arange(slots)).all())
-    return records if in_order and are_lawful(records) else None
+                      int(recorded[1] - recorded[0]) if len(recorded) > 1 else None, recorded,
+                      columns.energies.reshape(*shape, 2), columns.overlaps.reshape(shape), columns.labels.reshape(*shape, 2))
+    return records if are_lawful(records) else None
 
 
-def is_lawful_frame(name: str, header: re.Match[bytes], rest: bytes) -> bool:
+class Columns(NamedTuple):
+    """Rows in the order of the report: epochs, both energies, overlaps, both labels."""
+    epochs: Integers
+    energies: Integers
+    overlaps: Integers
+    labels: NDArray[np.int8]
+
+
+def rows_of(stream: BinaryIO, slots: int, samples: int) -> Tuple[Optional[Columns], int]:
+    """The rows, and the place of the first line behind them. None where one is out of order or has no such label.
+
+    The text is taken in pieces, so that of a long report only its numbers are held.
+    """
+    parts, done, behind, text = [], 0, stream.tell(), b""
+    while block := stream.read(PIECE):
+        text += block
+        found = ROWS.match(text)
+        stop = found.end() if found else 0
+        if stop:
+            table = np.fromstring(text[4:stop - 1].replace(b"\nrow,", b","), np.int64, sep=",").reshape(-1, 8)
+            place = np.arange(done, done + len(table))
+            if ((table[:, 1] != place // slots % samples) | (table[:, 2] != place % slots)
+                    | (table[:, 6:] >= slots).any(axis=1)).any():
+                return None, behind
+            # Copies, so that the whole table isn't held.
+            parts.append(Columns(table[:, 0].copy(), table[:, 3:5].copy(), table[:, 5].copy(), table[:, 6:].astype(np.int8)))
+            done, behind, text = done + len(table), behind + stop, text[stop:]
+        if len(text) > LONGEST_ROW:
+            break
+    empty = Columns(*(np.zeros(of, np.int64) for of in (0, (0, 2), 0)), np.zeros((0, 2), np.int8))
+    return Columns(*(np.concatenate(pieces) for pieces in zip(empty, *parts))), behind
+
+
+class Joined:
+    """A line, and a stream from a place on, as a stream of lines."""
+
+    def __init__(self, line: bytes, stream: BinaryIO, place: int) -> None:
+        self.line, self.stream = line, stream
+        stream.seek(place)
+
+    def readline(self, most: int) -> bytes:
+        line, self.line = self.line, b""
+        return line or self.stream.readline(most)
+
+
+def is_lawful_frame(name: str, header: re.Match[bytes], stream: BinaryIO, behind: int) -> bool:
     """Whether header, end and spins are those of a report, by those of a run without rows."""
     until = header[6]
     no_rows = header[0][:header.start(5)] + until + b" to=" + until + b"\n"
-    for text in (header[0] + b"\nend," + until + b"\n", no_rows + rest):
+    for lines in (io.BytesIO(header[0] + b"\nend," + until + b"\n"), Joined(no_rows, stream, behind)):
         try:
-            Report(name, io.BytesIO(text), 0)
+            Report(name, lines, 0)
         except Refusal:
             return False
     return True
@@ -157,14 +221,29 @@ def are_walks(records: Records) -> bool:
     return bool(((after == before) | (after == brought)).all())
 
 
+def of_each_report(names: Sequence[str], take: Callable[[Records], Taken], skip: int = 0) -> List[Taken]:
+    """What `take` makes of each report from epoch `skip` on. They must differ in their seeds alone, and their manifests
+    may not tell otherwise.
+
+    One report is held at a time.
+    """
+    study_of(tuple(names))
+    kinds: List[Tuple[object, ...]] = []
+    seen: Dict[bytes, str] = {}
+
+    def checked(records: Records) -> Records:
+        kinds.append((records.size, records.slots, records.samples, records.rule, records.first, records.until, records.every))
+        if kinds[-1] != kinds[0]:
+            raise Refusal(f"{records.name} is of another run than {names[0]}: the first lines or epochs differ")
+        rows = hashlib.sha256(np.ascontiguousarray(records.energies)).digest()
+        rows += hashlib.sha256(np.ascontiguousarray(records.overlaps)).digest()
+        if seen.setdefault(rows, records.name) != records.name or len(seen) < len(kinds):
+            raise Refusal(f"{records.name} has the same rows as {seen[rows]}: reports must differ in their seeds")
+        return records
+
+    return [take(checked(read_report(name).after(skip))) for name in names]
+
+
 def read_reports(names: Sequence[str], skip: int = 0) -> List[Records]:
-    """Reports that differ in their seeds alone, from epoch `skip` on."""
-    reports = [read_report(name).after(skip) for name in names]
-    shape = [(r.size, r.slots, r.samples, r.rule, r.first, r.until, r.every) for r in reports]
-    for n, report in enumerate(reports):
-        if shape[n] != shape[0]:
-            raise Refusal(f"{report.name} is of another run than {reports[0].name}: the first lines or epochs differ")
-        for other in reports[:n]:
-            if np.array_equal(report.energies, other.energies) and np.array_equal(report.overlaps, other.overlaps):
-                raise Refusal(f"{report.name} has the same rows as {other.name}: reports must differ in their seeds")
-    return reports
+    """Reports that differ in their seeds alone, from epoch `skip` on. All are held: `of_each_report` takes less room."""
+    return of_each_report(names, lambda records: records, skip)

@@ -1,0 +1,275 @@
+#!/usr/bin/env python3
+"""Prints the tables of the validation, of what runs.py has kept.
+
+    python3 compare.py seed_measured        of the runs that were made here
+    python3 compare.py measured             of those of docs/manual/validation.md
+"""
+from __future__ import annotations
+
+import csv
+import math
+import sys
+from pathlib import Path
+from typing import Dict, List, NamedTuple, Optional, Sequence, Tuple
+
+sys.dont_write_bytecode = True
+from parts import BY_NAME, CRITICAL_BETA, NISHIMORI, here  # noqa: E402
+from runs import REFERENCE, SHORTER  # noqa: E402
+
+import numpy as np  # noqa: E402
+from numpy.typing import NDArray  # noqa: E402
+from scipy import stats  # noqa: E402
+
+from exit_status import status_of_study  # noqa: E402
+from glass_analysis import Estimate, jackknife  # noqa: E402
+from make_tables import Refusal  # noqa: E402
+
+Numbers = NDArray[np.float64]
+
+
+class Runs(NamedTuple):
+    """Of a part by run: the values over the whole run, its first and its second half, by value; and processor seconds."""
+    name: str
+    whole: Numbers
+    first: Numbers
+    last: Numbers
+    seconds: float
+
+
+class Known(NamedTuple):
+    """A number from elsewhere and its error, 0 of an exact one."""
+    value: float
+    error: float = 0.0
+
+
+# ---------------------------------------------------------------- what is known
+
+# The transfer matrix of a layer of 16 spins: tools/reference/exact_ising.py.
+FERROMAGNET = (-2.515073, -1.293228, -0.932611, -0.316619)
+# The rest is from memory of the literature, and could not be looked up. Energy per bond of the infinite ferromagnet at
+# its critical temperature: R. Haggkvist et al., Adv. Phys. 56, 653 (2007).
+CRITICAL_ENERGY = Known(-3 * 0.3302022, 3 * 0.0000005)
+# The exponents of the three-dimensional Ising model: M. Hasenbusch, Phys. Rev. B 104, 014426 (2021).
+NU, OMEGA = 0.62998, 0.825
+# U4 = 1.4899(28) at the transition: M. Baity-Jesi et al., Phys. Rev. B 88, 224416 (2013).
+BINDER = Known((3 - 1.4899) / 2, 0.0028 / 2)
+# With fewer runs than these an error is too rough to weigh sizes by it.
+ENOUGH = 5
+# Mean ground-state energies per site: K. F. Pal, Physica A 223, 283 (1996).
+GROUND = {4: Known(-1.73749, 0.00008), 6: Known(-1.77130, 0.00012)}
+
+
+def exact_glasses() -> List[float]:
+    """By glass and inverse temperature: the transfer matrix of tools/reference/exact_energies.c."""
+    table = np.loadtxt(here.parent / "samples_4" / "exact.txt", skiprows=1)
+    energies = {(int(sample), beta): energy for sample, beta, energy, _ in table}
+    return [energies[glass, beta] for glass in range(3) for beta in (2.0, 1.0, 0.5)]
+
+
+# ---------------------------------------------------------------- arithmetic
+
+
+def deviation(values: Numbers) -> Estimate:
+    """Means over the runs, which are along axis 0, and the errors of the means."""
+    return Estimate(values.mean(axis=0), values.std(axis=0, ddof=1) / math.sqrt(len(values)))
+
+
+def distance(ours: Estimate, known: Known) -> float:
+    """In errors, both of them taken together."""
+    return float((ours.value - known.value) / math.hypot(float(ours.error), known.error))
+
+
+def chance(away: float, runs: int) -> float:
+    """Of a distance in errors as great or greater: Student's t, since the error is itself from so many runs."""
+    return float(2 * stats.t.sf(abs(away), runs - 1))
+
+
+def probability(values: Numbers, known: Sequence[float]) -> float:
+    """That means over independent runs are as far from exact numbers as these are, or farther.
+
+    It is that of Hotelling's T^2 (Ann. Math. Stat. 2, 360 (1931)): the values of a run are not independent, and their
+    covariance is estimated from the runs. `values` has runs along axis 0 and at least two more of them than values.
+    """
+    runs, count = values.shape
+    if runs < count + 2:
+        return math.nan
+    apart = values.mean(axis=0) - np.asarray(known)
+    covariance = np.atleast_2d(np.cov(values, rowvar=False))
+    square = runs * float(apart @ np.linalg.solve(covariance, apart))
+    return float(stats.f.sf(square * (runs - count) / (count * (runs - 1)), count, runs - count))
+
+
+def chi_square(found: Sequence[Tuple[float, int]]) -> Tuple[float, int, float]:
+    """The sum of the chi-squares that have these probabilities and degrees of freedom, its degrees and probability."""
+    total = sum(float(stats.chi2.isf(chance, degrees)) for chance, degrees in found)
+    degrees = sum(degrees for _, degrees in found)
+    return total, degrees, float(stats.chi2.sf(total, degrees))
+
+
+def halves(runs: Runs) -> float:
+    """The probability that first and second halves differ as much as they do by chance: a run that was equilibrated
+    before its first half has none of it left."""
+    return probability(runs.last - runs.first, [0.0] * runs.whole.shape[1])
+
+
+def binder(means: Numbers) -> Numbers:
+    return (3 - means[..., 1] / means[..., 0] ** 2) / 2
+
+
+def at_infinity(sizes: Sequence[int], energies: Sequence[Estimate]) -> Tuple[Estimate, float]:
+    """The energy of the infinite lattice by E + a L^(1/nu - 3) (1 + b L^-omega), and the fit's chi-square."""
+    lengths = np.array(sizes, float)
+    leading = lengths ** (1 / NU - 3)
+    terms = np.stack([np.ones_like(lengths), leading, leading * lengths ** -OMEGA], axis=-1)
+    errors = np.array([float(energy.error) for energy in energies])
+    scaled, wanted = terms / errors[:, None], np.array([float(energy.value) for energy in energies]) / errors
+    found, *_ = np.linalg.lstsq(scaled, wanted, rcond=None)
+    covariance = np.linalg.inv(scaled.T @ scaled)
+    return Estimate(found[0], np.sqrt(covariance[0, 0])), float(((scaled @ found - wanted) ** 2).sum())
+
+
+# ---------------------------------------------------------------- reading
+
+
+def read_runs(folder: Path, name: str) -> Optional[Runs]:
+    """None where no run of the part is kept, or one alone."""
+    path = folder / f"{name}.csv"
+    if not path.exists():
+        return None
+    with open(path, newline="") as stream:
+        lines = sorted(csv.DictReader(stream), key=lambda line: int(line["run"]))
+    heads = BY_NAME[name.replace("reference_", "")].heads
+    if len({tuple(line.values()) for line in lines}) != len(lines):
+        raise Refusal(f"{path} has a line twice")
+    if len(lines) < 2:
+        return None
+    by_when = [np.array([[float(line[head + when]) for head in heads] for line in lines]) for when in ("", "_first", "_last")]
+    return Runs(name, *by_when, sum(float(line["seconds"]) for line in lines))
+
+
+# ---------------------------------------------------------------- tables
+
+
+def spelled(value: float, places: int = 6) -> str:
+    return "-" if math.isnan(value) else f"{value:.{places}f}"
+
+
+def head(*columns: str) -> None:
+    print("\n| " + " | ".join(columns) + " |\n|" + "---|" * len(columns))
+
+
+def line(what: str, known: Known, ours: Estimate, places: int = 6) -> None:
+    other = spelled(known.value, places) + (f" ± {spelled(known.error, places)}" if known.error else "")
+    print(f"| {what} | {other} | {spelled(float(ours.value), places)} | {spelled(float(ours.error), places)} | {distance(ours, known):+.2f} |")
+
+
+def beside(parts: Sequence[Numbers]) -> Numbers:
+    """The values of several parts whose runs of one number have couplings in common, as far as all have runs."""
+    number = min(map(len, parts))
+    return np.concatenate([values[:number] for values in parts], axis=1)
+
+
+def print_exact(folder: Path) -> List[Tuple[float, int]]:
+    """The rows of exact numbers, and by study the probability and the number of values."""
+    parts = [("4³ ferromagnet", "ferromagnet_4", [f"β = {beta}" for beta in ("0.3", "0.22165463", "0.2", "0.1")], FERROMAGNET),
+             ("exact glasses of 4³", "glasses_4", [f"glass {glass}, β = {beta}" for glass in range(3) for beta in ("2", "1", "0.5")],
+              exact_glasses())]
+    parts += [("Nishimori line, 8³", f"nishimori_8_{beta}", [f"β = {beta}"], [-3 * math.tanh(beta)]) for beta in NISHIMORI]
+    head("energy per site", "exact", "measured", "error", "in errors")
+    studies: Dict[str, List[Tuple[Numbers, Sequence[float]]]] = {}
+    for what, name, labels, known in parts:
+        runs = read_runs(folder, name)
+        if runs is None:
+            continue
+        for n, label in enumerate(labels):
+            line(f"{what}, {label}", Known(known[n]), Estimate(*(part[n] for part in deviation(runs.whole))))
+        studies.setdefault(what, []).append((runs.whole, known))
+    found = []
+    for what, own in studies.items():
+        exact = [value for _, known in own for value in known]
+        found.append((probability(beside([values for values, _ in own]), exact), len(exact)))
+        print(f"| all of {what}: probability | | {found[-1][0]:.3f} | | |")
+    return found
+
+
+def print_reference(folder: Path) -> None:
+    """Exact energies beside those of the program and those of the independent one with its second generator."""
+    head("energy per site", "exact", "program", "error", "in errors", "second generator", "error", "in errors")
+    for name, known in (("ferromagnet_4", FERROMAGNET), ("glasses_4", exact_glasses())):
+        both = [read_runs(folder, which) for which in (name, f"reference_{name}")]
+        if None in both:
+            continue
+        for n, label in enumerate(BY_NAME[name].heads):
+            text = f"| {name}, {label} | {spelled(known[n])} |"
+            for runs in both:
+                ours = Estimate(*(part[n] for part in deviation(runs.whole)))
+                text += f" {spelled(float(ours.value))} | {spelled(float(ours.error))} | {distance(ours, Known(known[n])):+.2f} |"
+            print(text)
+        chances = [probability(runs.whole, known) for runs in both]
+        print(f"| {name}, all: probability | | {chances[0]:.3f} | | | {chances[1]:.3f} | | |")
+
+
+def published(what: str, known: Known, ours: Estimate, runs: int) -> None:
+    away = distance(ours, known)
+    print(f"| {what} | {spelled(known.value, 5)} ± {spelled(known.error, 5)} | {spelled(float(ours.value), 5)} "
+          f"| {spelled(float(ours.error), 5)} | {runs} | {away:+.2f} | {chance(away, runs):.2f} |")
+
+
+def print_published(folder: Path) -> None:
+    head("what", "published", "measured", "error", "runs", "in errors", "probability")
+    sizes = {size: read_runs(folder, f"critical_{size}") for size in (8, 12, 16, 24)}
+    energies = {size: deviation(runs.whole[:, 0]) for size, runs in sizes.items() if runs is not None}
+    for size, energy in energies.items():
+        runs = len(sizes[size].whole)  # type: ignore[union-attr]
+        print(f"| energy of the {size}³ ferromagnet at β = {CRITICAL_BETA} | | {spelled(float(energy.value), 5)} "
+              f"| {spelled(float(energy.error), 5)} | {runs} | | |")
+    are_known = {size: energy for size, energy in energies.items() if len(sizes[size].whole) >= ENOUGH}  # type: ignore[union-attr]
+    if len(are_known) > 2:
+        limit, square = at_infinity(list(are_known), list(are_known.values()))
+        published("the same of the infinite lattice, from these", CRITICAL_ENERGY, limit, ENOUGH)
+        print(f"| chi-square of that fit, with {len(are_known) - 3} degrees of freedom | | {square:.2f} | | | | |")
+    for size in (4, 6, 8, 12):
+        found = read_runs(folder, f"binder_{size}")
+        if found is not None:
+            published(f"Binder ratio at T = 1.1019, size {size}", BINDER, jackknife(found.whole, binder), len(found.whole))
+    for size, known in GROUND.items():
+        found = read_runs(folder, f"ground_{size}")
+        if found is not None:
+            published(f"mean ground-state energy per site, size {size}", known, Estimate(*(part[0] for part in deviation(found.whole))),
+                      len(found.whole))
+            print(f"| samples of size {size} whose least energy one replica alone has seen | | {spelled(found.whole[:, 1].mean(), 5)} "
+                  "| | | | |")
+
+
+def print_runs(folder: Path) -> None:
+    """What ran, and how long all runs would take by the same rates."""
+    head("part", "runs", "of", "samples", "epochs", "left out", "processor minutes", "of all runs", "probability of halves as different")
+    total = whole = 0.0
+    for name in [*BY_NAME, *(f"reference_{name}" for name in BY_NAME)]:
+        runs, part, is_own = read_runs(folder, name), BY_NAME[name.replace("reference_", "")], name in BY_NAME
+        if runs is None:
+            continue
+        epochs, skip = (part.epochs, part.skip) if is_own else (part.epochs // SHORTER, part.skip // SHORTER)
+        samples = part.samples if is_own else REFERENCE[part.name]
+        minutes, number = runs.seconds / 60, len(runs.whole)
+        total, whole = total + minutes, whole + (minutes * part.runs / number if is_own else 0)
+        all_runs, rate = (f"{part.runs}", f"{minutes * part.runs / number:.0f}") if is_own else ("", "")
+        print(f"| {name} | {number} | {all_runs} | {samples} | {epochs} | {skip} | {minutes:.2f} | {rate} | {spelled(halves(runs), 2)} |")
+    print(f"| all | | | | | | {total:.1f} | {whole:.0f} | |")
+
+
+def main(words: List[str]) -> int:
+    folder = here / words[0] if len(words) == 1 else None
+    if folder is None or not folder.is_dir():
+        raise Refusal("the folder of kept values is needed: seed_measured, once study has run, or measured")
+    found = print_exact(folder)
+    total, degrees, chance = chi_square(found)
+    print(f"\nchi-square of all exact numbers: {total:.1f} with {degrees} degrees of freedom, probability {chance:.3f}")
+    print_reference(folder)
+    print_published(folder)
+    print_runs(folder)
+    return 0
+
+
+if __name__ == "__main__":
+    sys.exit(status_of_study(__doc__, main))

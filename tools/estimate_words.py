@@ -1,0 +1,141 @@
+"""What the commands of estimate.py share: the slots and their temperatures, and the reports that are named."""
+from __future__ import annotations
+
+import argparse
+from collections.abc import Sequence
+from typing import Callable, List, NamedTuple, Optional, TypeVar, Union
+
+from glass_analysis import of_each_report
+from glass_analysis.errors import uncertainty
+from glass_analysis.reports import Records
+from long_run_folder import digest_of
+from make_tables import Refusal, inverse_temperatures
+from manifest import Study, study_of
+from run_temperatures import rule_table, run_betas
+
+Taken = TypeVar("Taken")
+FEW_BLOCKS = 16
+NOTE = """note: the error is over the disorder: the samples of one run share each random number.
+      Several reports, of other seeds, have the whole error."""
+
+
+def betas_of(options: argparse.Namespace) -> Optional[List[float]]:
+    """The inverse temperatures that a run file tells, or that were typed."""
+    if options.run:
+        return run_betas(options.run)
+    typed = inverse_temperatures(options)
+    return [float(beta) for beta in typed] if typed else None
+
+
+def check_table(run_file: str, study: Study) -> None:
+    """Refuses temperatures of another rule table than that of the reports, where a manifest tells it."""
+    for manifest in study.manifests[:1]:
+        if digest_of(rule_table(run_file)) != manifest.digests["rules"]:
+            raise Refusal(f"{run_file} has another rule table than {manifest.source}")
+
+
+class Slots:
+    """The number of files that a command line names, and what their slots are called."""
+
+    def __init__(self, options: argparse.Namespace, slots: int) -> None:
+        self.betas = betas_of(options)
+        self.files = len(options.reports)
+        self.blocks: Union[int, Sequence[int], None] = options.blocks
+        if self.blocks is not None and self.files > 1:
+            raise Refusal("of several files each is a block: --blocks is for one")
+        if self.betas and len(self.betas) != slots:
+            raise Refusal(f"{len(self.betas)} temperatures, and there are {slots} slots")
+        self.head = "beta" if options.betas else "T" if self.betas else ""
+        self.names: List[str] = (options.betas or options.temperatures
+                                 or [f"{1 / beta:.6g}" if beta else "inf" for beta in self.betas or []] or [""] * slots)
+        self.across = [float(name) for name in self.names] if self.betas else [float(slot) for slot in range(slots)]
+        self.axis = ("inverse temperature" if options.betas else "temperature") if self.betas else "slot"
+
+    def slot(self, number: int) -> int:
+        if not 0 <= number < len(self.names):
+            raise Refusal(f"there is no slot {number}")
+        return number
+
+    def count(self, samples: int) -> int:
+        """The number of blocks, of reports of so many samples."""
+        if isinstance(self.blocks, Sequence):
+            return len(set(self.blocks))
+        return self.files if self.files > 1 else self.blocks or samples
+
+    def known_betas(self) -> List[float]:
+        if not self.betas:
+            raise Refusal("the temperatures are needed: --run tells the run file")
+        return self.betas
+
+    def title(self, slot: int) -> str:
+        return f"{self.head} = {self.names[slot]}" if self.names[slot] else f"slot {slot}"
+
+    def end(self, options: argparse.Namespace, figure: Callable[[], object], count: Optional[int] = None) -> None:
+        """Tells how many blocks the errors are over, and draws."""
+        if count is not None and count > 1:
+            print(f"errors are over {count} blocks, and are themselves uncertain by {uncertainty(count):.0%}"
+                  + (f": take {FEW_BLOCKS} or more for a result" if count < FEW_BLOCKS else ""))
+        if self.files == 1:
+            print(NOTE)
+        if options.plot:
+            from glass_analysis import figures
+            figures.save(options.plot, figure())  # type: ignore[arg-type]
+            print(f"wrote {options.plot}")
+
+
+class Outline(NamedTuple):
+    """What is kept of the first report: its header, and its recorded epochs."""
+    name: str
+    size: int
+    rule: str
+    slots: int
+    samples: int
+    records: int
+    first: int
+    last: int
+    every: Optional[int]
+
+    @property
+    def sites(self) -> int:
+        return self.size ** 3
+
+    @classmethod
+    def of(cls, records: Records) -> Outline:
+        return cls(records.name, records.size, records.rule, records.slots, records.samples, len(records.epochs),
+                   int(records.epochs[0]), int(records.epochs[-1]), records.every)
+
+
+class Words:
+    """The reports that a command line names. They are read one after the other by `of_each`, which tells `run` and `slots`."""
+
+    def __init__(self, options: argparse.Namespace) -> None:
+        self.options = options
+        self.run: Outline
+        self.slots: Optional[Slots] = None
+        self.study = study_of(tuple(options.reports))
+        if options.run:
+            check_table(options.run, self.study)
+
+    @property
+    def named(self) -> Slots:
+        assert self.slots is not None, "of_each comes first"
+        return self.slots
+
+    def of_each(self, take: Callable[[Records], Taken]) -> List[Taken]:
+        """What `take` makes of each report; of the first the words are checked before."""
+        def taken(records: Records) -> Taken:
+            if self.slots is None:
+                self.run, self.slots = Outline.of(records), Slots(self.options, records.slots)
+                # Of several reports the number of each one's couplings file.
+                self.slots.blocks = self.study.blocks or self.slots.blocks
+            return take(records)
+
+        return of_each_report(self.options.reports, taken, self.options.skip)
+
+    def begin(self) -> None:
+        r = self.run
+        what = r.name if self.named.files == 1 else f"{self.named.files} reports"
+        print(f"{what}: size {r.size}, {r.rule}, slots {r.slots}, samples {r.samples}, "
+              f"{r.records} recorded epochs from {r.first} to {r.last}")
+        if self.study.blocks:
+            print(f"couplings files: {len(set(self.study.blocks))}, each a block; glass-jackknife tells what its seeds bring")

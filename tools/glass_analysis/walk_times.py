@@ -1,0 +1,109 @@
+"""Autocorrelation times of the walks through the temperature slots, sample by sample.
+
+The series is a function of the slot in which a configuration is. Each slot is as probable as each other, so its mean
+over the slots is its mean, exactly: nothing of the run is taken off, and a sample whose configurations hardly move
+shows by its long time (R. Alvarez Banos et al., J. Stat. Mech. P06026 (2010)).
+"""
+from __future__ import annotations
+
+from typing import NamedTuple
+
+import numpy as np
+from scipy import fft
+
+from make_tables import Refusal
+
+from .errors import Numbers
+from .reports import Records
+from .times import WINDOW
+from .walks import positions
+
+# A run is long enough for a sample where it has so many exponential times (the same authors).
+LENGTHS = 12
+# The exponential time is the slope from where the correlation is below the first of these, so that the faster modes are
+# gone, to where it is below the second, or below so many of its errors.
+FROM, TO, ERRORS = 0.5, 0.1, 4
+
+
+class WalkTimes(NamedTuple):
+    """Times in records, by sample and replica.
+
+    `integrated` and its `error` are nan where the correlation doesn't fall within the run. `exponential` is nan where
+    the correlation is gone too soon to tell it; where it stays too long it is a rough guess, infinite without a move.
+    `is_settled` is whether the run has LENGTHS times the exponential time, or the integrated one where that is not told.
+    """
+    integrated: Numbers
+    error: Numbers
+    exponential: Numbers
+    is_settled: np.ndarray
+
+    @property
+    def longest(self) -> Numbers:
+        """The exponential time, or the integrated one where that is not told."""
+        return np.where(np.isnan(self.exponential), self.integrated, self.exponential)
+
+
+def slot_function(slots: int) -> Numbers:
+    """From -1 in the coldest slot to 1 in the hottest: its mean over the slots is 0."""
+    if slots < 2:
+        raise Refusal("a run at one temperature has no walk in temperature")
+    return np.linspace(-1, 1, slots)
+
+
+def walk_correlations(records: Records) -> Numbers:
+    """The autocorrelation of the walks, mean over the labels: axes lag, sample, replica; 1 at lag 0."""
+    values = slot_function(records.slots)
+    length, found = len(records.epochs), []
+    padded = fft.next_fast_len(2 * length, real=True)
+    for sample in range(records.samples):
+        series = values[positions(records.part_of_sample(sample))[:, 0]]
+        power = (abs(fft.rfft(series, padded, axis=0)) ** 2).mean(axis=1)
+        found.append(fft.irfft(power, padded, axis=0)[:length] / np.arange(length, 0, -1)[:, None])
+    return np.stack(found, axis=1) / (values ** 2).mean()
+
+
+def walk_times(records: Records) -> WalkTimes:
+    """The times of each sample and replica, summed up to a window of WINDOW times, or to where the noise begins.
+
+    The error is that of N. Madras and A. Sokal, J. Stat. Phys. 50, 109 (1988); each exchange moves two labels, so half
+    of the labels are taken as independent.
+    """
+    correlations = walk_correlations(records)
+    length = len(correlations)
+    shape = correlations.shape[1:]
+    integrated, error, exponential = (np.full(shape, np.nan) for _ in range(3))
+    for sample, replica in np.ndindex(shape):
+        line = correlations[:, sample, replica]
+        times = np.cumsum(line) - 0.5
+        enough = np.flatnonzero((np.arange(length) >= WINDOW * times) | (line < noise_of(times, length, records.slots)))
+        if len(enough):
+            window = int(enough[0])
+            # What an exponential decay has behind the window.
+            value = times[window] / (1 - max(line[window], 0))
+            integrated[sample, replica] = value
+            error[sample, replica] = value * np.sqrt(2 * (2 * window + 1) / (length * records.slots / 2))
+        exponential[sample, replica] = exponential_time(line, integrated[sample, replica], records.slots)
+    longest = np.where(np.isnan(exponential), integrated, exponential)
+    return WalkTimes(integrated, error, exponential, np.isfinite(integrated) & (length >= LENGTHS * longest))
+
+
+def noise_of(times: Numbers, length: int, slots: int) -> Numbers:
+    """The error of a correlation near 0: behind the lag at which the correlations are below it a sum is of noise alone."""
+    return np.sqrt(2 * np.maximum(times, 0.5) / (length * slots / 2))
+
+
+def exponential_time(line: Numbers, integrated: float, slots: int) -> float:
+    """From the slope of the logarithm; nan where fewer than three lags have it, a rough guess where the run is too short."""
+    length = len(line)
+    begun = np.flatnonzero(line[: max(length // 2, 1)] < FROM)
+    if not len(begun) or np.isnan(integrated):
+        # It stays: the decay up to half of the run, which is uncertain by as much as itself.
+        half = float(line[length // 2])
+        return float("inf") if half >= 1 else length // 2 / -np.log(max(half, 1e-3))
+    noise = ERRORS * noise_of(np.array(integrated), length, slots)
+    gone = np.flatnonzero(line < max(TO, float(noise)))
+    lags = np.arange(begun[0], gone[0] if len(gone) else length // 2)
+    if len(lags) < 3:
+        return float("nan")
+    slope = np.polyfit(lags, np.log(line[lags]), 1)[0]
+    return float(-1 / slope) if slope < 0 else float("inf")
