@@ -126,8 +126,14 @@ def labels_are_own(case):
     return all(one != other for one, other in combinations(labels, 2))
 
 
+def messages_are_own(case):
+    messages = [listed.message_of(case.plan, case.bank, it, j) for it in generators_of(case.plan) for j in range(8)]
+    return len(set(messages)) == len(messages)
+
+
 LAWS = (runs_are_decisions, swept_states_are_decisions, records_are_of_swept_states, draws_are_own, decisions_are_lawful,
-        sweeps_visit_each_once, turns_alternate, decisions_are_counted, generators_are_labelled, labels_are_own)
+        sweeps_visit_each_once, turns_alternate, decisions_are_counted, generators_are_labelled, labels_are_own,
+        messages_are_own)
 
 
 def broken(case):

@@ -7,11 +7,8 @@ use Rattle.coupling_set.specs.CouplingWords.{bonds_of}
 use Rattle.spin_model.specs.Words.{one_if}
 use Rattle.spin_model.specs.Steps.{count_below}
 use Rattle.spin_model.specs.Lattice.{IsLawfulSize, volume, bond_count}
-use Rattle.spin_model.specs.SiteRule.{Rule, HeatBath, Metropolis}
-use Rattle.scalar_rule.specs.Neighbours.{aligned}
 use Rattle.scalar_rule.specs.Sums.{unsatisfied}
 use Rattle.scalar_rule.specs.Exchange.{is_swapped}
-use Rattle.scalar_rule.specs.Sweep.{Dynamics}
 use Rattle.scalar_rule.specs.Plan.{Plan, slots_of, dynamics_of}
 use Rattle.finite_chance.specs.Sums.{sum_to}
 use Rattle.finite_chance.specs.Chains.{AreNear}
@@ -23,9 +20,6 @@ use Rattle.model_laws.specs.Weights.{weight}
 use Rattle.model_laws.specs.Energies.{turned}
 use Rattle.model_laws.specs.Balance.{turns, turning_draws, weight_of}
 use Rattle.model_laws.specs.ExchangeBalance.{pair_weight, half_difference}
-use Rattle.model_laws.specs.Stationary.{AreThresholds}
-use Rattle.model_laws.proofs.Reached.{aligned-few}
-use Rattle.model_laws.proofs.Stays.{satisfied-few}
 use Rattle.model_laws.proofs.Balancing.{unsatisfied-small, update-turns, wider}
 use Rattle.model_laws.proofs.NearlyStays.{near-by-rule}
 use Rattle.model_laws.proofs.ExchangeBalancing.{exchange-balances}

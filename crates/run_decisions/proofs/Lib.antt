@@ -9,5 +9,6 @@ pub mod Lists
 pub mod Distinct
 pub mod Lawful
 pub mod Records
+pub mod Messages
 pub mod Printed
 pub mod KnownValues
