@@ -10,5 +10,6 @@ pub mod Distinct
 pub mod Lawful
 pub mod Records
 pub mod Messages
+pub mod Alone
 pub mod Printed
 pub mod KnownValues
