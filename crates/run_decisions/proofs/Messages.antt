@@ -71,10 +71,9 @@ message-told seed i j x y small small_too few few_too same =
     let kinds = parts-told (big_bytes 4 x.kind) (big_bytes 4 y.kind) _ _ refl seeds.1 in
     let first = parts-told (big_bytes 4 x.part_a) (big_bytes 4 y.part_a) _ _ refl kinds.1 in
     let second = parts-told (big_bytes 4 x.part_b) (big_bytes 4 y.part_b) _ _ refl first.1 in
-    let third = parts-told (big_bytes 4 x.part_c) (big_bytes 4 y.part_c) _ _ refl second.1 in
-    (
+    let third = parts-told (big_bytes 4 x.part_c) (big_bytes 4 y.part_c) _ _ refl second.1 in (
       label-same x y (word-told x.kind y.kind small.kinds small_too.kinds kinds.0) (word-told x.part_a y.part_a small.first small_too.first first.0)
-      (word-told x.part_b y.part_b small.second small_too.second second.0) (word-told x.part_c y.part_c small.third small_too.third third.0),
+          (word-told x.part_b y.part_b small.second small_too.second second.0) (word-told x.part_c y.part_c small.third small_too.third third.0),
       word-told i j few few_too third.1,
     )
 
