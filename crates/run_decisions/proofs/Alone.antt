@@ -1,10 +1,9 @@
 -- The sweeps of one place alone.
-use Rattle.std.proofs.Common.{◌≡◌, ◌≢◌, ℕ, ◌+◌, ◌*◌, ◌<◌, List, [], length, get_or, set, refl, ap, sym, ◌∙◌, arith}
+use Rattle.std.proofs.Common.{◌≡◌, ◌≢◌, ℕ, ◌+◌, ◌*◌, ◌<◌, [], length, get_or, set, refl, ap, sym, ◌∙◌, arith}
 use Rattle.std.specs.Prelude.{All}
 use Rattle.std.specs.List.{AllPairs}
 use Rattle.std.proofs.lemmas.List.{get_or-set_same}
 use Rattle.std.proofs.lemmas.List.Elements.{All-weaker}
-use Rattle.spin_model.specs.Steps.{table}
 use Rattle.spin_model.specs.Stream.{draw}
 use Rattle.spin_model.specs.Lattice.{colour, z_of, half_plane, place_in_plane}
 use Rattle.spin_model.proofs.Tables.{length-table}
@@ -14,7 +13,7 @@ use Rattle.scalar_rule.specs.Replica.{configuration_of}
 use Rattle.scalar_rule.specs.Sweep.{sweeps}
 use Rattle.scalar_rule.specs.Shape.{Fits}
 use Rattle.scalar_rule.specs.declared.sample.Sample.{Sample}
-use Rattle.run_decisions.specs.Decisions.{Decision, IsDecisionOf, places_of, slot_of, copy_at, state_of, spins_at, decide, address_of, words_of, draw_at, drawn, sweeps_decisions}
+use Rattle.run_decisions.specs.Decisions.{IsDecisionOf, places_of, slot_of, copy_at, state_of, spins_at, decide, address_of, words_of, draw_at, drawn, sweeps_decisions}
 use Rattle.run_decisions.proofs.Places.{placed-same}
 use Rattle.run_decisions.proofs.Swept.{RunningDraws, sweeps-decided}
 use Rattle.run_decisions.proofs.Runs.{copy-fits}

@@ -1,11 +1,11 @@
 -- Two labels make two messages, and so do two blocks of one label.
-use Rattle.std.proofs.Common.{◌≡◌, ℕ, zero, suc, ◌+◌, ◌*◌, ◌^◌, ◌<◌, ◌≤◌, Bool, true, false, cond, ltb, List, [], ◌∷◌, ◌++◌, length, get_or, drop, refl, ap, sym, ◌∙◌, arith}
+use Rattle.std.proofs.Common.{◌≡◌, ℕ, ◌^◌, ◌<◌, ◌≤◌, Bool, true, false, cond, ltb, List, [], ◌∷◌, ◌++◌, length, get_or, drop, refl, ap, sym, ◌∙◌, arith}
 use Rattle.std.specs.Int.{w32, from_be_bytes}
 use Rattle.std.proofs.lemmas.Nat.{from_be_bytes-to_be_bytes_4}
 use Rattle.byteorder.specs.Endian.{big_bytes}
 use Rattle.spin_model.specs.Seeding.{block_message}
 use Rattle.scalar_rule.specs.Plan.{Plan, slots_of, IsLawfulPlan}
-use Rattle.run_decisions.specs.Decisions.{Generator, SweepGenerator, ExchangeGenerator, Label, IsGeneratorOf, label_of, message_of, replica_of, slot_of}
+use Rattle.run_decisions.specs.Decisions.{Generator, SweepGenerator, ExchangeGenerator, Label, IsGeneratorOf, label_of, message_of, replica_of}
 use Rattle.run_decisions.proofs.Epochs.{slot-below}
 use Rattle.run_decisions.proofs.Records.{labels-own}
 
