@@ -1,7 +1,7 @@
 #!/usr/bin/env python3
 """Puts wrong definitions of the dynamics in, one at a time, and asks the prover which laws of run_decisions then fail.
 
-    python3 tests/wrong_definitions.py            all, some minutes on a free machine
+    python3 tests/wrong_definitions.py            all, two minutes each on a busy machine
     python3 tests/wrong_definitions.py turn       those with this word in their name
 
 In a temporary repository a crate has its own copies of the definitions of a sweep, an exchange, an epoch and a run, of what
