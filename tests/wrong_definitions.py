@@ -40,7 +40,8 @@ WRONG = (
     ("a turn by the pair's number alone", "Epoch", "has_turn k e = (k + e) % 2 == 0", "has_turn k e = k % 2 == 0"),
     ("the record of another pair", "Exchange", "is_swapped plan.swaps k (draw", "is_swapped plan.swaps (k - 1) (draw"),
     ("number 0 for every sample", "Exchange", "(draw words b)", "(draw words 0)"),
-    ("a pair's words never advance", "Exchange", "{ first = advanced pair.first 64; second = advanced pair.second 64 }", "pair"),
+    ("a pair's words never advance", "Exchange",
+     "record { first = advanced pair.first 64; second = advanced pair.second 64 }", "pair"),
     ("the second replica by the first one's words", "Exchange", "second = traded (decision plan b k pair.second cold.second hot.second) cold",
      "second = traded (decision plan b k pair.first cold.second hot.second) cold"),
     ("a swap that copies", "Exchange", "first = traded (decision plan b k pair.first cold.first hot.first) hot.first cold.first", "first = hot.first"),
@@ -115,6 +116,9 @@ def failing(crate: Path) -> Tuple[bool, List[str]]:
     """Whether the crate is proved, and the lemmas and laws that are not."""
     done = subprocess.run(["rt", "check", "--jobs", "1"], cwd=crate, stdout=subprocess.PIPE, stderr=subprocess.STDOUT, text=True)
     text = done.stdout
+    unread = re.search(r"^\./specs/\S+ error: .*", text, re.M)
+    if unread:
+        sys.exit(f"wrong_definitions: a definition isn't read: {unread[0]}")
     laws = {it for file in crate.glob("src/*.rt") for it in re.findall(r"^pub fn (\w+)", file.read_text(encoding="utf-8"), re.M)}
     proved = set(re.findall(rf"fn {COPY}::(\w+): proved", text))
     lemmas = re.findall(r"error: `([\w-]+)`", text)
