@@ -138,6 +138,8 @@ SHORT = {
     "glass_8_plan": (lambda: plan_digest(glass(8, 16, 2, 20240611)),
                      ["examples/glass_8/README.md", "crates/table_agreement/src/sixteen_temperatures.rt"]),
     "one_slot_plan": (lambda: plan_digest(ferromagnet([UP], [])), ["crates/run_checkpoint_tests/src/known.rt"]),
+    "many_entries_plan": (lambda: plan_digest(ferromagnet([BOARD, UP], [[FULL] * 96])), ["tools/reference/compare_sums.py"]),
+    "one_slot_glass_plan": (lambda: plan_digest(glass(4, 1, 1, 7)), ["tools/reference/compare_sums.py"]),
     "two_banks_plan": (lambda: rule.banks_digest([ferromagnet([UP], [])] * 2).hex(), [BANKS]),
     "two_banks_at_1": (last_bytes_of_65, [BANKS, "crates/glass_engine_tests/src/banks.rt"]),
     "three_banks_report": (lambda: sha256(random_banks()[0].encode()).hexdigest(), [ALONE]),
