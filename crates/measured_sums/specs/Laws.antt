@@ -1,0 +1,58 @@
+-- What holds of the sums, for every lattice size, field and run.
+use Rattle.std.specs.Prelude.{◌≡◌, ℕ, ◌+◌, ◌-◌, ◌/◌, ◌%◌, ◌^◌, ◌≤◌, ◌<◌, ℤ, pos, nat_abs, ◌+ℤ◌, ◌*ℤ◌, Bool, List}
+use Rattle.spin_model.specs.SignedSums.{sum_of}
+use Rattle.spin_model.specs.Lattice.{IsLawfulSize, volume}
+use Rattle.scalar_rule.specs.Plan.{Plan}
+use Rattle.scalar_rule.specs.Serial.{serial}
+use Rattle.scalar_rule.specs.Sums.{overlap}
+use Rattle.scalar_rule.specs.declared.sample.Sample.{Sample}
+use Rattle.measured_sums.specs.OverlapField.{Field, site_overlap, total_overlap}
+use Rattle.measured_sums.specs.PlaneFamilies.{Family, plane_sum}
+use Rattle.measured_sums.specs.PlaneCorrelations.{plane_correlation, axis_correlation, face_correlation}
+use Rattle.measured_sums.specs.EpochBins.{bin_of, epoch_digits, overlap_classes}
+use Rattle.measured_sums.specs.MeasuredSums.{Observed, Quantity, Number, InClass, square, term_of, epochs_in_bin, sum_from}
+
+-- ---- fields
+
+-- the sum of q over the sites is the overlap of the records
+abbrev pub TotalIsOverlap : Type 0
+TotalIsOverlap = (l : ℕ) (first second : List Bool) → total_overlap l (site_overlap first second) ≡ overlap l first second
+
+-- each site lies on one plane of a family, so the sums over its planes add up to that over all sites
+abbrev pub PlanesAddUp : Type 0
+PlanesAddUp = (l : ℕ) (q : Field) (family : Family) → IsLawfulSize l → sum_of (plane_sum l q family) l ≡ total_overlap l q
+
+-- two planes are r apart one way around and l - r apart the other way
+abbrev pub DistancesTurn : Type 0
+DistancesTurn = (l : ℕ) (q : Field) (family : Family) (r : ℕ) → IsLawfulSize l → r ≤ l → plane_correlation l q family (l - r) ≡ plane_correlation l q family r
+
+-- each pair of sites is some distance apart, so the correlations at all distances add up to the square of the sum over all sites: the
+-- squared amplitude at wave number 0
+abbrev pub DistancesAddUp : Type 0
+DistancesAddUp = (l : ℕ) (q : Field) (family : Family) → IsLawfulSize l → sum_of (plane_correlation l q family) l ≡ square (total_overlap l q)
+
+-- ---- bins and classes
+
+-- bin 0 is epoch 0, and bin k + 1 has the epochs from 2^k to below 2^(k+1)
+abbrev pub BinsAreDigits : Type 0
+BinsAreDigits = (f : ℕ) → f < 2 ^ epoch_digits
+    → (bin_of f ≡ 0 → f ≡ 0) × ((k : ℕ) → bin_of f ≡ k + 1 → (2 ^ k ≤ f) × (f < 2 ^ (k + 1)))
+
+-- each overlap is in one class
+abbrev pub ClassesAddUp : Type 0
+ClassesAddUp = (l : ℕ) (seen : Observed) → sum_of (λ c. term_of l seen (InClass c)) overlap_classes ≡ pos 1
+
+-- ---- runs
+
+-- n is the number of measured epochs, in every sample and slot
+abbrev pub NumberIsEpochs : Type 0
+NumberIsEpochs = (plan : Plan) (s : Sample) (every e t k : ℕ) → sum_from plan s every e t k Number ≡ pos (epochs_in_bin every k s.epoch e)
+
+-- the sums of a run to epoch m, and those of the run that goes on from there, are those of the whole run
+abbrev pub PartsAddUp : Type 0
+PartsAddUp = (plan : Plan) (s : Sample) (every m e t k : ℕ) (quantity : Quantity) → s.epoch ≤ m → m ≤ e
+    → sum_from plan s every m t k quantity +ℤ sum_from plan (serial plan s m) every e t k quantity ≡ sum_from plan s every e t k quantity
+
+-- so are the numbers of epochs, which say which bins have lines
+abbrev pub EpochsAddUp : Type 0
+EpochsAddUp = (every k c m e : ℕ) → c ≤ m → m ≤ e → epochs_in_bin every k c m + epochs_in_bin every k m e ≡ epochs_in_bin every k c e

@@ -1,0 +1,2 @@
+//! What `measure` sums up over a run, as definitions, and laws over them: no code.
+#![tactic(auto)]
