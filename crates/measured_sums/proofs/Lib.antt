@@ -1,0 +1,5 @@
+pub mod SignedTerms
+pub mod Planes
+pub mod BinsAndClasses
+pub mod Parts
+pub mod KnownValues

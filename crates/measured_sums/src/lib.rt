@@ -1,2 +1,10 @@
-//! What `measure` sums up over a run, as definitions, and laws over them: no code.
+//! What `measure` sums up over a run, as definitions, and public laws over them: no code.
 #![tactic(auto)]
+
+mod fields;
+mod runs;
+
+pub use fields::{
+    classes_add_up, distances_add_up, distances_turn, planes_add_up, total_is_overlap,
+};
+pub use runs::{bins_are_digits, epochs_add_up, number_is_epochs, parts_add_up};
