@@ -20,7 +20,9 @@ from reference.demo import demo_rows  # noqa: E402
 from reference.grid import Tempering  # noqa: E402
 from reference.lattice import volume, x_of, y_of, z_of  # noqa: E402
 from reference.measure import MeasureOrder, ended, measure_order  # noqa: E402
-from reference.measured import bin_of, class_of  # noqa: E402
+from reference.bonds import couplings_view  # noqa: E402
+from reference.measured import Heading, bin_of, class_of, run_sums, sums_text  # noqa: E402
+from reference.opening import Plan, opening  # noqa: E402
 from reference.planes import Family, axes, axis_correlation, face_correlation, face_diagonals, link_overlap, plane_of, total_overlap  # noqa: E402
 
 FULL = 2 ** 32
@@ -194,6 +196,15 @@ def known_texts():
     same("a glass", measure("b"), GLASS)
 
 
+def each_sum_from_the_start():
+    """The same text where each sum follows its run anew from the start, as the definition has it."""
+    rows, swaps = ((FULL,) * 3 + (0,) * 4, (0,) * 6 + (FULL,)), ((FULL,),)
+    plan = Plan(4, "heat", rows, swaps, couplings_view(4, {}), 1, 7)
+    start = opening(plan, "up", 0, 0)
+    text = sums_text(Heading(4, 2, 1, "heat", 1, 0, 2, ONE_ENTRY), lambda *place: run_sums(lambda b: plan, lambda b: start, 1, 2, *place))
+    same("each sum from the start", text, ferromagnet((0, 1), 0, 2))
+
+
 # ---------------------------------------------------------------- laws
 
 
@@ -321,7 +332,7 @@ def main():
         return
     with tempfile.TemporaryDirectory() as folder:
         os.chdir(folder)
-        for part in (known_fields, random_fields, words, known_texts, small_runs, last_state):
+        for part in (known_fields, random_fields, words, known_texts, each_sum_from_the_start, small_runs, last_state):
             begun, before = time.time(), len(DONE)
             part()
             print(f"{part.__name__}: {len(DONE) - before} comparisons agree, {time.time() - begun:.1f} s", flush=True)

@@ -7,6 +7,7 @@ from reference.words import count_below, one_if, table
 from reference.lattice import volume
 from reference.opening import slots_of
 from reference.epoch import epoch, is_recorded, record_of, serial, slot_at, swept_slot
+from reference.report import end_line
 from reference.planes import axis_correlation, face_correlation, link_overlap, site_overlap, total_overlap
 
 # The epochs of a run are below 2 ** 30.
@@ -39,8 +40,8 @@ def observed(plan, s, t):
     return observed_in(plan, s.bit, swept_slot(plan, s.bit, t, slot_at(s.slots, t)))
 
 
-def power(z, n):
-    return z ** n
+def square(z):
+    return z * z
 
 
 def term_of(l, seen, quantity):
@@ -54,18 +55,18 @@ def term_of(l, seen, quantity):
     if name == "Faces":
         return face_correlation(l, seen.field, number)
     if name in ("Links", "LinkSquares"):
-        return power(link_overlap(l, seen.field), 1 if name == "Links" else 2)
-    return {"Number": 1, "Energies": e0 + e1, "EnergySquares": e0 * e0 + e1 * e1, "EnergyProducts": e0 * e1,
-            "Overlaps": q, "Magnitudes": abs(q), "OverlapSquares": power(q, 2), "OverlapFourths": power(q, 4),
-            "EnergyOverlapSquares": (e0 + e1) * power(q, 2), "EnergyOverlapFourths": (e0 + e1) * power(q, 4)}[name]
+        links = link_overlap(l, seen.field)
+        return links if name == "Links" else square(links)
+    return {"Number": 1, "Energies": e0 + e1, "EnergySquares": square(e0) + square(e1), "EnergyProducts": e0 * e1,
+            "Overlaps": q, "Magnitudes": abs(q), "OverlapSquares": square(q), "OverlapFourths": square(square(q)),
+            "EnergyOverlapSquares": (e0 + e1) * square(q), "EnergyOverlapFourths": (e0 + e1) * square(square(q))}[name]
 
 
 moments = tuple(map(Quantity, ("Number", "Energies", "EnergySquares", "EnergyProducts", "Links", "LinkSquares", "Overlaps",
                                "Magnitudes", "OverlapSquares", "OverlapFourths", "EnergyOverlapSquares", "EnergyOverlapFourths")))
 
 
-def classes():
-    return table(lambda c: Quantity("InClass", c), overlap_classes)
+classes = table(lambda c: Quantity("InClass", c), overlap_classes)
 
 
 def axis_distances(l):
@@ -106,31 +107,28 @@ def numbers_line(kind, sample, slot, k, numbers):
 
 
 def bin_lines(l, sample, slot, k, number):
-    return (numbers_line("sum", sample, slot, k, map(number, moments)) + numbers_line("hist", sample, slot, k, map(number, classes()))
+    return (numbers_line("sum", sample, slot, k, map(number, moments)) + numbers_line("hist", sample, slot, k, map(number, classes))
             + numbers_line("axis", sample, slot, k, map(number, axis_distances(l)))
             + numbers_line("face", sample, slot, k, map(number, face_distances(l))))
 
 
 def slot_sums(h, sums, sample, slot):
     return "".join(bin_lines(h.size, sample, slot, k, lambda quantity: sums(sample, slot, k, quantity))
-                   for k in range(most_bins) if epochs_in_bin_of(h, k) > 0)
-
-
-def epochs_in_bin_of(h, k):
-    return epochs_in_bin(h.every, k, h.from_, h.to)
+                   for k in range(most_bins) if epochs_in_bin(h.every, k, h.from_, h.to) > 0)
 
 
 def sample_sums(h, sums, sample):
     return "".join(slot_sums(h, sums, sample, slot) for slot in range(h.slots))
 
 
-def last_line(to):
-    return f"end,{to}\n"
-
-
 def sums_text(h, sums):
     """The whole text, where `sums(b, t, k, quantity)` has the sums of sample b in slot t and bin k."""
-    return heading_line(h) + "".join(sample_sums(h, sums, sample) for sample in range(h.samples)) + last_line(h.to)
+    return heading_line(h) + "".join(sample_sums(h, sums, sample) for sample in range(h.samples)) + end_line(h.to)
+
+
+def run_sums(plan, start, every, e, b, t, k, quantity):
+    """Of a run to epoch e whose sample b starts with `start(b)` under `plan(b)`."""
+    return sum_from(plan(b), start(b), every, e, t, k, quantity)
 
 
 # ---------------------------------------------------------------- the same, each epoch made once

@@ -1,5 +1,5 @@
 -- Bins of epochs by their powers of two, and classes of overlaps.
-use Rattle.std.proofs.Common.{inl, inr, ◌≡◌, ℕ, zero, suc, ◌+◌, ◌-◌, ◌*◌, ◌^◌, ◌<◌, ◌≤◌, Bool, true, false, cond, ◌==◌, nat_le, ℤ, pos, refl, ap, subst, ◌∙◌, arith}
+use Rattle.std.proofs.Common.{inl, inr, ◌≡◌, ℕ, zero, suc, ◌+◌, ◌^◌, ◌<◌, ◌≤◌, Bool, true, false, cond, ◌==◌, nat_le, ℤ, pos, refl, ap, subst, ◌∙◌, arith}
 use Rattle.std.proofs.lemmas.Bool.{cases_Bool, leb-true, leb-false, le-leb}
 use Rattle.std.proofs.Math.Pow.{pow_mono}
 use Rattle.spin_model.specs.Words.{one_if}
@@ -58,9 +58,10 @@ below-one f below = omega arith
 
 pub bins-digits : (f : ℕ) → f < 2 ^ epoch_digits → (bin_of f ≡ 0 → f ≡ 0) × ((k : ℕ) → bin_of f ≡ k + 1 → (2 ^ k ≤ f) × (f < 2 ^ (k + 1)))
 bins-digits f below =
-    let high = digits-high f epoch_digits below in
-    (λ none. below-one f (subst (λ d. f < 2 ^ d) none high),
-    λ k is. (digits-low f epoch_digits k is, subst (λ d. f < 2 ^ d) is high))
+    let high = digits-high f epoch_digits below in (
+      λ none. below-one f (subst (λ d. f < 2 ^ d) none high),
+      λ k is. (digits-low f epoch_digits k is, subst (λ d. f < 2 ^ d) is high),
+    )
 
 -- ---- classes
 

@@ -41,3 +41,93 @@ board i = down_where (colour 4 i == 1)
 pub equal_along_axes : map (axis_correlation 4 equal) distances ≡ pos 3072 ∷ pos 3072 ∷ pos 3072 ∷ []
 unfolding sum_of over_families
 equal_along_axes = refl
+
+pub equal_along_diagonals : map (face_correlation 4 equal) distances ≡ pos 6144 ∷ pos 6144 ∷ pos 6144 ∷ []
+unfolding sum_of over_families
+equal_along_diagonals = refl
+
+pub equal_links : link_overlap 4 equal ≡ pos 192
+unfolding sum_of steps forward
+equal_links = refl
+
+pub one_plane_along_axes : map (axis_correlation 4 one_plane) distances ≡ pos 1536 ∷ pos 512 ∷ pos 512 ∷ []
+unfolding sum_of over_families
+one_plane_along_axes = refl
+
+pub one_plane_along_diagonals : map (face_correlation 4 one_plane) distances ≡ pos 1536 ∷ pos 1536 ∷ pos 1536 ∷ []
+unfolding sum_of over_families
+one_plane_along_diagonals = refl
+
+pub one_plane_links : link_overlap 4 one_plane ≡ pos 128
+unfolding sum_of steps forward
+one_plane_links = refl
+
+pub one_site_along_axes : map (axis_correlation 4 one_site) distances ≡ pos 2892 ∷ pos 2880 ∷ pos 2880 ∷ []
+unfolding sum_of over_families
+one_site_along_axes = refl
+
+pub one_site_along_diagonals : map (face_correlation 4 one_site) distances ≡ pos 5784 ∷ pos 5760 ∷ pos 5760 ∷ []
+unfolding sum_of over_families
+one_site_along_diagonals = refl
+
+pub one_site_links : link_overlap 4 one_site ≡ pos 180
+unfolding sum_of steps forward
+one_site_links = refl
+
+pub layers_along_axes : map (axis_correlation 4 layers) distances ≡ pos 1024 ∷ neg_ℤ (pos 1024) ∷ pos 1024 ∷ []
+unfolding sum_of over_families
+layers_along_axes = refl
+
+pub layers_along_diagonals : map (face_correlation 4 layers) distances ≡ pos 0 ∷ pos 0 ∷ pos 0 ∷ []
+unfolding sum_of over_families
+layers_along_diagonals = refl
+
+pub layers_links : link_overlap 4 layers ≡ pos 64
+unfolding sum_of steps forward
+layers_links = refl
+
+pub columns_along_axes : map (axis_correlation 4 columns) distances ≡ pos 0 ∷ pos 0 ∷ pos 0 ∷ []
+unfolding sum_of over_families
+columns_along_axes = refl
+
+pub columns_along_diagonals : map (face_correlation 4 columns) distances ≡ pos 2048 ∷ neg_ℤ (pos 2048) ∷ pos 2048 ∷ []
+unfolding sum_of over_families
+columns_along_diagonals = refl
+
+pub columns_links : link_overlap 4 columns ≡ neg_ℤ (pos 64)
+unfolding sum_of steps forward
+columns_links = refl
+
+pub diagonal_along_axes : map (axis_correlation 4 diagonal) distances ≡ pos 0 ∷ pos 0 ∷ pos 0 ∷ []
+unfolding sum_of over_families
+diagonal_along_axes = refl
+
+pub diagonal_along_diagonals : map (face_correlation 4 diagonal) distances ≡ pos 1024 ∷ pos 0 ∷ neg_ℤ (pos 1024) ∷ []
+unfolding sum_of over_families
+diagonal_along_diagonals = refl
+
+pub diagonal_links : link_overlap 4 diagonal ≡ pos 64
+unfolding sum_of steps forward
+diagonal_links = refl
+
+pub board_along_axes : map (axis_correlation 4 board) distances ≡ pos 0 ∷ pos 0 ∷ pos 0 ∷ []
+unfolding sum_of over_families
+board_along_axes = refl
+
+pub board_along_diagonals : map (face_correlation 4 board) distances ≡ pos 0 ∷ pos 0 ∷ pos 0 ∷ []
+unfolding sum_of over_families
+board_along_diagonals = refl
+
+pub board_links : link_overlap 4 board ≡ neg_ℤ (pos 192)
+unfolding sum_of steps forward
+board_links = refl
+
+pub known_bins : map bin_of (0 ∷ 1 ∷ 2 ∷ 3 ∷ 4 ∷ 7 ∷ 8 ∷ 1023 ∷ 1024 ∷ 999999999 ∷ []) ≡ 0 ∷ 1 ∷ 2 ∷ 2 ∷ 3 ∷ 3 ∷ 4 ∷ 10 ∷ 11 ∷ 30 ∷ []
+unfolding count_below
+known_bins = refl
+
+pub classes_at_side_4 : map (class_of 4) (pos 0 ∷ pos 1 ∷ pos 2 ∷ neg_ℤ (pos 2) ∷ pos 61 ∷ pos 62 ∷ pos 63 ∷ neg_ℤ (pos 64) ∷ []) ≡ 0 ∷ 0 ∷ 1 ∷ 1 ∷ 30 ∷ 31 ∷ 31 ∷ 31 ∷ []
+classes_at_side_4 = refl
+
+pub classes_at_side_6 : map (class_of 6) (pos 6 ∷ pos 7 ∷ pos 13 ∷ pos 14 ∷ neg_ℤ (pos 216) ∷ []) ≡ 0 ∷ 1 ∷ 1 ∷ 2 ∷ 31 ∷ []
+classes_at_side_6 = refl

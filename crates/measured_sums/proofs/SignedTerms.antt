@@ -1,5 +1,5 @@
 -- Sums of signed numbers: term by term, in the other order, in two ranges, and around a circle.
-use Rattle.std.proofs.Common.{inl, inr, ◌≡◌, ℕ, zero, suc, ◌+◌, ◌-◌, ◌*◌, ◌%◌, ◌<◌, ◌≤◌, Bool, false, cond, ◌==◌, ℤ, pos, ◌+ℤ◌, ◌*ℤ◌, refl, ap, ap₂, sym, ◌∙◌, arith}
+use Rattle.std.proofs.Common.{inl, inr, ◌≡◌, ℕ, zero, suc, ◌+◌, ◌-◌, ◌*◌, ◌%◌, ◌<◌, ◌≤◌, false, cond, ◌==◌, ℤ, pos, ◌+ℤ◌, ◌*ℤ◌, refl, ap, ap₂, sym, ◌∙◌, arith}
 use Rattle.std.proofs.Math.IntN.{+ℤ_assoc, +ℤ_comm, +ℤ_idr, *ℤ_comm, zero-*ℤ}
 use Rattle.std.proofs.Math.Nat.{add-mul, add-mod_right, add-mod-mod, mod-eq_of_lt}
 use Rattle.std.proofs.lemmas.Int.{ints}
@@ -32,7 +32,7 @@ unfolding sum_of
 terms-add f g zero = refl
 terms-add f g (suc n) = let before = terms-add f g n in omega (arith, ints)
 
-terms-none : (n : ℕ) → sum_of (λ i. pos 0) n ≡ pos 0
+pub terms-none : (n : ℕ) → sum_of (λ i. pos 0) n ≡ pos 0
 unfolding sum_of
 terms-none zero = refl
 terms-none (suc n) = ap (λ s. s +ℤ pos 0) (terms-none n)
@@ -124,3 +124,46 @@ distances-add p l =
     terms-swap (λ r m. p m *ℤ p ((m + r) % l)) l l
     ∙ terms-same (λ m. sum_of (λ r. p m *ℤ p ((m + r) % l)) l) (λ m. p m *ℤ sum_of p l) l (λ m below. from-one p l m (omega arith))
     ∙ terms-times p (sum_of p l) l
+
+-- ---- distances up to half the circle
+
+terms-one : (f : ℕ → ℤ) → sum_of f 1 ≡ f 0
+unfolding sum_of
+terms-one f = omega (arith, ints)
+
+terms-zero : (f g : ℕ → ℤ) → sum_of f zero ≡ sum_of g zero
+unfolding sum_of
+terms-zero f g = refl
+
+terms-more : (f : ℕ → ℤ) (n : ℕ) → sum_of f (suc n) ≡ sum_of f n +ℤ f n
+unfolding sum_of
+terms-more f n = refl
+
+-- in the order of falling numbers
+terms-reversed : (f : ℕ → ℤ) (n : ℕ) → sum_of f n ≡ sum_of (λ k. f (n - suc k)) n
+terms-reversed f zero = terms-zero f (λ k. f (zero - suc k))
+terms-reversed f (suc n) =
+    let g = λ (k : ℕ). f (suc n - suc k) in
+    let first : suc n ≡ 1 + n = omega arith in
+    let front = ap (sum_of g) first ∙ terms-range g 1 n in
+    let rest = terms-same (λ k. g (1 + k)) (λ k. f (n - suc k)) n (λ k below. ap f (let same : suc n - suc (1 + k) ≡ n - suc k = omega arith in same)) in
+    let one = terms-one g ∙ ap f (let same : suc n - suc 0 ≡ n = omega arith in same) in
+    let before = terms-reversed f n in
+    terms-more f n ∙ omega (arith, ints)
+
+-- where each distance is as the one the other way around, those between 0 and half are there twice
+pub halves-add : (c : ℕ → ℤ) (l g : ℕ) → l ≡ suc (g + suc g) → ((r : ℕ) → r ≤ l → c (l - r) ≡ c r)
+    → sum_of c l ≡ c 0 +ℤ pos 2 *ℤ sum_of (λ k. c (k + 1)) g +ℤ c (suc g)
+halves-add c l g even turn =
+    let once = λ (j : ℕ). c (1 + j) in
+    let whole : l ≡ 1 + (g + (1 + g)) = omega arith in
+    let parts = ap (sum_of c) whole ∙ terms-range c 1 (g + (1 + g)) in
+    let first = terms-one c in
+    let others = terms-range once g (1 + g) in
+    let back = terms-range (λ j. once (g + j)) 1 g in
+    let middle = terms-one (λ j. once (g + j)) ∙ ap c (let same : 1 + (g + 0) ≡ suc g = omega arith in same) in
+    let mirrored = terms-same (λ j. once (g + (1 + j))) (λ j. once (g - suc j)) g
+    (λ j below. ap c (let far : 1 + (g + (1 + j)) ≡ l - (1 + (g - suc j)) = omega arith in far) ∙ turn (1 + (g - suc j)) (omega arith))
+    ∙ sym (terms-reversed once g) in
+    let named = terms-same once (λ k. c (k + 1)) g (λ k below. ap c (let same : 1 + k ≡ k + 1 = omega arith in same)) in
+    omega (arith, ints)

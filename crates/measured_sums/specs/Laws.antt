@@ -1,16 +1,19 @@
 -- What holds of the sums, for every lattice size, field and run.
-use Rattle.std.specs.Prelude.{◌≡◌, ℕ, ◌+◌, ◌-◌, ◌/◌, ◌%◌, ◌^◌, ◌≤◌, ◌<◌, ℤ, pos, nat_abs, ◌+ℤ◌, ◌*ℤ◌, Bool, List}
+use Rattle.std.specs.Prelude.{◌≡◌, ℕ, ◌+◌, ◌-◌, ◌/◌, ◌%◌, ◌^◌, ◌≤◌, ◌<◌, ℤ, pos, nat_abs, ◌+ℤ◌, ◌*ℤ◌, Bool, if◌then◌else◌, List}
 use Rattle.spin_model.specs.SignedSums.{sum_of}
 use Rattle.spin_model.specs.Lattice.{IsLawfulSize, volume}
 use Rattle.scalar_rule.specs.Plan.{Plan}
+use Rattle.scalar_rule.specs.Plan.{slots_of}
+use Rattle.scalar_rule.specs.Epoch.{epoch_records}
 use Rattle.scalar_rule.specs.Serial.{serial}
+use Rattle.scalar_rule.specs.Records.{is_recorded, record_at}
 use Rattle.scalar_rule.specs.Sums.{overlap}
 use Rattle.scalar_rule.specs.declared.sample.Sample.{Sample}
 use Rattle.measured_sums.specs.OverlapField.{Field, site_overlap, total_overlap}
 use Rattle.measured_sums.specs.PlaneFamilies.{Family, plane_sum}
-use Rattle.measured_sums.specs.PlaneCorrelations.{plane_correlation, axis_correlation, face_correlation}
-use Rattle.measured_sums.specs.EpochBins.{bin_of, epoch_digits, overlap_classes}
-use Rattle.measured_sums.specs.MeasuredSums.{Observed, Quantity, Number, InClass, square, term_of, epochs_in_bin, sum_from}
+use Rattle.measured_sums.specs.PlaneCorrelations.{plane_correlation}
+use Rattle.measured_sums.specs.EpochBins.{bin_of, epoch_digits, most_bins, overlap_classes}
+use Rattle.measured_sums.specs.MeasuredSums.{Observed, Quantity, Number, OverlapSquares, InClass, Axes, Faces, square, term_of, observed, bin_sum, epochs_in_bin, sum_from}
 
 -- ---- fields
 
@@ -30,6 +33,16 @@ DistancesTurn = (l : ℕ) (q : Field) (family : Family) (r : ℕ) → IsLawfulSi
 -- squared amplitude at wave number 0
 abbrev pub DistancesAddUp : Type 0
 DistancesAddUp = (l : ℕ) (q : Field) (family : Family) → IsLawfulSize l → sum_of (plane_correlation l q family) l ≡ square (total_overlap l q)
+
+-- a field of two configurations is +1 or -1 at each site, so its sum over V sites is even where V is, and at most V
+abbrev pub OverlapsAreEven : Type 0
+OverlapsAreEven = (l : ℕ) (first second : List Bool) → IsLawfulSize l
+    → (nat_abs (total_overlap l (site_overlap first second)) % 2 ≡ 0) × (nat_abs (total_overlap l (site_overlap first second)) ≤ volume l)
+
+-- numbers at the distances from 0 to l / 2, those between counted twice, are so many squares
+abbrev pub HaveSquares : ℕ → (ℕ → ℤ) → ℕ → ℤ → Type 0
+HaveSquares count number l squares =
+    number 0 +ℤ pos 2 *ℤ sum_of (λ k. number (k + 1)) (l / 2 - 1) +ℤ number (l / 2) ≡ pos count *ℤ squares
 
 -- ---- bins and classes
 
@@ -56,3 +69,29 @@ PartsAddUp = (plan : Plan) (s : Sample) (every m e t k : ℕ) (quantity : Quanti
 -- so are the numbers of epochs, which say which bins have lines
 abbrev pub EpochsAddUp : Type 0
 EpochsAddUp = (every k c m e : ℕ) → c ≤ m → m ≤ e → epochs_in_bin every k c m + epochs_in_bin every k m e ≡ epochs_in_bin every k c e
+
+-- ---- numbers of one run
+
+-- what is summed up is what the rows of the report have: the energies, and the overlap as the sum over the field
+abbrev pub RowsHaveTheSame : Type 0
+RowsHaveTheSame = (plan : Plan) (s : Sample) (t : ℕ) → t < slots_of plan
+    → ((observed plan s t).first_energy ≡ (record_at (epoch_records plan s) t).first_energy)
+    × ((observed plan s t).second_energy ≡ (record_at (epoch_records plan s) t).second_energy)
+    × (total_overlap plan.size (observed plan s t).field ≡ (record_at (epoch_records plan s) t).overlap)
+
+-- each epoch is in one bin: the sums over all bins are those over all measured epochs
+abbrev pub BinsCoverTheRun : Type 0
+BinsCoverTheRun = (term : ℕ → ℤ) (every c e : ℕ)
+    → sum_of (λ k. bin_sum term every k c e) most_bins ≡ sum_of (λ j. if is_recorded every (c + j) then term (c + j) else pos 0) (e - c)
+
+-- in each bin the classes have each measured epoch once
+abbrev pub HistogramsAddUp : Type 0
+HistogramsAddUp = (plan : Plan) (s : Sample) (every e t k : ℕ)
+    → sum_of (λ c. sum_from plan s every e t k (InClass c)) overlap_classes ≡ sum_from plan s every e t k Number
+
+-- and the correlations at the distances from 0 to half the side, those between counted twice, are three times the squares of the
+-- overlap along the axes, and six times along the diagonals of the faces
+abbrev pub DistancesOfBins : Type 0
+DistancesOfBins = (plan : Plan) (s : Sample) (every e t k : ℕ) → IsLawfulSize plan.size
+    → (HaveSquares 3 (λ r. sum_from plan s every e t k (Axes r)) plan.size (sum_from plan s every e t k OverlapSquares))
+    × (HaveSquares 6 (λ r. sum_from plan s every e t k (Faces r)) plan.size (sum_from plan s every e t k OverlapSquares))

@@ -5,6 +5,10 @@ mod fields;
 mod runs;
 
 pub use fields::{
-    classes_add_up, distances_add_up, distances_turn, planes_add_up, total_is_overlap,
+    classes_add_up, distances_add_up, distances_turn, overlaps_are_even, planes_add_up,
+    total_is_overlap,
 };
-pub use runs::{bins_are_digits, epochs_add_up, number_is_epochs, parts_add_up};
+pub use runs::{
+    bins_are_digits, bins_cover_the_run, distances_of_bins, epochs_add_up, histograms_add_up,
+    number_is_epochs, parts_add_up, rows_have_the_same,
+};
