@@ -6,6 +6,7 @@ use Rattle.spin_model.specs.Lattice.{forward, colour, x_of, y_of}
 use Rattle.measured_sums.specs.OverlapField.{Field, link_overlap}
 use Rattle.measured_sums.specs.PlaneCorrelations.{axis_correlation, face_correlation, over_families}
 use Rattle.measured_sums.specs.EpochBins.{bin_of, class_of}
+use Rattle.measured_sums.specs.MeasuredSums.{Observed, Quantity, Number, Energies, EnergySquares, EnergyProducts, Overlaps, Magnitudes, OverlapSquares, OverlapFourths, EnergyOverlapSquares, EnergyOverlapFourths, InClass, term_of}
 
 -- the distances from 0 to half the side
 abbrev distances : List ℕ
@@ -131,3 +132,18 @@ classes_at_side_4 = refl
 
 pub classes_at_side_6 : map (class_of 6) (pos 6 ∷ pos 7 ∷ pos 13 ∷ pos 14 ∷ neg_ℤ (pos 216) ∷ []) ≡ 0 ∷ 1 ∷ 1 ∷ 2 ∷ 31 ∷ []
 classes_at_side_6 = refl
+
+-- a sample with the energies -54 and -66 and the overlap -10
+abbrev seen : Observed
+seen = record { first_energy = neg_ℤ (pos 54); second_energy = neg_ℤ (pos 66); field = λ i. down_where (nat_lt i 37) }
+
+abbrev without_space : List Quantity
+without_space =
+    Number ∷ Energies ∷ EnergySquares ∷ EnergyProducts ∷ Overlaps ∷ Magnitudes ∷ OverlapSquares ∷ OverlapFourths ∷ EnergyOverlapSquares
+    ∷ EnergyOverlapFourths ∷ InClass 4 ∷ InClass 5 ∷ InClass 6 ∷ []
+
+pub known_moments : map (term_of 4 seen) without_space
+    ≡ pos 1 ∷ neg_ℤ (pos 120) ∷ pos 7272 ∷ pos 3564 ∷ neg_ℤ (pos 10) ∷ pos 10 ∷ pos 100 ∷ pos 10000 ∷ neg_ℤ (pos 12000) ∷ neg_ℤ (pos 1200000)
+    ∷ pos 0 ∷ pos 1 ∷ pos 0 ∷ []
+unfolding sum_of
+known_moments = refl

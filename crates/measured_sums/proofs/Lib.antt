@@ -3,5 +3,7 @@ pub mod Planes
 pub mod BinsAndClasses
 pub mod Parts
 pub mod BinSums
+pub mod PlaneSizes
+pub mod BoundedSums
 pub mod KnownValues
 pub mod KnownTexts

@@ -17,7 +17,7 @@ one-more : (b : Bool) → cond b (pos 1) (pos 0) ≡ pos (one_if b)
 one-more true = refl
 one-more false = refl
 
-ones-counted : (test : ℕ → Bool) (n : ℕ) → sum_of (λ j. cond (test j) (pos 1) (pos 0)) n ≡ pos (count_below test n)
+pub ones-counted : (test : ℕ → Bool) (n : ℕ) → sum_of (λ j. cond (test j) (pos 1) (pos 0)) n ≡ pos (count_below test n)
 unfolding sum_of count_below
 ones-counted test zero = refl
 ones-counted test (suc n) = ap₂ (λ a b. a +ℤ b) (ones-counted test n) (one-more (test n))

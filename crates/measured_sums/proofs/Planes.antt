@@ -62,7 +62,7 @@ correlations-add l q family lawful = distances-add (plane_sum l q family) l ∙ 
 
 -- ---- an overlap is even
 
-absolute : (z : ℤ) → (nat_abs z ≡ up z + down z) × ((up z ≡ 0) ⊎ (down z ≡ 0))
+pub absolute : (z : ℤ) → (nat_abs z ≡ up z + down z) × ((up z ≡ 0) ⊎ (down z ≡ 0))
 absolute (pos n) = (omega arith, inr refl)
 absolute (negsuc n) = (omega arith, inl refl)
 

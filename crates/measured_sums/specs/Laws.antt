@@ -1,16 +1,16 @@
 -- What holds of the sums, for every lattice size, field and run.
-use Rattle.std.specs.Prelude.{◌≡◌, ℕ, ◌+◌, ◌-◌, ◌/◌, ◌%◌, ◌^◌, ◌≤◌, ◌<◌, ℤ, pos, nat_abs, ◌+ℤ◌, ◌*ℤ◌, Bool, if◌then◌else◌, List}
+use Rattle.std.specs.Prelude.{◌≡◌, ℕ, ◌+◌, ◌-◌, ◌*◌, ◌/◌, ◌%◌, ◌^◌, ◌≤◌, ◌<◌, ℤ, pos, nat_abs, ◌+ℤ◌, ◌*ℤ◌, Bool, ◌==◌, if◌then◌else◌, List}
+use Rattle.spin_model.specs.Steps.{count_below}
 use Rattle.spin_model.specs.SignedSums.{sum_of}
 use Rattle.spin_model.specs.Lattice.{IsLawfulSize, volume}
-use Rattle.scalar_rule.specs.Plan.{Plan}
-use Rattle.scalar_rule.specs.Plan.{slots_of}
+use Rattle.scalar_rule.specs.Plan.{Plan, slots_of}
 use Rattle.scalar_rule.specs.Epoch.{epoch_records}
 use Rattle.scalar_rule.specs.Serial.{serial}
 use Rattle.scalar_rule.specs.Records.{is_recorded, record_at}
 use Rattle.scalar_rule.specs.Sums.{overlap}
 use Rattle.scalar_rule.specs.declared.sample.Sample.{Sample}
-use Rattle.measured_sums.specs.OverlapField.{Field, site_overlap, total_overlap}
-use Rattle.measured_sums.specs.PlaneFamilies.{Family, plane_sum}
+use Rattle.measured_sums.specs.OverlapField.{Field, site_overlap, total_overlap, link_overlap}
+use Rattle.measured_sums.specs.PlaneFamilies.{Family, plane_of, plane_sum}
 use Rattle.measured_sums.specs.PlaneCorrelations.{plane_correlation}
 use Rattle.measured_sums.specs.EpochBins.{bin_of, epoch_digits, most_bins, overlap_classes}
 use Rattle.measured_sums.specs.MeasuredSums.{Observed, Quantity, Number, OverlapSquares, InClass, Axes, Faces, square, term_of, observed, bin_sum, epochs_in_bin, sum_from}
@@ -38,6 +38,27 @@ DistancesAddUp = (l : ℕ) (q : Field) (family : Family) → IsLawfulSize l → 
 abbrev pub OverlapsAreEven : Type 0
 OverlapsAreEven = (l : ℕ) (first second : List Bool) → IsLawfulSize l
     → (nat_abs (total_overlap l (site_overlap first second)) % 2 ≡ 0) × (nat_abs (total_overlap l (site_overlap first second)) ≤ volume l)
+
+-- each plane of a family has as many sites as a face of the lattice
+abbrev pub PlanesAreEqual : Type 0
+PlanesAreEqual = (l : ℕ) (family : Family) (m : ℕ) → m < l → count_below (λ i. plane_of l family i == m) (volume l) ≡ l * l
+
+-- no value of the field is above 1, as none of two configurations is
+abbrev pub IsAtMostOne : Field → Type 0
+IsAtMostOne q = (i : ℕ) → nat_abs (q i) ≤ 1
+
+abbrev pub OverlapsAreAtMostOne : Type 0
+OverlapsAreAtMostOne = (first second : List Bool) → IsAtMostOne (site_overlap first second)
+
+-- so a plane's sum is at most its sites, a correlation at most l times the square of these, and the link sum at most the bonds
+abbrev pub PlaneSumsAreBounded : Type 0
+PlaneSumsAreBounded = (l : ℕ) (q : Field) (family : Family) (m : ℕ) → IsAtMostOne q → m < l → nat_abs (plane_sum l q family m) ≤ l * l
+
+abbrev pub CorrelationsAreBounded : Type 0
+CorrelationsAreBounded = (l : ℕ) (q : Field) (family : Family) (r : ℕ) → IsAtMostOne q → nat_abs (plane_correlation l q family r) ≤ l * (l * l * (l * l))
+
+abbrev pub LinksAreBounded : Type 0
+LinksAreBounded = (l : ℕ) (q : Field) → IsAtMostOne q → nat_abs (link_overlap l q) ≤ 3 * volume l
 
 -- numbers at the distances from 0 to l / 2, those between counted twice, are so many squares
 abbrev pub HaveSquares : ℕ → (ℕ → ℤ) → ℕ → ℤ → Type 0

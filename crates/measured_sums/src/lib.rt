@@ -1,9 +1,14 @@
 //! What `measure` sums up over a run, as definitions, and public laws over them: no code.
 #![tactic(auto)]
 
+mod bounds;
 mod fields;
 mod runs;
 
+pub use bounds::{
+    correlations_are_bounded, links_are_bounded, overlaps_are_at_most_one, plane_sums_are_bounded,
+    planes_are_equal,
+};
 pub use fields::{
     classes_add_up, distances_add_up, distances_turn, overlaps_are_even, planes_add_up,
     total_is_overlap,
