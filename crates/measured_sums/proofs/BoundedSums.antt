@@ -22,7 +22,7 @@ sign-bound false = omega arith
 pub overlap-bound : (first second : List Bool) (i : ℕ) → nat_abs (site_overlap first second i) ≤ 1
 overlap-bound first second i = sign-bound (agree (spin first i) (spin second i))
 
-abs-sum : (a b : ℤ) → nat_abs (a +ℤ b) ≤ nat_abs a + nat_abs b
+pub abs-sum : (a b : ℤ) → nat_abs (a +ℤ b) ≤ nat_abs a + nat_abs b
 abs-sum a b =
     let one = (absolute a).0 in
     let other = (absolute b).0 in
@@ -34,7 +34,7 @@ abs-sum a b =
       | inr none ↦ omega arith
     ]
 
-abs-product : (a b : ℤ) → nat_abs (a *ℤ b) ≡ nat_abs a * nat_abs b
+pub abs-product : (a b : ℤ) → nat_abs (a *ℤ b) ≡ nat_abs a * nat_abs b
 abs-product a b =
     let one = (absolute a).0 in
     let other = (absolute b).0 in

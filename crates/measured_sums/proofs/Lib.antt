@@ -5,5 +5,6 @@ pub mod Parts
 pub mod BinSums
 pub mod PlaneSizes
 pub mod BoundedSums
+pub mod Inequalities
 pub mod KnownValues
 pub mod KnownTexts

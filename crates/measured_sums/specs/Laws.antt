@@ -1,5 +1,5 @@
 -- What holds of the sums, for every lattice size, field and run.
-use Rattle.std.specs.Prelude.{◌≡◌, ℕ, ◌+◌, ◌-◌, ◌*◌, ◌/◌, ◌%◌, ◌^◌, ◌≤◌, ◌<◌, ℤ, pos, nat_abs, ◌+ℤ◌, ◌*ℤ◌, Bool, ◌==◌, if◌then◌else◌, List}
+use Rattle.std.specs.Prelude.{◌≡◌, ℕ, ◌+◌, ◌-◌, ◌*◌, ◌/◌, ◌%◌, ◌^◌, ◌≤◌, ◌<◌, ℤ, pos, nat_abs, ◌+ℤ◌, ◌*ℤ◌, ◌≤ℤ◌, Bool, ◌==◌, if◌then◌else◌, List}
 use Rattle.spin_model.specs.Steps.{count_below}
 use Rattle.spin_model.specs.SignedSums.{sum_of}
 use Rattle.spin_model.specs.Lattice.{IsLawfulSize, volume}
@@ -13,7 +13,7 @@ use Rattle.measured_sums.specs.OverlapField.{Field, site_overlap, total_overlap,
 use Rattle.measured_sums.specs.PlaneFamilies.{Family, plane_of, plane_sum}
 use Rattle.measured_sums.specs.PlaneCorrelations.{plane_correlation}
 use Rattle.measured_sums.specs.EpochBins.{bin_of, epoch_digits, most_bins, overlap_classes}
-use Rattle.measured_sums.specs.MeasuredSums.{Observed, Quantity, Number, OverlapSquares, InClass, Axes, Faces, square, term_of, observed, bin_sum, epochs_in_bin, sum_from}
+use Rattle.measured_sums.specs.MeasuredSums.{Observed, Quantity, Number, EnergySquares, EnergyProducts, Links, LinkSquares, Overlaps, Magnitudes, OverlapSquares, InClass, Axes, Faces, square, term_of, observed, bin_sum, epochs_in_bin, sum_from}
 
 -- ---- fields
 
@@ -116,3 +116,12 @@ abbrev pub DistancesOfBins : Type 0
 DistancesOfBins = (plan : Plan) (s : Sample) (every e t k : ℕ) → IsLawfulSize plan.size
     → (HaveSquares 3 (λ r. sum_from plan s every e t k (Axes r)) plan.size (sum_from plan s every e t k OverlapSquares))
     × (HaveSquares 6 (λ r. sum_from plan s every e t k (Faces r)) plan.size (sum_from plan s every e t k OverlapSquares))
+
+-- the sum of the overlap is at most that of its absolute value, twice that of the product of both energies at most that of their
+-- squares, and the square of a sum at most as many of the squares' sum as it has terms (Cauchy and Schwarz)
+abbrev pub SumsAreBounded : Type 0
+SumsAreBounded = (plan : Plan) (s : Sample) (every e t k : ℕ)
+    → (pos (nat_abs (sum_from plan s every e t k Overlaps)) ≤ℤ sum_from plan s every e t k Magnitudes)
+    × (pos (2 * nat_abs (sum_from plan s every e t k EnergyProducts)) ≤ℤ sum_from plan s every e t k EnergySquares)
+    × (square (sum_from plan s every e t k Links) ≤ℤ (sum_from plan s every e t k Number *ℤ sum_from plan s every e t k LinkSquares))
+    × (square (sum_from plan s every e t k Overlaps) ≤ℤ (sum_from plan s every e t k Number *ℤ sum_from plan s every e t k OverlapSquares))

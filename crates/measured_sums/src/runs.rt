@@ -1,6 +1,6 @@
 //! Sums over runs: each law is the contract of a function with an empty body.
 
-ghost use Rattle.measured_sums.specs.Laws.{BinsAreDigits, BinsCoverTheRun, DistancesOfBins, EpochsAddUp, HistogramsAddUp, NumberIsEpochs, PartsAddUp, RowsHaveTheSame};
+ghost use Rattle.measured_sums.specs.Laws.{BinsAreDigits, BinsCoverTheRun, DistancesOfBins, EpochsAddUp, HistogramsAddUp, NumberIsEpochs, PartsAddUp, RowsHaveTheSame, SumsAreBounded};
 
 /// The bin of an epoch is the number of its binary digits.
 pub fn bins_are_digits()
@@ -41,4 +41,9 @@ pub fn histograms_add_up()
 /// overlaps.
 pub fn distances_of_bins()
     ensures { DistancesOfBins }
+{}
+
+/// The inequalities that hold between the sums of a bin.
+pub fn sums_are_bounded()
+    ensures { SumsAreBounded }
 {}
