@@ -46,7 +46,7 @@ abs-product a b =
     all ∙ parts ∙ (let same : up a * up b + down a * down b + (up a * down b + down a * up b) ≡ (up a + down a) * (up b + down b) = omega arith in same)
     ∙ ap (λ n. n * (up b + down b)) (sym one) ∙ ap (λ n. nat_abs a * n) (sym other)
 
-sum-bound : (f : ℕ → ℤ) (b n : ℕ) → ((i : ℕ) → i < n → nat_abs (f i) ≤ b) → nat_abs (sum_of f n) ≤ n * b
+pub sum-bound : (f : ℕ → ℤ) (b n : ℕ) → ((i : ℕ) → i < n → nat_abs (f i) ≤ b) → nat_abs (sum_of f n) ≤ n * b
 unfolding sum_of
 sum-bound f b zero each = omega arith
 sum-bound f b (suc n) each =

@@ -6,5 +6,6 @@ pub mod BinSums
 pub mod PlaneSizes
 pub mod BoundedSums
 pub mod Inequalities
+pub mod GreatestSums
 pub mod KnownValues
 pub mod KnownTexts

@@ -7,3 +7,4 @@ pub mod MeasuredSums
 pub mod SumsText
 -- laws over these
 pub mod Laws
+pub mod Bounds

@@ -6,8 +6,8 @@ mod fields;
 mod runs;
 
 pub use bounds::{
-    correlations_are_bounded, links_are_bounded, overlaps_are_at_most_one, plane_sums_are_bounded,
-    planes_are_equal,
+    correlations_are_bounded, epochs_are_few, greatest_sums_fit, links_are_bounded,
+    overlaps_are_at_most_one, plane_sums_are_bounded, planes_are_equal, sums_are_at_most,
 };
 pub use fields::{
     classes_add_up, distances_add_up, distances_turn, overlaps_are_even, planes_add_up,
