@@ -1,5 +1,5 @@
 -- Bounds of sums over a field whose values are at most 1.
-use Rattle.std.proofs.Common.{inl, inr, ◌≡◌, ◌⊎◌, ℕ, zero, suc, ◌+◌, ◌*◌, ◌%◌, ◌<◌, ◌≤◌, Bool, true, false, cond, ◌==◌, List, ℤ, pos, negsuc, neg_ℤ, nat_abs, ◌+ℤ◌, ◌*ℤ◌, refl, ap, sym, ◌∙◌, arith}
+use Rattle.std.proofs.Common.{inl, inr, ◌≡◌, ℕ, zero, suc, ◌+◌, ◌*◌, ◌%◌, ◌<◌, ◌≤◌, Bool, true, false, cond, ◌==◌, List, ℤ, pos, neg_ℤ, nat_abs, ◌+ℤ◌, ◌*ℤ◌, ap, sym, ◌∙◌, arith}
 use Rattle.std.proofs.lemmas.Int.{ints}
 use Rattle.std.proofs.lemmas.Nat.{mul-le}
 use Rattle.std.proofs.Math.Nat.{add-mul, mul-add, mod-lt}
@@ -7,7 +7,7 @@ use borrow.Author.Differences.{up, down}
 use Rattle.spin_model.specs.Words.{one_if}
 use Rattle.spin_model.specs.Steps.{count_below}
 use Rattle.spin_model.specs.SignedSums.{sum_of}
-use Rattle.spin_model.specs.Lattice.{IsLawfulSize, volume}
+use Rattle.spin_model.specs.Lattice.{volume}
 use Rattle.scalar_rule.specs.Neighbours.{spin, agree}
 use Rattle.measured_sums.specs.OverlapField.{Field, link_overlap, site_overlap, steps_ahead}
 use Rattle.measured_sums.specs.PlaneFamilies.{Family, plane_of, plane_sum}

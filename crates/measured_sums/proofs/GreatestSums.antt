@@ -1,5 +1,5 @@
 -- What one epoch adds at most, and the greatest sums.
-use Rattle.std.proofs.Common.{inl, inr, ◌≡◌, ℕ, zero, suc, ◌+◌, ◌-◌, ◌*◌, ◌%◌, ◌^◌, ◌<◌, ◌≤◌, Bool, true, false, cond, ◌==◌, List, [], ◌∷◌, length, ℤ, pos, nat_abs, ◌+ℤ◌, ◌-ℤ◌, ◌*ℤ◌, refl, ap, sym, ◌∙◌, arith}
+use Rattle.std.proofs.Common.{inl, inr, ◌≡◌, ℕ, zero, suc, ◌+◌, ◌-◌, ◌*◌, ◌^◌, ◌<◌, ◌≤◌, Bool, true, false, cond, ◌==◌, List, [], ◌∷◌, length, ℤ, pos, nat_abs, ◌+ℤ◌, ◌-ℤ◌, ◌*ℤ◌, arith}
 use Rattle.std.proofs.lemmas.Int.{ints}
 use Rattle.std.proofs.lemmas.Nat.{mul-le}
 use Rattle.std.proofs.Math.Nat.{add-mul}
@@ -19,11 +19,11 @@ use Rattle.scalar_rule.specs.Epoch.{slot_at, swept_slot}
 use Rattle.scalar_rule.specs.Serial.{serial}
 use Rattle.scalar_rule.specs.declared.sample.PlainSlot.{PlainSlot}
 use Rattle.scalar_rule.specs.declared.sample.Sample.{Sample}
-use Rattle.measured_sums.specs.OverlapField.{Field, total_overlap, link_overlap}
+use Rattle.measured_sums.specs.OverlapField.{total_overlap, link_overlap}
 use Rattle.measured_sums.specs.PlaneFamilies.{Family, axes, face_diagonals}
 use Rattle.measured_sums.specs.PlaneCorrelations.{plane_correlation, over_families}
 use Rattle.measured_sums.specs.EpochBins.{class_of}
-use Rattle.measured_sums.specs.MeasuredSums.{Observed, observed_in, observed, Quantity, Number, Energies, EnergySquares, EnergyProducts, Links, LinkSquares, Overlaps, Magnitudes, OverlapSquares, OverlapFourths, EnergyOverlapSquares, EnergyOverlapFourths, InClass, Axes, Faces, square, term_of, bin_sum, epochs_in_bin, is_measured, sum_from}
+use Rattle.measured_sums.specs.MeasuredSums.{Observed, observed_in, observed, Quantity, Number, Energies, EnergySquares, EnergyProducts, Links, LinkSquares, Overlaps, Magnitudes, OverlapSquares, OverlapFourths, EnergyOverlapSquares, EnergyOverlapFourths, InClass, Axes, Faces, square, term_of, epochs_in_bin, is_measured, sum_from}
 use Rattle.measured_sums.specs.Bounds.{greatest_term}
 use Rattle.measured_sums.proofs.Planes.{absolute}
 use Rattle.measured_sums.proofs.BoundedSums.{abs-sum, abs-product, sum-bound, overlap-bound, correlation-bound, link-bound}

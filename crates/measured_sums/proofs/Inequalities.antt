@@ -1,5 +1,5 @@
 -- Inequalities between the sums of one bin: of absolute values, of products and squares, and Cauchy's and Schwarz's.
-use Rattle.std.proofs.Common.{inl, inr, ◌≡◌, ℕ, zero, suc, ◌+◌, ◌-◌, ◌*◌, ◌<◌, ◌≤◌, Bool, true, false, cond, ℤ, pos, negsuc, nat_abs, ◌+ℤ◌, ◌*ℤ◌, ◌≤ℤ◌, refl, ap, ap₂, subst, sym, ◌∙◌, arith}
+use Rattle.std.proofs.Common.{inl, inr, ◌≡◌, ℕ, zero, suc, ◌+◌, ◌-◌, ◌*◌, ◌≤◌, Bool, true, false, cond, ℤ, pos, negsuc, nat_abs, ◌+ℤ◌, ◌*ℤ◌, ◌≤ℤ◌, refl, ap₂, subst, sym, arith}
 use Rattle.std.proofs.lemmas.Int.{ints}
 use Rattle.std.proofs.lemmas.Bool.{cases_lt}
 use Rattle.std.proofs.lemmas.Nat.{mul-le}
@@ -169,10 +169,11 @@ pub sums-bounded : (plan : Plan) (s : Sample) (every e t k : ℕ)
 sums-bounded plan s every e t k =
     let seen = λ (f : ℕ). observed plan (serial plan s f) t in
     let test = λ (j : ℕ). is_measured every k (s.epoch + j) in
-    let number = sym (number-epochs plan s every e t k) in
-    (bin-magnitudes (λ f. total_overlap plan.size (seen f).field) every k s.epoch e,
-    pairs-passed test (λ j. (seen (s.epoch + j)).first_energy) (λ j. (seen (s.epoch + j)).second_energy) (e - s.epoch),
-    subst (λ z. square (sum_from plan s every e t k Links) ≤ℤ (z *ℤ sum_from plan s every e t k LinkSquares)) number
-    (bin-squares (λ f. link_overlap plan.size (seen f).field) every k s.epoch e),
-    subst (λ z. square (sum_from plan s every e t k Overlaps) ≤ℤ (z *ℤ sum_from plan s every e t k OverlapSquares)) number
-    (bin-squares (λ f. total_overlap plan.size (seen f).field) every k s.epoch e))
+    let number = sym (number-epochs plan s every e t k) in (
+      bin-magnitudes (λ f. total_overlap plan.size (seen f).field) every k s.epoch e,
+      pairs-passed test (λ j. (seen (s.epoch + j)).first_energy) (λ j. (seen (s.epoch + j)).second_energy) (e - s.epoch),
+      subst (λ z. square (sum_from plan s every e t k Links) ≤ℤ (z *ℤ sum_from plan s every e t k LinkSquares)) number
+          (bin-squares (λ f. link_overlap plan.size (seen f).field) every k s.epoch e),
+      subst (λ z. square (sum_from plan s every e t k Overlaps) ≤ℤ (z *ℤ sum_from plan s every e t k OverlapSquares)) number
+          (bin-squares (λ f. total_overlap plan.size (seen f).field) every k s.epoch e),
+    )

@@ -1,8 +1,8 @@
 -- Each plane of a family has as many sites as a face of the lattice: sums over all sites as sums over coordinates.
-use Rattle.std.proofs.Common.{◌≡◌, ℕ, zero, suc, ◌+◌, ◌-◌, ◌*◌, ◌%◌, ◌<◌, ◌≤◌, Bool, cond, ◌==◌, ℤ, pos, ◌+ℤ◌, refl, ap, ap₂, sym, ◌∙◌, arith}
+use Rattle.std.proofs.Common.{◌≡◌, ℕ, zero, suc, ◌+◌, ◌-◌, ◌*◌, ◌%◌, ◌<◌, ◌≤◌, cond, ◌==◌, ℤ, pos, ◌+ℤ◌, ap, ap₂, sym, ◌∙◌, arith}
 use Rattle.std.proofs.lemmas.Int.{ints}
 use Rattle.std.proofs.lemmas.Bool.Decides.{nat_tests}
-use Rattle.std.proofs.Math.Nat.{add-mul, mul_assoc}
+use Rattle.std.proofs.Math.Nat.{mul_assoc}
 use Rattle.spin_model.specs.Steps.{count_below}
 use Rattle.spin_model.specs.SignedSums.{sum_of}
 use Rattle.spin_model.specs.Lattice.{volume, site_at, z_of}

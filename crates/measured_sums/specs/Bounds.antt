@@ -1,5 +1,5 @@
 -- How great the sums of a run get.
-use Rattle.std.specs.Prelude.{◌≡◌, ℕ, ◌*◌, ◌^◌, ◌≤◌, ◌<◌, nat_abs}
+use Rattle.std.specs.Prelude.{ℕ, ◌*◌, ◌^◌, ◌≤◌, ◌<◌, nat_abs}
 use Rattle.spin_model.specs.Limits.{last_epoch}
 use Rattle.spin_model.specs.Lattice.{IsLawfulSize, volume, bond_count}
 use Rattle.scalar_rule.specs.Plan.{Plan}
