@@ -17,4 +17,6 @@ from reference.plan_bytes import *  # noqa: F401,F403
 from reference.checkpoint import *  # noqa: F401,F403
 from reference.report import *  # noqa: F401,F403
 from reference.banks import *  # noqa: F401,F403
+from reference.planes import *  # noqa: F401,F403
+from reference.measured import *  # noqa: F401,F403
 from reference.demo import *  # noqa: F401,F403

@@ -152,6 +152,8 @@ SHORT = {
                      [SIXTEEN]),
     "long_glass_8_plan": (lambda: plan_digest(long_glass_8()), ["examples/glass_8/README.md"]),
     "one_slot_plan": (lambda: plan_digest(ferromagnet([UP], [])), [READING]),
+    "many_entries_plan": (lambda: plan_digest(ferromagnet([BOARD, UP], [[FULL] * 96])), ["tools/reference/compare_sums.py"]),
+    "one_slot_glass_plan": (lambda: plan_digest(glass(4, 1, 1, 7)), ["tools/reference/compare_sums.py"]),
     "two_banks_plan": (lambda: rule.banks_digest([ferromagnet([UP], [])] * 2).hex(), [BANKS]),
     "two_banks_at_1": (last_bytes_of_65, [BANKS, READING]),
     "two_banks_of_a_file_at_1": (lambda: last_bytes_of_65((64,)), [BANKS]),

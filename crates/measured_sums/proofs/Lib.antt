@@ -1,0 +1,11 @@
+pub mod SignedTerms
+pub mod Planes
+pub mod BinsAndClasses
+pub mod Parts
+pub mod BinSums
+pub mod PlaneSizes
+pub mod BoundedSums
+pub mod Inequalities
+pub mod GreatestSums
+pub mod KnownValues
+pub mod KnownTexts
