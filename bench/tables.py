@@ -7,9 +7,10 @@
     python3 bench/tables.py --trend NAME        all measurements of the file, case by case in the order of their days
     python3 bench/tables.py --self-test         the tests of this tool
 
-Each file of bench/results begins with the columns machine, commit, date (YYYY-MM-DD), load and turns; what is measured has
-its unit as the end of its name (min, s, ms, us, ns, ps, mb, kb, percent) or is a ratio, and all other columns say of what it is.
-The commit is the one whose page had the figure first; the program is that of this commit or of one just before.
+Each file of bench/results begins with the columns machine, commit, date (YYYY-MM-DD), load and turns. What is
+measured has its unit as the end of its name (min, s, ms, us, ns, ps, mb, kb, percent) or is a ratio. All other
+columns say of what it is. The commit is the one whose page had the figure first; the program is that of this commit
+or of one just before it.
 
 Status: 0; 1 where --check finds a table that differs; 2 for a wrong word or file, with a line."""
 import argparse
@@ -26,7 +27,8 @@ from make_tables import Checks, OneLineParser, Refusal  # noqa: E402
 
 HEAD = ["machine", "commit", "date", "load", "turns"]
 UNITS = ("min", "s", "ms", "us", "ns", "ps", "mb", "kb", "percent")
-RATIOS = ("ratio", "times", "four_runs_times", "two_workers", "four_workers", "eight_workers", "two_pieces", "four_pieces")
+RATIOS = ("ratio", "times", "four_runs_times", "two_workers", "four_workers", "eight_workers", "two_pieces",
+          "four_pieces")
 MARK = re.compile(r"(<!-- table (\w+) -->\n)(.*?)(<!-- end -->)", re.DOTALL)
 Row = Dict[str, str]
 
@@ -80,8 +82,8 @@ def ratio(ours: str, theirs: str, digits: int) -> Callable[[Row], str]:
 
 
 class Table(NamedTuple):
-    """A table of the page: a file's latest rows that have the values `only`, with `keys` as the first columns, the values
-    of `across` as the others, and what `cell` says of each."""
+    """A table of the page: a file's latest rows that have the values `only`, with `keys` as the first columns, the
+    values of `across` as the others, and what `cell` says of each."""
 
     file: str
     keys: Tuple[str, ...]
@@ -95,7 +97,8 @@ TABLES = {
     "workers": Table("workers", ("sweeps",), "size", lambda row: row["times"]),
     "workers_bound": Table("workers", ("sweeps",), "size", lambda row: row["four_runs_times"]),
     "packed_sweep": Table("packed_sweep", ("processor", "rule"), "size", ratio("glass_ps", "c_ps", 1)),
-    "packed_sums": Table("packed_sums", ("function",), "size", ratio("glass_ns", "c_ns", 0), (("processor", "x86-64-v3"),)),
+    "packed_sums": Table("packed_sums", ("function",), "size", ratio("glass_ns", "c_ns", 0),
+                         (("processor", "x86-64-v3"),)),
     "potts": Table("potts", ("processor",), "size", ratio("glass_ps", "c_ps", 0)),
     "banks": Table("banks", ("processor",), "size", ratio("ms_256", "ms_64", 0)),
 }
@@ -193,10 +196,13 @@ def self_test() -> int:
     checks.same("a table of the page", page_table(table, rows), wanted)
     last = [line.rpartition(" | ")[2] for line in trend(rows).splitlines()[2:]]
     checks.same("of the first of its machine", last, ["- |", "0.75 |", "- |", "- |"])
-    for column, wanted_answer in (("glass_ms", True), ("size", False), ("ratio", True), ("what", False), ("mb_64", True)):
-        checks.same(f"{column} is measured", is_measured(column), wanted_answer)
+    for column, answer in (("glass_ms", True), ("size", False), ("ratio", True), ("what", False), ("mb_64", True)):
+        checks.same(f"{column} is measured", is_measured(column), answer)
     for file in sorted((HERE / "results").glob("*.csv")):
-        checks.same(f"{file.name} is read", bool(read_results(file.stem)), True)
+        rows = read_results(file.stem)
+        checks.same(f"{file.name} has what was measured", any(map(is_measured, rows[0])), True)
+        wrong = [row["date"] for row in rows if not re.match(r"2\d{3}-\d\d-\d\d$", row["date"])]
+        checks.same(f"{file.name} has days", wrong, [])
     checks.same("a name that is no file", refusal(lambda: read_results("no_such_file"))[:23], "no_such_file is none of")
     checks.same("a page without its marks", refusal(lambda: with_tables("text"))[:25], "the page has no place for")
     return checks.end()
@@ -207,7 +213,8 @@ def write_or_check(is_check: bool) -> int:
     text = page.read_text(encoding="utf-8")
     made = with_tables(text)
     if is_check and made != text:
-        print("bench/README.md: its tables are not those of bench/results; bench/tables.py --write makes them", file=sys.stderr)
+        print("bench/README.md: its tables are not those of bench/results; bench/tables.py --write makes them",
+              file=sys.stderr)
         return 1
     if not is_check:
         page.write_text(made, encoding="utf-8")

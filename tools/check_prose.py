@@ -1,12 +1,14 @@
 #!/usr/bin/env python3
 """Holds the prose of pages to sentences of at most 40 words, paragraphs of at most 90, and the field's words.
 
+It holds an entry of docs/decisions to 60 words, and pages that are read at one go to their most kilobytes (LONGEST).
+
     python3 tools/check_prose.py            the pages that the gate holds: PAGES below
     python3 tools/check_prose.py PAGE ..    other pages, by their paths
 
-A paragraph is a block of text, an item of a list or a cell of a table. Blocks of code are left out, a piece of code within
-a sentence is one word, and of a link its text counts. A sentence ends at a full stop, a question mark or an exclamation
-mark before a capital letter, code or the paragraph's end.
+A paragraph is a block of text, an item of a list or a cell of a table. Headings and blocks of code are left out. A piece
+of code within a sentence is one word, and of a link its text counts. A sentence ends at a full stop, a question mark or
+an exclamation mark before a capital letter, code or the paragraph's end.
 
 --self-test runs the tests of this tool.
 
@@ -20,11 +22,19 @@ import source_check
 
 MOST_IN_SENTENCE = 40
 MOST_IN_PARAGRAPH = 90
+MOST_IN_DECISION = 60
+DECISIONS = "docs/decisions/"
+# Of 1024 bytes; a folder's number is that of each page in it.
+LONGEST = {"README.md": 7, "CHANGELOG.md": 3, "CONTRIBUTING.md": 5, "bench/README.md": 8, "docs/architecture.md": 12,
+           DECISIONS: 10}
 # What the pages say in the field's words or in plain ones.
 GONE = {"gone on with": "resumed", "want of memory": "lack of memory", "leavings": "what is left",
         "and so is that of": "two sentences"}
 PAGES = ("README.md", "CONTRIBUTING.md", "CHANGELOG.md", "bench/README.md", "docs/architecture.md", "docs/glossary.md",
-         "docs/trust.md", "docs/decisions/*.md", "docs/manual/*.md")
+         "docs/trust.md", "docs/proofs.md", "docs/architecture/*.md", "docs/decisions/*.md", "docs/manual/*.md",
+         "docs/specification/*.md")
+# A cell there has all clauses, definitions or edits of a promise, so that its tables are lists and no prose.
+WITHOUT_TABLES = ("docs/proofs.md",)
 
 
 class Paragraph(NamedTuple):
@@ -78,8 +88,11 @@ def words(text: str) -> int:
 
 def faults(name: str, page: str) -> Iterator[str]:
     """What a page has that is too long, and the words that it should not have."""
+    if name in WITHOUT_TABLES:
+        page = "\n".join("" if line.startswith("|") else line for line in page.splitlines())
+    most = MOST_IN_DECISION if name.startswith(DECISIONS) else MOST_IN_PARAGRAPH
     for line, text in paragraphs(page):
-        if words(text) > MOST_IN_PARAGRAPH:
+        if words(text) > most:
             yield f"{name}:{line}: a paragraph of {words(text)} words: {text[:60]}"
         for sentence in sentences(text):
             if words(sentence) > MOST_IN_SENTENCE:
@@ -87,8 +100,17 @@ def faults(name: str, page: str) -> Iterator[str]:
         yield from (f"{name}:{line}: \"{gone}\"; say {GONE[gone]}" for gone in GONE if gone in text.lower())
 
 
+def size_faults(name: str, page: str) -> Iterator[str]:
+    """Whether a page is longer than pages of its kind may be."""
+    most = LONGEST.get(name, LONGEST.get(name[:name.rfind("/") + 1]))
+    size = len(page.encode("utf-8"))
+    if most is not None and size > 1024 * most:
+        yield f"{name}:1: {size} bytes, and not at most {most} KB"
+
+
 def differences(root: Path, names: Sequence[str]) -> List[str]:
-    return [fault for name in names for fault in faults(name, (root / name).read_text(encoding="utf-8"))]
+    pages = [(name, (root / name).read_text(encoding="utf-8")) for name in names]
+    return [fault for name, page in pages for fault in (*faults(name, page), *size_faults(name, page))]
 
 
 def self_test() -> int:
@@ -101,12 +123,16 @@ def self_test() -> int:
         f"[a](page.md) b\nc\n{long}\n": [1], f"{half} {half}\n": [], f"{half} {half} {half}\n": [1],
         f"{half}\n\n{half}\n\n{half}\n": [], f"- {half}\n- {half}\n- {half}\n": [], "It is for want of memory.\n": [1],
         f"{long[:100]}. {long[:100]}.\n": [], "1. First\n   and more.\n2. Second.\n": []}
-    for page, wanted in cases.items():
-        found = [int(fault.split(":")[1]) for fault in faults("page", page)]
+    named = [("page", page, wanted) for page, wanted in cases.items()]
+    named.append((WITHOUT_TABLES[0], f"| {long} |\n\n{long}\n", [3]))
+    named += [(DECISIONS + "run.md", f"{half}\n\n{half} {half}\n", [3]), (DECISIONS + "run.md", "a\n\n" * 3500, [1]),
+              ("README.md", "a\n\n" * 2389, []), ("README.md", "a\n\n" * 2390, [1]), ("page", "a\n\n" * 9000, [])]
+    for name, page, wanted in named:
+        found = [int(fault.split(":")[1]) for fault in (*faults(name, page), *size_faults(name, page))]
         if found != wanted:
             print(f"check_prose: self-test: {page[:80]!r}: faults at {found}, not {wanted}", file=sys.stderr)
             return 1
-    print(f"check_prose: {len(cases)} tests passed")
+    print(f"check_prose: {len(named)} tests passed")
     return 0
 
 

@@ -126,8 +126,25 @@ def labels_are_own(case):
     return all(one != other for one, other in combinations(labels, 2))
 
 
+def sweeps_alone_are_decisions(case):
+    plan, n = case.plan, 2
+    for place in range(2 * len(plan.rows)):
+        decided = listed.sweeps_decisions(plan, 0, n, place)
+        copy = listed.copy_at(plan, case.opened, place)
+        swept = sweep.sweeps(dynamics_of(plan, case.bit, listed.slot_of(plan, place)), n, sweep.Configuration(copy.spins, copy.wheels))
+        if tuple(swept.spins) != listed.spins_at(made(case, case.opened, decided), place):
+            return False
+    return True
+
+
+def messages_are_own(case):
+    messages = [listed.message_of(case.plan, case.bank, it, j) for it in generators_of(case.plan) for j in range(8)]
+    return len(set(messages)) == len(messages)
+
+
 LAWS = (runs_are_decisions, swept_states_are_decisions, records_are_of_swept_states, draws_are_own, decisions_are_lawful,
-        sweeps_visit_each_once, turns_alternate, decisions_are_counted, generators_are_labelled, labels_are_own)
+        sweeps_visit_each_once, turns_alternate, decisions_are_counted, generators_are_labelled, labels_are_own,
+        messages_are_own, sweeps_alone_are_decisions)
 
 
 def broken(case):

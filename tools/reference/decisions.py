@@ -3,6 +3,7 @@ from collections import namedtuple
 
 from reference.words import count_below, slice_index_or, slice_set, table
 from reference.stream import draw
+from reference.seeding import block_message
 from reference.lattice import colour, half_plane, place_in_plane, volume, z_of
 from reference.bonds import bonds_of
 from reference.site_rule import new_spin
@@ -136,3 +137,7 @@ def label_of(plan, bank, generator):
     if isinstance(generator, SweepGenerator):
         return Label(1, slot_of(plan, place), 2 * replica_of(plan, place) + generator.colour, generator.plane)
     return Label(2, slot_of(plan, place), replica_of(plan, place), bank)
+
+
+def message_of(plan, bank, generator, j):
+    return block_message(plan.seed, *label_of(plan, bank, generator), j)

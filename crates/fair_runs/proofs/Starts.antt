@@ -29,26 +29,26 @@ use Rattle.fair_runs.proofs.Equilibrium.{nearly-stays, passing-counts}
 
 -- ---- from any start
 
-join-near : (d q k r e f m z x y w : ℕ) → AreNear (e * (f * m) * z) (q * x) (q * y) → AreNear (k * r * f * m * z) (d * y) (d * w)
-    → AreNear ((d * e + q * (k * r)) * (f * (m * z))) (d * (q * x)) (d * (q * w))
-join-near d q k r e f m z x y w one other =
-    let a = mul-le-mul_left d one.above in
-    let b = mul-le-mul_left d one.below in
+join-near : (d s q k r e f m z x y w : ℕ) → AreNear (e * (f * m) * z) (q * x) (q * y) → AreNear (k * r * f * m * z) (s * (d * y)) (s * (d * w))
+    → AreNear ((d * (s * e) + q * (k * r)) * (f * (m * z))) (d * (s * (q * x))) (d * (s * (q * w)))
+join-near d s q k r e f m z x y w one other =
+    let a = mul-le-mul_left (d * s) one.above in
+    let b = mul-le-mul_left (d * s) one.below in
     let g = mul-le-mul_left q other.above in
     let h = mul-le-mul_left q other.below in
     record { above = omega arith; below = omega arith }
 
-pub hardly-grows : (r e q : ℕ) (a b : ℕ → ℕ) (plan : Plan) (bit : ℕ) (start : List (List Bool) → ℕ) (decisions : List Decision) (g : List (List Bool) → ℕ) (m : ℕ)
-    → IsLawfulSize plan.size → BelongTo r a b plan → All (IsDecisionOf plan) decisions → IsClose e q a b plan bit start → ((x : List (List Bool)) → g x ≤ m)
-    → AreNear ((2 ^ 32 * e + q * (length decisions * r)) * ((2 ^ 32) ^ length decisions * (m * partition a b plan bit)))
-    (2 ^ 32 * (q * over_states plan (λ x. start x * outcomes (decide plan bit) (2 ^ 32) decisions g x)))
-    (2 ^ 32 * (q * ((2 ^ 32) ^ length decisions * total a b plan bit g)))
-hardly-grows r e q a b plan bit start decisions g m lawful belong of close small =
+pub hardly-grows : (r s e q : ℕ) (a b : ℕ → ℕ) (plan : Plan) (bit : ℕ) (start : List (List Bool) → ℕ) (decisions : List Decision) (g : List (List Bool) → ℕ) (m : ℕ)
+    → IsLawfulSize plan.size → BelongTo r s a b plan → All (IsDecisionOf plan) decisions → IsClose e q a b plan bit start → ((x : List (List Bool)) → g x ≤ m)
+    → AreNear ((2 ^ 32 * (s * e) + q * (length decisions * r)) * ((2 ^ 32) ^ length decisions * (m * partition a b plan bit)))
+    (2 ^ 32 * (s * (q * over_states plan (λ x. start x * outcomes (decide plan bit) (2 ^ 32) decisions g x))))
+    (2 ^ 32 * (s * (q * ((2 ^ 32) ^ length decisions * total a b plan bit g))))
+hardly-grows r s e q a b plan bit start decisions g m lawful belong of close small =
     let h : List (List Bool) → ℕ = outcomes (decide plan bit) (2 ^ 32) decisions g in
-    join-near (2 ^ 32) q (length decisions) r e ((2 ^ 32) ^ length decisions) m (partition a b plan bit) (over_states plan (λ x. start x * h x)) (total a b plan bit h)
+    join-near (2 ^ 32) s q (length decisions) r e ((2 ^ 32) ^ length decisions) m (partition a b plan bit) (over_states plan (λ x. start x * h x)) (total a b plan bit h)
     ((2 ^ 32) ^ length decisions * total a b plan bit g)
     (close h ((2 ^ 32) ^ length decisions * m) (λ x. outcomes-small (decide plan bit) (2 ^ 32) decisions g m small x))
-    (nearly-stays r a b plan bit decisions g m lawful belong of small)
+    (nearly-stays r s a b plan bit decisions g m lawful belong of small)
 
 -- ---- weights above 0
 
@@ -112,13 +112,13 @@ second-power x = let one = first-power x in pow-suc x 1 ∙ rw one refl
 third-power : (x : ℕ) → x ^ 3 ≡ x * x * x
 third-power x = let two = second-power x in pow-suc x 2 ∙ rw two refl
 
-pub grid-exact : (j : ℕ) → j ≤ 1024 → AreThresholds 0 j 1024 Metropolis (j * 2 ^ 22 ∷ j * j * 2 ^ 12 ∷ j * j * j * 2 ^ 2 ∷ [])
+pub grid-exact : (j : ℕ) → j ≤ 1024 → AreThresholds 0 1 j 1024 Metropolis (j * 2 ^ 22 ∷ j * j * 2 ^ 12 ∷ j * j * j * 2 ^ 2 ∷ [])
 grid-exact j few k many small = at k many small
   where
     small_powers : (j * j ≤ 1048576) × (j * j * j ≤ 1073741824)
     small_powers = cube-small j few
 
-    at : (k : ℕ) → 4 ≤ k → k ≤ 6 → IsMetropolisThreshold 0 j 1024 (j * 2 ^ 22 ∷ j * j * 2 ^ 12 ∷ j * j * j * 2 ^ 2 ∷ []) k
+    at : (k : ℕ) → 4 ≤ k → k ≤ 6 → IsMetropolisThreshold 0 1 j 1024 (j * 2 ^ 22 ∷ j * j * 2 ^ 12 ∷ j * j * j * 2 ^ 2 ∷ []) k
     at zero many small = absurd (omega arith)
     at (suc zero) many small = absurd (omega arith)
     at (suc (suc zero)) many small = absurd (omega arith)
@@ -129,14 +129,14 @@ grid-exact j few k many small = at k many small
     at (suc (suc (suc (suc (suc (suc (suc k))))))) many small = absurd (omega arith)
 
 one-slot : (j : ℕ) (rules : RuleView) (t : ℕ) → j ≤ 1024 → rule_of rules.kind ≡ Metropolis → rules.rows ≡ (j * 2 ^ 22 ∷ j * j * 2 ^ 12 ∷ j * j * j * 2 ^ 2 ∷ []) ∷ [] → t ≡ 0
-    → AreThresholds 0 j 1024 (rule_of rules.kind) (thresholds_of rules t)
+    → AreThresholds 0 1 j 1024 (rule_of rules.kind) (thresholds_of rules t)
 one-slot j rules t few metropolis rows here =
-    subst (λ r. AreThresholds 0 j 1024 r (thresholds_of rules t)) (sym metropolis)
-    (subst (λ k. AreThresholds 0 j 1024 Metropolis (get_or rules.rows k [])) (sym here)
-    (subst (λ xs. AreThresholds 0 j 1024 Metropolis (get_or xs 0 [])) (sym rows) (grid-exact j few)))
+    subst (λ r. AreThresholds 0 1 j 1024 r (thresholds_of rules t)) (sym metropolis)
+    (subst (λ k. AreThresholds 0 1 j 1024 Metropolis (get_or rules.rows k [])) (sym here)
+    (subst (λ xs. AreThresholds 0 1 j 1024 Metropolis (get_or xs 0 [])) (sym rows) (grid-exact j few)))
 
 pub one-slot_exact : (j : ℕ) (plan : Plan) → j ≤ 1024 → rule_of plan.rules.kind ≡ Metropolis → plan.rules.rows ≡ (j * 2 ^ 22 ∷ j * j * 2 ^ 12 ∷ j * j * j * 2 ^ 2 ∷ []) ∷ []
-    → BelongTo 0 (λ t. j) (λ t. 1024) plan
+    → BelongTo 0 1 (λ t. j) (λ t. 1024) plan
 one-slot_exact j plan few metropolis rows =
     let one : slots_of plan ≡ 1 = ap length rows in
     record {

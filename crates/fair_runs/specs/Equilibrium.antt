@@ -33,10 +33,11 @@ state_weight n weights state = product_to n (λ p. weights p (spins_at state p))
 -- ---- the temperatures of a plan
 
 -- slot t has a t / b t = exp(-4 beta of slot t): the thresholds of every slot are those of its temperature, and the entries of
--- every pair those of its two temperatures, for each gap that there can be, all to within r parts of 2 ^ 32
-pub record BelongTo (r : ℕ) (a b : ℕ → ℕ) (plan : Plan) : Type 0 where
-  pub rules : (t : ℕ) → t < slots_of plan → AreThresholds r (a t) (b t) (rule_of plan.rules.kind) (thresholds_of plan.rules t)
-  pub swaps : (k m : ℕ) → k + 1 < slots_of plan → 1 ≤ m → 2 * m ≤ bond_count plan.size → IsSwapEntry r (a k) (b k) (a (k + 1)) (b (k + 1)) plan.swaps k m
+-- every pair those of its two temperatures, for each gap that there can be, all to within r / s of 2 ^ 32 draws: 1 / 2 where they
+-- are rounded to the nearest
+pub record BelongTo (r s : ℕ) (a b : ℕ → ℕ) (plan : Plan) : Type 0 where
+  pub rules : (t : ℕ) → t < slots_of plan → AreThresholds r s (a t) (b t) (rule_of plan.rules.kind) (thresholds_of plan.rules t)
+  pub swaps : (k m : ℕ) → k + 1 < slots_of plan → 1 ≤ m → 2 * m ≤ bond_count plan.size → IsSwapEntry r s (a k) (b k) (a (k + 1)) (b (k + 1)) plan.swaps k m
 
 -- ---- means
 

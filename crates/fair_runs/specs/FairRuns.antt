@@ -14,37 +14,37 @@ use Rattle.model_laws.specs.Balance.{updated_by}
 use Rattle.model_laws.specs.Stationary.{AreThresholds, after_update}
 use Rattle.fair_runs.specs.Equilibrium.{over_configurations, over_states, BelongTo, partition, over_draws, total, total_after}
 
--- k decisions change the mean of an observable from 0 to m by at most k r m / 2 ^ 32, whatever they are and in what order. (The
--- two sides are the means times 2 ^ 32 times the number of lists of draws times the partition sum.)
+-- k decisions change the mean of an observable from 0 to m by at most m (r / s) k / 2 ^ 32, whatever they are and in what order.
+-- (The two sides are the means times s times 2 ^ 32 times the number of lists of draws times the partition sum.)
 abbrev pub EquilibriumNearlyStays : Type 0
-EquilibriumNearlyStays = (r : ℕ) (a b : ℕ → ℕ) (plan : Plan) (bit : ℕ) (decisions : List Decision) (g : List (List Bool) → ℕ) (m : ℕ)
-    → IsLawfulSize plan.size → BelongTo r a b plan → All (IsDecisionOf plan) decisions → ((x : List (List Bool)) → g x ≤ m)
+EquilibriumNearlyStays = (r s : ℕ) (a b : ℕ → ℕ) (plan : Plan) (bit : ℕ) (decisions : List Decision) (g : List (List Bool) → ℕ) (m : ℕ)
+    → IsLawfulSize plan.size → BelongTo r s a b plan → All (IsDecisionOf plan) decisions → ((x : List (List Bool)) → g x ≤ m)
     → AreNear (length decisions * r * (2 ^ 32) ^ length decisions * m * partition a b plan bit)
-    (2 ^ 32 * total_after a b plan bit decisions g)
-    (2 ^ 32 * ((2 ^ 32) ^ length decisions * total a b plan bit g))
+    (s * (2 ^ 32 * total_after a b plan bit decisions g))
+    (s * (2 ^ 32 * ((2 ^ 32) ^ length decisions * total a b plan bit g)))
 
 -- with exact thresholds and entries every mean stays
 abbrev pub EquilibriumStays : Type 0
 EquilibriumStays = (a b : ℕ → ℕ) (plan : Plan) (bit : ℕ) (decisions : List Decision) (g : List (List Bool) → ℕ) (m : ℕ)
-    → IsLawfulSize plan.size → BelongTo 0 a b plan → All (IsDecisionOf plan) decisions → ((x : List (List Bool)) → g x ≤ m)
+    → IsLawfulSize plan.size → BelongTo 0 1 a b plan → All (IsDecisionOf plan) decisions → ((x : List (List Bool)) → g x ≤ m)
     → total_after a b plan bit decisions g ≡ (2 ^ 32) ^ length decisions * total a b plan bit g
 
 -- so n epochs of a run that begins in equilibrium, with ideal draws, leave the probability of every event within
--- (number of decisions) r / 2 ^ 32 of what it is in equilibrium: the distance in total variation
+-- (number of decisions) (r / s) / 2 ^ 32 of what it is in equilibrium: the distance in total variation
 abbrev pub RunsStayNearEquilibrium : Type 0
-RunsStayNearEquilibrium = (r : ℕ) (a b : ℕ → ℕ) (plan : Plan) (bit start n : ℕ) (event : List (List Bool) → Bool)
-    → IsLawfulSize plan.size → BelongTo r a b plan
+RunsStayNearEquilibrium = (r s : ℕ) (a b : ℕ → ℕ) (plan : Plan) (bit start n : ℕ) (event : List (List Bool) → Bool)
+    → IsLawfulSize plan.size → BelongTo r s a b plan
     → AreNear (length (run_decisions plan start n) * r * (2 ^ 32) ^ length (run_decisions plan start n) * partition a b plan bit)
-    (2 ^ 32 * total_after a b plan bit (run_decisions plan start n) (λ x. one_if (event x)))
-    (2 ^ 32 * ((2 ^ 32) ^ length (run_decisions plan start n) * total a b plan bit (λ x. one_if (event x))))
+    (s * (2 ^ 32 * total_after a b plan bit (run_decisions plan start n) (λ x. one_if (event x))))
+    (s * (2 ^ 32 * ((2 ^ 32) ^ length (run_decisions plan start n) * total a b plan bit (λ x. one_if (event x)))))
 
 -- and so of every event of what is measured after the sweeps of the next epoch
 abbrev pub MeasuredNearEquilibrium : Type 0
-MeasuredNearEquilibrium = (r : ℕ) (a b : ℕ → ℕ) (plan : Plan) (bit start n : ℕ) (event : List (List Bool) → Bool)
-    → IsLawfulSize plan.size → BelongTo r a b plan
+MeasuredNearEquilibrium = (r s : ℕ) (a b : ℕ → ℕ) (plan : Plan) (bit start n : ℕ) (event : List (List Bool) → Bool)
+    → IsLawfulSize plan.size → BelongTo r s a b plan
     → AreNear (length (measured_decisions plan start n) * r * (2 ^ 32) ^ length (measured_decisions plan start n) * partition a b plan bit)
-    (2 ^ 32 * total_after a b plan bit (measured_decisions plan start n) (λ x. one_if (event x)))
-    (2 ^ 32 * ((2 ^ 32) ^ length (measured_decisions plan start n) * total a b plan bit (λ x. one_if (event x))))
+    (s * (2 ^ 32 * total_after a b plan bit (measured_decisions plan start n) (λ x. one_if (event x))))
+    (s * (2 ^ 32 * ((2 ^ 32) ^ length (measured_decisions plan start n) * total a b plan bit (λ x. one_if (event x)))))
 
 -- ---- from any start
 
@@ -56,11 +56,11 @@ IsClose e q a b plan bit start = (h : List (List Bool) → ℕ) (m : ℕ) → ((
 
 -- the distance from equilibrium, from whatever weights a run starts, never grows by more than that
 abbrev pub DistanceHardlyGrows : Type 0
-DistanceHardlyGrows = (r e q : ℕ) (a b : ℕ → ℕ) (plan : Plan) (bit : ℕ) (start : List (List Bool) → ℕ) (decisions : List Decision) (g : List (List Bool) → ℕ) (m : ℕ)
-    → IsLawfulSize plan.size → BelongTo r a b plan → All (IsDecisionOf plan) decisions → IsClose e q a b plan bit start → ((x : List (List Bool)) → g x ≤ m)
-    → AreNear ((2 ^ 32 * e + q * (length decisions * r)) * ((2 ^ 32) ^ length decisions * (m * partition a b plan bit)))
-    (2 ^ 32 * (q * over_states plan (λ x. start x * over_draws (length decisions) (λ draws. g (after (decide plan bit) decisions draws x)))))
-    (2 ^ 32 * (q * ((2 ^ 32) ^ length decisions * total a b plan bit g)))
+DistanceHardlyGrows = (r s e q : ℕ) (a b : ℕ → ℕ) (plan : Plan) (bit : ℕ) (start : List (List Bool) → ℕ) (decisions : List Decision) (g : List (List Bool) → ℕ) (m : ℕ)
+    → IsLawfulSize plan.size → BelongTo r s a b plan → All (IsDecisionOf plan) decisions → IsClose e q a b plan bit start → ((x : List (List Bool)) → g x ≤ m)
+    → AreNear ((2 ^ 32 * (s * e) + q * (length decisions * r)) * ((2 ^ 32) ^ length decisions * (m * partition a b plan bit)))
+    (2 ^ 32 * (s * (q * over_states plan (λ x. start x * over_draws (length decisions) (λ draws. g (after (decide plan bit) decisions draws x))))))
+    (2 ^ 32 * (s * (q * ((2 ^ 32) ^ length decisions * total a b plan bit g))))
 
 -- ---- that these speak of something
 
@@ -70,12 +70,12 @@ PartitionIsPositive = (a b : ℕ → ℕ) (plan : Plan) (bit : ℕ) → ((t : �
 
 -- exact Metropolis thresholds for exp(-4 beta) = j / 1024
 abbrev pub MetropolisGridIsExact : Type 0
-MetropolisGridIsExact = (j : ℕ) → j ≤ 1024 → AreThresholds 0 j 1024 Metropolis (j * 2 ^ 22 ∷ j * j * 2 ^ 12 ∷ j * j * j * 2 ^ 2 ∷ [])
+MetropolisGridIsExact = (j : ℕ) → j ≤ 1024 → AreThresholds 0 1 j 1024 Metropolis (j * 2 ^ 22 ∷ j * j * 2 ^ 12 ∷ j * j * j * 2 ^ 2 ∷ [])
 
 -- so a plan of one slot with such a table is exact at that temperature
 abbrev pub OneSlotIsExact : Type 0
 OneSlotIsExact = (j : ℕ) (plan : Plan) → j ≤ 1024 → rule_of plan.rules.kind ≡ Metropolis → plan.rules.rows ≡ (j * 2 ^ 22 ∷ j * j * 2 ^ 12 ∷ j * j * j * 2 ^ 2 ∷ []) ∷ []
-    → BelongTo 0 (λ t. j) (λ t. 1024) plan
+    → BelongTo 0 1 (λ t. j) (λ t. 1024) plan
 
 -- ---- one update, as model_laws has it
 

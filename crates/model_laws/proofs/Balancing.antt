@@ -175,28 +175,28 @@ wider r s x y less n = let p = n.above in let q = n.below in record { above = om
 pub near-same : (r x y : ℕ) → x ≡ y → AreNear r x y
 near-same r x y same = record { above = omega arith; below = omega arith }
 
-pub exactly : (z x y : ℕ) → AreNear (0 * z) x y → x ≡ y
+pub exactly : (z x y : ℕ) → AreNear (0 * z) (1 * x) (1 * y) → x ≡ y
 exactly z x y n = let p = n.above in let q = n.below in omega arith
 
 -- a threshold h of all draws, and the rest m of them
-near-heat : (r h m all up down c : ℕ) → m + h ≡ all → AreNear (r * (up + down)) (h * (up + down)) (all * up) → AreNear (r * (c * up + c * down)) (m * (c * up)) (h * (c * down))
-near-heat r h m all up down c rest n =
-    let every : (m + h) * (c * up) ≡ all * (c * up) = ap (λ k. k * (c * up)) rest in
+near-heat : (r s h m all up down c : ℕ) → m + h ≡ all → AreNear (r * (up + down)) (s * (h * (up + down))) (s * (all * up)) → AreNear (r * (c * up + c * down)) (s * (m * (c * up))) (s * (h * (c * down)))
+near-heat r s h m all up down c rest n =
+    let every : (m + h) * (s * (c * up)) ≡ all * (s * (c * up)) = ap (λ k. k * (s * (c * up))) rest in
     let above = mul-le-mul_left c n.above in
     let below = mul-le-mul_left c n.below in
     record { above = omega arith; below = omega arith }
 
-pub near-metropolis : (r t all x y c : ℕ) → AreNear (r * x) (t * x) (all * y) → AreNear (r * (c * x)) (t * (c * x)) (all * (c * y))
-near-metropolis r t all x y c n =
+pub near-metropolis : (r s t all x y c : ℕ) → AreNear (r * x) (s * (t * x)) (s * (all * y)) → AreNear (r * (c * x)) (s * (t * (c * x))) (s * (all * (c * y)))
+near-metropolis r s t all x y c n =
     let above = mul-le-mul_left c n.above in
     let below = mul-le-mul_left c n.below in
     record { above = omega arith; below = omega arith }
 
 -- ---- heat bath
 
-heat-sides : (r h m all t v w x up down : ℕ) (c : ℕ) → m + h ≡ all → t ≡ m → v ≡ h → w ≡ c * up → x ≡ c * down
-    → AreNear (r * (up + down)) (h * (up + down)) (all * up) → AreNear (r * (w + x)) (t * w) (v * x)
-heat-sides r h m all t v w x up down c rest first second one other n = rw (first, second, one, other) (near-heat r h m all up down c rest n)
+heat-sides : (r s h m all t v w x up down : ℕ) (c : ℕ) → m + h ≡ all → t ≡ m → v ≡ h → w ≡ c * up → x ≡ c * down
+    → AreNear (r * (up + down)) (s * (h * (up + down))) (s * (all * up)) → AreNear (r * (w + x)) (s * (t * w)) (s * (v * x))
+heat-sides r s h m all t v w x up down c rest first second one other n = rw (first, second, one, other) (near-heat r s h m all up down c rest n)
 
 swapped-sum : (r w x s t : ℕ) → AreNear (r * (x + w)) t s → AreNear (r * (w + x)) s t
 swapped-sum r w x s t n = let p = n.above in let q = n.below in record { above = omega arith; below = omega arith }
@@ -205,15 +205,15 @@ within-turned : (spins : List Bool) (i n : ℕ) → i < n → length spins ≡ n
 within-turned spins i n within sized = let long = length-set spins i (not (spin spins i)) in omega arith
 
 -- the draws times the weights, for any number of draws
-abbrev Sides : ℕ → ℕ → ℕ → ℕ → Dynamics → List Bool → ℕ → Type 0
-Sides all r a b d spins i =
-    AreNear r (count_below (turns d spins i) all * weight_of a b d spins) (count_below (turns d (turned spins i) i) all * weight_of a b d (turned spins i))
+abbrev Sides : ℕ → ℕ → ℕ → ℕ → ℕ → Dynamics → List Bool → ℕ → Type 0
+Sides all r s a b d spins i =
+    AreNear r (s * (count_below (turns d spins i) all * weight_of a b d spins)) (s * (count_below (turns d (turned spins i) i) all * weight_of a b d (turned spins i)))
 
-heat-sides-balance : (all r a b : ℕ) (d : Dynamics) (spins : List Bool) (i j : ℕ) → d.rule ≡ HeatBath
+heat-sides-balance : (all r s a b : ℕ) (d : Dynamics) (spins : List Bool) (i j : ℕ) → d.rule ≡ HeatBath
     → IsLawfulSize d.size → length spins ≡ volume d.size → i < volume d.size → aligned d.size d.bonds spins i ≡ j → get_or d.thresholds j 0 ≤ all
-    → AreNear (r * (site_weight a b j + site_weight a b (6 - j))) (get_or d.thresholds j 0 * (site_weight a b j + site_weight a b (6 - j))) (all * site_weight a b j)
-    → Sides all (r * (weight_of a b d spins + weight_of a b d (turned spins i))) a b d spins i
-heat-sides-balance all r a b d spins i j heat lawful sized within here limited near =
+    → AreNear (r * (site_weight a b j + site_weight a b (6 - j))) (s * (get_or d.thresholds j 0 * (site_weight a b j + site_weight a b (6 - j)))) (s * (all * site_weight a b j))
+    → Sides all (r * (weight_of a b d spins + weight_of a b d (turned spins i))) s a b d spins i
+heat-sides-balance all r s a b d spins i j heat lawful sized within here limited near =
     let w = weight_of a b d spins in
     let x = weight_of a b d (turned spins i) in
     let h = get_or d.thresholds j 0 in
@@ -230,7 +230,7 @@ heat-sides-balance all r a b d spins i j heat lawful sized within here limited n
           let k : satisfied d.size d.bonds spins i ≡ j = satisfied-up d.size d.bonds spins i up ∙ here in
           let t = heat-up d spins i all heat inside up small in
           let v = heat-down d (turned spins i) i all heat inside_too (other ∙ ap not up) small_too in
-          heat-sides r h (count_below (turns d spins i) all) all (count_below (turns d spins i) all) (count_below (turns d (turned spins i) i) all) w x (site_weight a b j) (site_weight a b (6 - j)) shared.factor
+          heat-sides r s h (count_below (turns d spins i) all) all (count_below (turns d spins i) all) (count_below (turns d (turned spins i) i) all) w x (site_weight a b j) (site_weight a b (6 - j)) shared.factor
           (omega arith) refl (v ∙ also) (shared.one ∙ ap (λ k. shared.factor * site_weight a b k) k) (shared.other ∙ ap (λ k. shared.factor * site_weight a b (6 - k)) k) near
       | inr down ↦
           let six = satisfied-down d.size d.bonds spins i down in
@@ -238,24 +238,24 @@ heat-sides-balance all r a b d spins i j heat lawful sized within here limited n
           let back : 6 - satisfied d.size d.bonds spins i ≡ j = omega arith in
           let t = heat-down d spins i all heat inside down small in
           let v = heat-up d (turned spins i) i all heat inside_too (other ∙ ap not down) small_too in
-          swapped-sum r w x (count_below (turns d spins i) all * w) (count_below (turns d (turned spins i) i) all * x)
-          (heat-sides r h (count_below (turns d (turned spins i) i) all) all (count_below (turns d (turned spins i) i) all) (count_below (turns d spins i) all) x w (site_weight a b j) (site_weight a b (6 - j)) shared.factor
+          swapped-sum r w x (s * (count_below (turns d spins i) all * w)) (s * (count_below (turns d (turned spins i) i) all * x))
+          (heat-sides r s h (count_below (turns d (turned spins i) i) all) all (count_below (turns d (turned spins i) i) all) (count_below (turns d spins i) all) x w (site_weight a b j) (site_weight a b (6 - j)) shared.factor
           (omega arith) refl (t ∙ same) (shared.other ∙ ap (λ k. shared.factor * site_weight a b k) back) (shared.one ∙ ap (λ k. shared.factor * site_weight a b k) k) near)
     ]
 
-pub heat-balances : (r a b : ℕ) (d : Dynamics) (spins : List Bool) (i : ℕ) → d.rule ≡ HeatBath
+pub heat-balances : (r s a b : ℕ) (d : Dynamics) (spins : List Bool) (i : ℕ) → d.rule ≡ HeatBath
     → IsLawfulSize d.size → length spins ≡ volume d.size → i < volume d.size
-    → IsHeatBathThreshold r a b d.thresholds (aligned d.size d.bonds spins i)
-    → Balances (r * (weight_of a b d spins + weight_of a b d (turned spins i))) a b d spins i
-heat-balances r a b d spins i heat lawful sized within t =
-    heat-sides-balance (2 ^ 32) r a b d spins i (aligned d.size d.bonds spins i) heat lawful sized within refl t.limited t.near
+    → IsHeatBathThreshold r s a b d.thresholds (aligned d.size d.bonds spins i)
+    → Balances (r * (weight_of a b d spins + weight_of a b d (turned spins i))) s a b d spins i
+heat-balances r s a b d spins i heat lawful sized within t =
+    heat-sides-balance (2 ^ 32) r s a b d spins i (aligned d.size d.bonds spins i) heat lawful sized within refl t.limited t.near
 
 -- ---- Metropolis
 
 -- what the rule asks of a threshold, for any number of draws
-pub record IsFlipThreshold (all r a b : ℕ) (thresholds : List ℕ) (k : ℕ) : Type 0 where
+pub record IsFlipThreshold (all r s a b : ℕ) (thresholds : List ℕ) (k : ℕ) : Type 0 where
   pub limited : get_or thresholds (k - 4) 0 ≤ all
-  pub near : AreNear (r * b ^ (k - 3)) (get_or thresholds (k - 4) 0 * b ^ (k - 3)) (all * a ^ (k - 3))
+  pub near : AreNear (r * b ^ (k - 3)) (s * (get_or thresholds (k - 4) 0 * b ^ (k - 3))) (s * (all * a ^ (k - 3)))
 
 abbrev flips : ℕ → List ℕ → ℕ → ℕ
 flips all thresholds k = count_below (is_flipped thresholds k) all
@@ -274,31 +274,31 @@ weight-less a b k many six =
     let rest : a ^ (3 - (6 - k)) ≡ a ^ (k - 3) = ap (λ n. a ^ n) back in
     rw (one, rest) (omega arith)
 
-flips-near : (all r a b : ℕ) (thresholds : List ℕ) (k j w x c : ℕ) → k + j ≡ 6 → j ≤ k → w ≡ c * site_weight a b k → x ≡ c * site_weight a b (6 - k)
-    → (4 ≤ k → IsFlipThreshold all r a b thresholds k) → AreNear (r * max w x) (flips all thresholds k * w) (flips all thresholds j * x)
-flips-near all r a b thresholds k j w x c six order one other given = elim (cases_lt 3 k) [
+flips-near : (all r s a b : ℕ) (thresholds : List ℕ) (k j w x c : ℕ) → k + j ≡ 6 → j ≤ k → w ≡ c * site_weight a b k → x ≡ c * site_weight a b (6 - k)
+    → (4 ≤ k → IsFlipThreshold all r s a b thresholds k) → AreNear (r * max w x) (s * (flips all thresholds k * w)) (s * (flips all thresholds j * x))
+flips-near all r s a b thresholds k j w x c six order one other given = elim (cases_lt 3 k) [
   | inl many ↦
       let t = given (omega arith) in
       let first = flips-some thresholds k all (omega arith) t.limited in
       let second = flips-all thresholds j all (omega arith) in
       let w_is : w ≡ c * b ^ (k - 3) = one ∙ ap (λ n. c * n) (weight-more a b k (omega arith)) in
       let x_is : x ≡ c * a ^ (k - 3) = other ∙ ap (λ n. c * n) (weight-less a b k (omega arith) (omega arith)) in
-      let near : AreNear (r * w) (flips all thresholds k * w) (flips all thresholds j * x) =
-      rw (first, second, w_is, x_is) (near-metropolis r (get_or thresholds (k - 4) 0) all (b ^ (k - 3)) (a ^ (k - 3)) c t.near) in
+      let near : AreNear (r * w) (s * (flips all thresholds k * w)) (s * (flips all thresholds j * x)) =
+      rw (first, second, w_is, x_is) (near-metropolis r s (get_or thresholds (k - 4) 0) all (b ^ (k - 3)) (a ^ (k - 3)) c t.near) in
       let greater : w ≤ max w x = omega arith in
       wider (r * w) (r * max w x) _ _ (mul-le-mul_left r greater) near
   | inr few ↦
       let same : k ≡ 6 - k = omega arith in
       let first = flips-all thresholds k all few in
       let second = flips-all thresholds j all (omega arith) in
-      near-same (r * max w x) _ _ (rw (first, second) (ap (λ n. all * n) (one ∙ ap (λ n. c * site_weight a b n) same ∙ sym other)))
+      near-same (r * max w x) _ _ (rw (first, second) (ap (λ n. s * (all * n)) (one ∙ ap (λ n. c * site_weight a b n) same ∙ sym other)))
 ]
 
-metropolis-sides : (all r a b : ℕ) (d : Dynamics) (spins : List Bool) (i : ℕ) → d.rule ≡ Metropolis
+metropolis-sides : (all r s a b : ℕ) (d : Dynamics) (spins : List Bool) (i : ℕ) → d.rule ≡ Metropolis
     → IsLawfulSize d.size → length spins ≡ volume d.size → i < volume d.size
-    → (4 ≤ more_satisfied d spins i → IsFlipThreshold all r a b d.thresholds (more_satisfied d spins i))
-    → Sides all (r * max (weight_of a b d spins) (weight_of a b d (turned spins i))) a b d spins i
-metropolis-sides all r a b d spins i rule lawful sized within given =
+    → (4 ≤ more_satisfied d spins i → IsFlipThreshold all r s a b d.thresholds (more_satisfied d spins i))
+    → Sides all (r * max (weight_of a b d spins) (weight_of a b d (turned spins i))) s a b d spins i
+metropolis-sides all r s a b d spins i rule lawful sized within given =
     let w = weight_of a b d spins in
     let x = weight_of a b d (turned spins i) in
     let k = satisfied d.size d.bonds spins i in
@@ -307,26 +307,26 @@ metropolis-sides all r a b d spins i rule lawful sized within given =
     let shared = share-factor a b d.size d.bonds spins i lawful sized within in
     let first = metropolis-draws d spins i all rule (omega arith) in
     let second = metropolis-draws d (turned spins i) i all rule (within-turned spins i (volume d.size) within sized) in
-    let P : ℕ → Type 0 = λ n. 4 ≤ n → IsFlipThreshold all r a b d.thresholds n in
+    let P : ℕ → Type 0 = λ n. 4 ≤ n → IsFlipThreshold all r s a b d.thresholds n in
     rw (first, second) (elim (cases_lt k j) [
       | inl less ↦
           let most : more_satisfied d spins i ≡ j = omega arith in
           let back : k ≡ 6 - j = omega arith in
           let there : 6 - k ≡ j = omega arith in
           let greater : max x w ≡ max w x = omega arith in
-          let near = flips-near all r a b d.thresholds j k x w shared.factor six (omega arith) (shared.other ∙ ap (λ n. shared.factor * site_weight a b n) there) (shared.one ∙ ap (λ n. shared.factor * site_weight a b n) back) (subst P most given) in
-          subst (λ (n : ℕ). AreNear (r * n) (flips all d.thresholds k * w) (flips all d.thresholds j * x)) greater (other-way (r * max x w) _ _ near)
+          let near = flips-near all r s a b d.thresholds j k x w shared.factor six (omega arith) (shared.other ∙ ap (λ n. shared.factor * site_weight a b n) there) (shared.one ∙ ap (λ n. shared.factor * site_weight a b n) back) (subst P most given) in
+          subst (λ (n : ℕ). AreNear (r * n) (s * (flips all d.thresholds k * w)) (s * (flips all d.thresholds j * x))) greater (other-way (r * max x w) _ _ near)
       | inr more ↦
           let most : more_satisfied d spins i ≡ k = omega arith in
-          flips-near all r a b d.thresholds k j w x shared.factor (omega arith) more shared.one shared.other (subst P most given)
+          flips-near all r s a b d.thresholds k j w x shared.factor (omega arith) more shared.one shared.other (subst P most given)
     ])
 
-pub metropolis-balances : (r a b : ℕ) (d : Dynamics) (spins : List Bool) (i : ℕ) → d.rule ≡ Metropolis
+pub metropolis-balances : (r s a b : ℕ) (d : Dynamics) (spins : List Bool) (i : ℕ) → d.rule ≡ Metropolis
     → IsLawfulSize d.size → length spins ≡ volume d.size → i < volume d.size
-    → (4 ≤ more_satisfied d spins i → IsMetropolisThreshold r a b d.thresholds (more_satisfied d spins i))
-    → Balances (r * max (weight_of a b d spins) (weight_of a b d (turned spins i))) a b d spins i
-metropolis-balances r a b d spins i rule lawful sized within given =
-    metropolis-sides (2 ^ 32) r a b d spins i rule lawful sized within (λ many. let t = given many in record { limited = t.limited; near = t.near })
+    → (4 ≤ more_satisfied d spins i → IsMetropolisThreshold r s a b d.thresholds (more_satisfied d spins i))
+    → Balances (r * max (weight_of a b d spins) (weight_of a b d (turned spins i))) s a b d spins i
+metropolis-balances r s a b d spins i rule lawful sized within given =
+    metropolis-sides (2 ^ 32) r s a b d spins i rule lawful sized within (λ many. let t = given many in record { limited = t.limited; near = t.near })
 
 -- ---- exact thresholds
 
@@ -334,8 +334,8 @@ exact-by-rule : (rule : Rule) (a b : ℕ) (d : Dynamics) (spins : List Bool) (i 
     → IsLawfulSize d.size → length spins ≡ volume d.size → i < volume d.size
     → IsExactAt a b rule d.thresholds (aligned d.size d.bonds spins i) (more_satisfied d spins i)
     → turning_draws d spins i * weight_of a b d spins ≡ turning_draws d (turned spins i) i * weight_of a b d (turned spins i)
-exact-by-rule HeatBath a b d spins i rule lawful sized within exact = exactly _ _ _ (heat-balances 0 a b d spins i rule lawful sized within exact)
-exact-by-rule Metropolis a b d spins i rule lawful sized within exact = exactly _ _ _ (metropolis-balances 0 a b d spins i rule lawful sized within exact)
+exact-by-rule HeatBath a b d spins i rule lawful sized within exact = exactly _ _ _ (heat-balances 0 1 a b d spins i rule lawful sized within exact)
+exact-by-rule Metropolis a b d spins i rule lawful sized within exact = exactly _ _ _ (metropolis-balances 0 1 a b d spins i rule lawful sized within exact)
 
 pub exact-balances : (a b : ℕ) (d : Dynamics) (spins : List Bool) (i : ℕ) → IsLawfulSize d.size → length spins ≡ volume d.size → i < volume d.size
     → IsExactAt a b d.rule d.thresholds (aligned d.size d.bonds spins i) (more_satisfied d spins i)
@@ -368,8 +368,8 @@ opposite-ratio x y p q all some first second =
     same-factor (y * p) (x * q) (p + q) some (omega arith)
 
 pub opposite-fields : (all x y a b j : ℕ) → j ≤ 6 → 0 < site_weight a b j + site_weight a b (6 - j)
-    → AreNear (0 * (site_weight a b j + site_weight a b (6 - j))) (x * (site_weight a b j + site_weight a b (6 - j))) (all * site_weight a b j)
-    → AreNear (0 * (site_weight a b (6 - j) + site_weight a b (6 - (6 - j)))) (y * (site_weight a b (6 - j) + site_weight a b (6 - (6 - j)))) (all * site_weight a b (6 - j))
+    → AreNear (0 * (site_weight a b j + site_weight a b (6 - j))) (1 * (x * (site_weight a b j + site_weight a b (6 - j)))) (1 * (all * site_weight a b j))
+    → AreNear (0 * (site_weight a b (6 - j) + site_weight a b (6 - (6 - j)))) (1 * (y * (site_weight a b (6 - j) + site_weight a b (6 - (6 - j))))) (1 * (all * site_weight a b (6 - j)))
     → (x + y ≡ all) × (y * site_weight a b j ≡ x * site_weight a b (6 - j))
 opposite-fields all x y a b j six some first second =
     let back : 6 - (6 - j) ≡ j = omega arith in

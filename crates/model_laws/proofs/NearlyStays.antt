@@ -51,16 +51,19 @@ shared-small r q a b k w v six small f = elim (cases_lt k 3) [
 
 -- ---- one update
 
-near-by-rule : (rule : Rule) (r a b : ℕ) (d : Dynamics) (spins : List Bool) (i : ℕ) → d.rule ≡ rule → IsLawfulSize d.size → length spins ≡ volume d.size → i < volume d.size
-    → AreThresholds r a b rule d.thresholds
-    → AreNear (r * (weight_of a b d spins + weight_of a b d (turned spins i))) (turning_draws d spins i * weight_of a b d spins) (turning_draws d (turned spins i) i * weight_of a b d (turned spins i))
-near-by-rule HeatBath r a b d spins i rule lawful sized within belong =
-    heat-balances r a b d spins i rule lawful sized within (belong (aligned d.size d.bonds spins i) (aligned-few d spins i))
-near-by-rule Metropolis r a b d spins i rule lawful sized within belong =
+pub near-by-rule : (rule : Rule) (r s a b : ℕ) (d : Dynamics) (spins : List Bool) (i : ℕ) → d.rule ≡ rule → IsLawfulSize d.size → length spins ≡ volume d.size → i < volume d.size
+    → AreThresholds r s a b rule d.thresholds
+    → AreNear (r * (weight_of a b d spins + weight_of a b d (turned spins i))) (s * (turning_draws d spins i * weight_of a b d spins)) (s * (turning_draws d (turned spins i) i * weight_of a b d (turned spins i)))
+near-by-rule HeatBath r s a b d spins i rule lawful sized within belong =
+    heat-balances r s a b d spins i rule lawful sized within (belong (aligned d.size d.bonds spins i) (aligned-few d spins i))
+near-by-rule Metropolis r s a b d spins i rule lawful sized within belong =
     let w = weight_of a b d spins in
     let v = weight_of a b d (turned spins i) in
-    let near = metropolis-balances r a b d spins i rule lawful sized within (λ many. belong _ many (satisfied-few d spins i lawful sized within)) in
+    let near = metropolis-balances r s a b d spins i rule lawful sized within (λ many. belong _ many (satisfied-few d spins i lawful sized within)) in
     wider (r * max w v) (r * (w + v)) _ _ (mul-le-mul_left r (let e : max w v ≤ w + v = omega arith in e)) near
+
+once : (r x y : ℕ) → AreNear r (1 * x) (1 * y) → AreNear r x y
+once r x y near = let above = near.above in let below = near.below in record { above = omega arith; below = omega arith }
 
 -- of n draws k keep the spin and t turn it
 keeps-near : (t s k n q w v : ℕ) → AreNear (q * w) (t * w) (s * v) → k + t ≡ n → ((n - q) * w ≤ s * v + k * w) × (s * v + k * w ≤ (n + q) * w)
@@ -93,14 +96,14 @@ step-between t k low high less more w v x y step other own =
     record { least = omega arith; most = omega arith }
 
 one-between : (r q a b : ℕ) (d : Dynamics) (i low high : ℕ) (weights : List Bool → ℕ) (spins : List Bool) → IsLawfulSize d.size → length spins ≡ volume d.size → i < volume d.size
-    → AreThresholds r a b d.rule d.thresholds → IsSmall r q a b → ((t : List Bool) → length t ≡ volume d.size → Between low high (weight_of a b d t) (weights t))
+    → AreThresholds r 1 a b d.rule d.thresholds → IsSmall r q a b → ((t : List Bool) → length t ≡ volume d.size → Between low high (weight_of a b d t) (weights t))
     → Between (low * (2 ^ 32 - q)) (high * (2 ^ 32 + q)) (weight_of a b d spins) (after_update d i weights spins)
 one-between r q a b d i low high weights spins lawful sized within belong small known =
     let w = weight_of a b d spins in
     let v = weight_of a b d (turned spins i) in
     let six = satisfied-turned d.size d.bonds spins i lawful sized within in
     let little = shared-small r q a b (satisfied d.size d.bonds spins i) w v (omega arith) small (share-factor a b d.size d.bonds spins i lawful sized within) in
-    let near = wider (r * (w + v)) (q * w) _ _ little (near-by-rule d.rule r a b d spins i refl lawful sized within belong) in
+    let near = wider (r * (w + v)) (q * w) _ _ little (once (r * (w + v)) _ _ (near-by-rule d.rule r 1 a b d spins i refl lawful sized within belong)) in
     let step = keeps-near (turning_draws d spins i) (turning_draws d (turned spins i) i) (keeping_draws d spins i) (2 ^ 32) q w v near (count-others (turns d spins i) (2 ^ 32)) in
     let long : length (turned spins i) ≡ volume d.size = length-set spins i (not (spin spins i)) ∙ sized in
     step-between (turning_draws d (turned spins i) i) (keeping_draws d spins i) low high (2 ^ 32 - q) (2 ^ 32 + q) w v (weights (turned spins i)) (weights spins) step (known (turned spins i) long) (known spins sized)
@@ -117,7 +120,7 @@ next-power : (c n m w : ℕ) → c * n * (n ^ m * w) ≡ c * (n ^ suc m * w)
 next-power c n m w = let next = pow-suc n m in rw next (omega arith)
 
 many-between : (r q a b : ℕ) (d : Dynamics) (sites : List ℕ) (low high : ℕ) (weights : List Bool → ℕ) (spins : List Bool) → IsLawfulSize d.size → length spins ≡ volume d.size
-    → All (λ (i : ℕ). i < volume d.size) sites → AreThresholds r a b d.rule d.thresholds → IsSmall r q a b
+    → All (λ (i : ℕ). i < volume d.size) sites → AreThresholds r 1 a b d.rule d.thresholds → IsSmall r q a b
     → ((t : List Bool) → length t ≡ volume d.size → Between low high (weight_of a b d t) (weights t))
     → (low * ((2 ^ 32 - q) ^ length sites * weight_of a b d spins) ≤ after_updates d sites weights spins)
     × (after_updates d sites weights spins ≤ high * ((2 ^ 32 + q) ^ length sites * weight_of a b d spins))
@@ -137,7 +140,7 @@ without-one : (x y z : ℕ) → (1 * x ≤ z) × (z ≤ 1 * y) → (x ≤ z) × 
 without-one x y z both = let low = both.0 in let high = both.1 in (omega arith, omega arith)
 
 pub boltzmann-nearly-stays : (r q a b : ℕ) (d : Dynamics) (sites : List ℕ) (spins : List Bool) → IsLawfulSize d.size → length spins ≡ volume d.size
-    → All (λ (i : ℕ). i < volume d.size) sites → AreThresholds r a b d.rule d.thresholds → IsSmall r q a b
+    → All (λ (i : ℕ). i < volume d.size) sites → AreThresholds r 1 a b d.rule d.thresholds → IsSmall r q a b
     → ((2 ^ 32 - q) ^ length sites * weight_of a b d spins ≤ after_updates d sites (weight_of a b d) spins)
     × (after_updates d sites (weight_of a b d) spins ≤ (2 ^ 32 + q) ^ length sites * weight_of a b d spins)
 boltzmann-nearly-stays r q a b d sites spins lawful sized within belong small =

@@ -15,7 +15,7 @@ use Rattle.model_laws.proofs.Turning.{satisfied-turned}
 use Rattle.model_laws.proofs.Balancing.{keeps-boltzmann}
 use Rattle.model_laws.proofs.Reached.{aligned-few}
 
-exact-here : (a b : ℕ) (rule : Rule) (thresholds : List ℕ) (j k : ℕ) → j ≤ 6 → k ≤ 6 → AreThresholds 0 a b rule thresholds → IsExactAt a b rule thresholds j k
+exact-here : (a b : ℕ) (rule : Rule) (thresholds : List ℕ) (j k : ℕ) → j ≤ 6 → k ≤ 6 → AreThresholds 0 1 a b rule thresholds → IsExactAt a b rule thresholds j k
 exact-here a b HeatBath thresholds j k few six exact = exact j few
 exact-here a b Metropolis thresholds j k few six exact = λ many. exact k many six
 
@@ -27,7 +27,7 @@ scaled : (t k c n w v x y : ℕ) → t * v + k * w ≡ n * w → x ≡ c * v →
 scaled t k c n w v x y stays one other = let times = ap (λ m. c * m) stays in rw (one, other) (omega arith)
 
 one-update : (a b : ℕ) (d : Dynamics) (i c : ℕ) (weights : List Bool → ℕ) (spins : List Bool) → IsLawfulSize d.size → length spins ≡ volume d.size → i < volume d.size
-    → AreThresholds 0 a b d.rule d.thresholds → ((t : List Bool) → length t ≡ volume d.size → weights t ≡ c * weight_of a b d t)
+    → AreThresholds 0 1 a b d.rule d.thresholds → ((t : List Bool) → length t ≡ volume d.size → weights t ≡ c * weight_of a b d t)
     → after_update d i weights spins ≡ c * 2 ^ 32 * weight_of a b d spins
 one-update a b d i c weights spins lawful sized within exact known =
     let here = exact-here a b d.rule d.thresholds (aligned d.size d.bonds spins i) (more_satisfied d spins i) (aligned-few d spins i) (satisfied-few d spins i lawful sized within) exact in
@@ -42,7 +42,7 @@ one-more : (c n m w : ℕ) → c * n * (n ^ m * w) ≡ c * (n ^ suc m * w)
 one-more c n m w = let next = pow-suc n m in rw next (omega arith)
 
 many-updates : (a b : ℕ) (d : Dynamics) (sites : List ℕ) (c : ℕ) (weights : List Bool → ℕ) (spins : List Bool) → IsLawfulSize d.size → length spins ≡ volume d.size
-    → All (λ (i : ℕ). i < volume d.size) sites → AreThresholds 0 a b d.rule d.thresholds → ((t : List Bool) → length t ≡ volume d.size → weights t ≡ c * weight_of a b d t)
+    → All (λ (i : ℕ). i < volume d.size) sites → AreThresholds 0 1 a b d.rule d.thresholds → ((t : List Bool) → length t ≡ volume d.size → weights t ≡ c * weight_of a b d t)
     → after_updates d sites weights spins ≡ c * ((2 ^ 32) ^ length sites * weight_of a b d spins)
 unfolding after_updates
 many-updates a b d [] c weights spins lawful sized within exact known = known spins sized ∙ none-more c (2 ^ 32) (weight_of a b d spins)
@@ -58,7 +58,7 @@ times-once : (x : ℕ) → 1 * x ≡ x
 times-once x = omega arith
 
 pub boltzmann-stays : (a b : ℕ) (d : Dynamics) (sites : List ℕ) (spins : List Bool) → IsLawfulSize d.size → length spins ≡ volume d.size
-    → All (λ (i : ℕ). i < volume d.size) sites → AreThresholds 0 a b d.rule d.thresholds
+    → All (λ (i : ℕ). i < volume d.size) sites → AreThresholds 0 1 a b d.rule d.thresholds
     → after_updates d sites (weight_of a b d) spins ≡ (2 ^ 32) ^ length sites * weight_of a b d spins
 boltzmann-stays a b d sites spins lawful sized within exact =
     many-updates a b d sites 1 (weight_of a b d) spins lawful sized within exact (λ t long. once (weight_of a b d t))

@@ -56,17 +56,17 @@ abbrev pub site_weight : ℕ → ℕ → ℕ → ℕ
 site_weight a b k = b ^ (k - 3) * a ^ (3 - k)
 
 -- Metropolis: the threshold for k satisfied bonds, 4 to 6, is 2 ^ 32 (a / b) ^ (k - 3) = 2 ^ 32 exp(-beta (4 k - 12)), to
--- within r
-pub record IsMetropolisThreshold (r a b : ℕ) (thresholds : List ℕ) (k : ℕ) : Type 0 where
+-- within r / s
+pub record IsMetropolisThreshold (r s a b : ℕ) (thresholds : List ℕ) (k : ℕ) : Type 0 where
   pub limited : slice_index thresholds (k - 4) ≤ 2 ^ 32
-  pub near : AreNear (r * b ^ (k - 3)) (slice_index thresholds (k - 4) * b ^ (k - 3)) (2 ^ 32 * a ^ (k - 3))
+  pub near : AreNear (r * b ^ (k - 3)) (s * (slice_index thresholds (k - 4) * b ^ (k - 3))) (s * (2 ^ 32 * a ^ (k - 3)))
 
 -- heat bath: the threshold for j aligned neighbours is 2 ^ 32 / (1 + (a / b) ^ (j - 3)) = 2 ^ 32 / (1 + exp(-2 beta (2 j - 6))),
--- to within r; with j aligned neighbours +1 has j satisfied bonds and -1 has 6 - j
-pub record IsHeatBathThreshold (r a b : ℕ) (thresholds : List ℕ) (j : ℕ) : Type 0 where
+-- to within r / s; with j aligned neighbours +1 has j satisfied bonds and -1 has 6 - j
+pub record IsHeatBathThreshold (r s a b : ℕ) (thresholds : List ℕ) (j : ℕ) : Type 0 where
   pub limited : slice_index thresholds j ≤ 2 ^ 32
   pub near : AreNear (r * (site_weight a b j + site_weight a b (6 - j)))
-      (slice_index thresholds j * (site_weight a b j + site_weight a b (6 - j))) (2 ^ 32 * site_weight a b j)
+      (s * (slice_index thresholds j * (site_weight a b j + site_weight a b (6 - j)))) (s * (2 ^ 32 * site_weight a b j))
 
 -- ---- detailed balance
 
@@ -74,11 +74,11 @@ abbrev pub weight_of : ℕ → ℕ → Dynamics → List Bool → ℕ
 weight_of a b d spins = weight a b d.size d.bonds spins
 
 -- the draws that turn the spin at site i times the weight of the configuration are those that turn it back times the
--- weight of the other configuration, to within r
-abbrev pub Balances : ℕ → ℕ → ℕ → Dynamics → List Bool → ℕ → Type 0
-Balances r a b d spins i = AreNear r
-    (turning_draws d spins i * weight_of a b d spins)
-    (turning_draws d (turned spins i) i * weight_of a b d (turned spins i))
+-- weight of the other configuration, to within r / s
+abbrev pub Balances : ℕ → ℕ → ℕ → ℕ → Dynamics → List Bool → ℕ → Type 0
+Balances r s a b d spins i = AreNear r
+    (s * (turning_draws d spins i * weight_of a b d spins))
+    (s * (turning_draws d (turned spins i) i * weight_of a b d (turned spins i)))
 
 -- the satisfied bonds of the site with its spin or with the other, whichever are more; if 3, then both, and no threshold
 -- decides in Metropolis
@@ -87,22 +87,22 @@ more_satisfied d spins i = max (satisfied d.size d.bonds spins i) (satisfied d.s
 
 -- Metropolis balances to within the rounding of its threshold times the greater weight
 abbrev pub MetropolisBalances : Type 0
-MetropolisBalances = (r a b : ℕ) (d : Dynamics) (spins : List Bool) (i : ℕ) → d.rule ≡ Metropolis
+MetropolisBalances = (r s a b : ℕ) (d : Dynamics) (spins : List Bool) (i : ℕ) → d.rule ≡ Metropolis
     → IsLawfulSize d.size → length spins ≡ volume d.size → i < volume d.size
-    → (4 ≤ more_satisfied d spins i → IsMetropolisThreshold r a b d.thresholds (more_satisfied d spins i))
-    → Balances (r * max (weight_of a b d spins) (weight_of a b d (turned spins i))) a b d spins i
+    → (4 ≤ more_satisfied d spins i → IsMetropolisThreshold r s a b d.thresholds (more_satisfied d spins i))
+    → Balances (r * max (weight_of a b d spins) (weight_of a b d (turned spins i))) s a b d spins i
 
 -- heat bath balances to within the rounding of its threshold times both weights
 abbrev pub HeatBathBalances : Type 0
-HeatBathBalances = (r a b : ℕ) (d : Dynamics) (spins : List Bool) (i : ℕ) → d.rule ≡ HeatBath
+HeatBathBalances = (r s a b : ℕ) (d : Dynamics) (spins : List Bool) (i : ℕ) → d.rule ≡ HeatBath
     → IsLawfulSize d.size → length spins ≡ volume d.size → i < volume d.size
-    → IsHeatBathThreshold r a b d.thresholds (aligned d.size d.bonds spins i)
-    → Balances (r * (weight_of a b d spins + weight_of a b d (turned spins i))) a b d spins i
+    → IsHeatBathThreshold r s a b d.thresholds (aligned d.size d.bonds spins i)
+    → Balances (r * (weight_of a b d spins + weight_of a b d (turned spins i))) s a b d spins i
 
 -- the threshold that decides at the site is exact
 abbrev pub IsExactAt : ℕ → ℕ → Rule → List ℕ → ℕ → ℕ → Type 0
-IsExactAt a b HeatBath thresholds j k = IsHeatBathThreshold 0 a b thresholds j
-IsExactAt a b Metropolis thresholds j k = 4 ≤ k → IsMetropolisThreshold 0 a b thresholds k
+IsExactAt a b HeatBath thresholds j k = IsHeatBathThreshold 0 1 a b thresholds j
+IsExactAt a b Metropolis thresholds j k = 4 ≤ k → IsMetropolisThreshold 0 1 a b thresholds k
 
 -- and then the two sides are equal
 abbrev pub ExactThresholdsBalance : Type 0
@@ -129,6 +129,6 @@ UpdatesKeepBoltzmann = (a b : ℕ) (d : Dynamics) (spins : List Bool) (i : ℕ)
 -- stand for nothing
 abbrev pub OppositeFieldsAddUp : Type 0
 OppositeFieldsAddUp = (a b : ℕ) (thresholds : List ℕ) (j : ℕ) → j ≤ 6 → 0 < site_weight a b j + site_weight a b (6 - j)
-    → IsHeatBathThreshold 0 a b thresholds j → IsHeatBathThreshold 0 a b thresholds (6 - j)
+    → IsHeatBathThreshold 0 1 a b thresholds j → IsHeatBathThreshold 0 1 a b thresholds (6 - j)
     → (slice_index thresholds j + slice_index thresholds (6 - j) ≡ 2 ^ 32)
     × (slice_index thresholds (6 - j) * site_weight a b j ≡ slice_index thresholds j * site_weight a b (6 - j))

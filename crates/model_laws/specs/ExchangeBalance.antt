@@ -22,10 +22,10 @@ SwappingDraws = (table : List (List ℕ)) (pair cold hot : ℕ)
     → swapping_draws table pair cold hot ≡ swap_threshold table pair ((hot - cold - 1) / 2))
 
 -- the entry of a pair for a gap of 2 m unsatisfied bonds is 2 ^ 32 exp(-4 m (beta of the colder - beta of the hotter)), to
--- within r; a / b = exp(-4 beta) of the colder slot, c / d that of the hotter
-pub record IsSwapEntry (r a b c d : ℕ) (table : List (List ℕ)) (pair m : ℕ) : Type 0 where
+-- within r / s; a / b = exp(-4 beta) of the colder slot, c / d that of the hotter
+pub record IsSwapEntry (r s a b c d : ℕ) (table : List (List ℕ)) (pair m : ℕ) : Type 0 where
   pub limited : swap_threshold table pair (m - 1) ≤ 2 ^ 32
-  pub near : AreNear (r * (b * c) ^ m) (swap_threshold table pair (m - 1) * (b * c) ^ m) (2 ^ 32 * (a * d) ^ m)
+  pub near : AreNear (r * (b * c) ^ m) (s * (swap_threshold table pair (m - 1) * (b * c) ^ m)) (s * (2 ^ 32 * (a * d) ^ m))
 
 -- the weight of a pair's state
 abbrev pub pair_weight : ℕ → ℕ → ℕ → ℕ → ℕ → Bonds → List Bool → List Bool → ℕ
@@ -45,13 +45,13 @@ half_gap l bonds x y = half_difference (unsatisfied l bonds x) (unsatisfied l bo
 -- the draws that swap two configurations times the weight of their state are those that swap them back times the weight
 -- of the other state, to within the rounding of the entry times the greater weight
 abbrev pub ExchangeBalances : Type 0
-ExchangeBalances = (r a b c d l : ℕ) (bonds : Bonds) (x y : List Bool) (table : List (List ℕ)) (pair : ℕ) → IsLawfulSize l
-    → (1 ≤ half_gap l bonds x y → IsSwapEntry r a b c d table pair (half_gap l bonds x y))
+ExchangeBalances = (r s a b c d l : ℕ) (bonds : Bonds) (x y : List Bool) (table : List (List ℕ)) (pair : ℕ) → IsLawfulSize l
+    → (1 ≤ half_gap l bonds x y → IsSwapEntry r s a b c d table pair (half_gap l bonds x y))
     → AreNear (r * max (pair_weight a b c d l bonds x y) (pair_weight a b c d l bonds y x))
-    (pair_draws table pair l bonds x y * pair_weight a b c d l bonds x y) (pair_draws table pair l bonds y x * pair_weight a b c d l bonds y x)
+    (s * (pair_draws table pair l bonds x y * pair_weight a b c d l bonds x y)) (s * (pair_draws table pair l bonds y x * pair_weight a b c d l bonds y x))
 
 -- with an exact entry they are equal
 abbrev pub ExactEntriesBalance : Type 0
 ExactEntriesBalance = (a b c d l : ℕ) (bonds : Bonds) (x y : List Bool) (table : List (List ℕ)) (pair : ℕ) → IsLawfulSize l
-    → (1 ≤ half_gap l bonds x y → IsSwapEntry 0 a b c d table pair (half_gap l bonds x y))
+    → (1 ≤ half_gap l bonds x y → IsSwapEntry 0 1 a b c d table pair (half_gap l bonds x y))
     → pair_draws table pair l bonds x y * pair_weight a b c d l bonds x y ≡ pair_draws table pair l bonds y x * pair_weight a b c d l bonds y x

@@ -9,5 +9,7 @@ pub mod Lists
 pub mod Distinct
 pub mod Lawful
 pub mod Records
+pub mod Messages
+pub mod Alone
 pub mod Printed
 pub mod KnownValues

@@ -119,7 +119,7 @@ run-decided plan s start (suc n) lawful sized =
     ∙ ap (λ b. decided (decide plan b) (drawn_from plan s) (decisions now.epoch) (state_of plan now)) (sym h.bit)
     ∙ epoch-decided plan now (n * plan.sweeps) (turns_of plan s.epoch n) (drawn_from plan s) lawful h.sized (has-draws plan s now n lawful h)
 
-copy-fits : (plan : Plan) (s : Sample) (p : ℕ) → Fits plan s → p < places_of plan → FitsCopy plan.size (copy_at plan s p)
+pub copy-fits : (plan : Plan) (s : Sample) (p : ℕ) → Fits plan s → p < places_of plan → FitsCopy plan.size (copy_at plan s p)
 copy-fits plan s p fits below =
     let slot = fits.slots.each (slot_of plan p) (slot-below plan p below) in
     which (ltb p (slots_of plan)) (slot_at s.slots (slot_of plan p)) slot.first slot.second

@@ -1,9 +1,11 @@
 -- A run is its decisions in order, each by its own draw.
-use Rattle.std.specs.Prelude.{◌≡◌, ◌≢◌, ℕ, ◌+◌, ◌*◌, ◌<◌, ◌≤◌, Bool, ◌==◌, ◌++◌, List, length, All, count_by}
+use Rattle.std.specs.Prelude.{◌≡◌, ◌≢◌, ℕ, ◌+◌, ◌*◌, ◌^◌, ◌<◌, ◌≤◌, Bool, ◌==◌, ◌++◌, List, length, All, count_by}
 use Rattle.std.specs.List.{AllPairs}
 use Rattle.spin_model.specs.Lattice.{IsLawfulSize, volume}
 use Rattle.finite_chance.specs.Chains.{after}
-use Rattle.scalar_rule.specs.Plan.{Plan, slots_of, IsLawfulPlan}
+use Rattle.scalar_rule.specs.Plan.{Plan, slots_of, dynamics_of, IsLawfulPlan}
+use Rattle.scalar_rule.specs.Replica.{configuration_of}
+use Rattle.scalar_rule.specs.Sweep.{sweeps}
 use Rattle.scalar_rule.specs.Serial.{serial}
 use Rattle.coupling_set.specs.CouplingWords.{bonds_of}
 use Rattle.spin_model.specs.Seeding.{seeded}
@@ -15,7 +17,7 @@ use Rattle.scalar_rule.specs.Shape.{Fits}
 use Rattle.scalar_rule.specs.declared.sample.Start.{Start}
 use Rattle.scalar_rule.specs.declared.sample.Record.{Record}
 use Rattle.scalar_rule.specs.declared.sample.Sample.{Sample}
-use Rattle.run_decisions.specs.Decisions.{Generator, IsDecisionOf, IsGeneratorOf, label_of, words_of, spins_at, swept_state, measured_decisions, drawn, state_of, slot_of, places_of, decide, address_of, sites_of, exchanges, run_decisions}
+use Rattle.run_decisions.specs.Decisions.{Generator, IsDecisionOf, IsGeneratorOf, label_of, message_of, words_of, spins_at, swept_state, measured_decisions, drawn, state_of, slot_of, places_of, decide, address_of, sites_of, exchanges, copy_at, sweeps_decisions, run_decisions}
 
 -- the state after n epochs of the defined dynamics is that after the decisions of n epochs, each by the draw at its address
 abbrev pub RunsAreDecisions : Type 0
@@ -77,3 +79,17 @@ GeneratorsAreLabelled = (plan : Plan) (start : Start) (bank b : ℕ) (g : Genera
 
 abbrev pub LabelsAreOwn : Type 0
 LabelsAreOwn = (plan : Plan) (bank : ℕ) (g h : Generator) → IsGeneratorOf plan g → IsGeneratorOf plan h → label_of plan bank g ≡ label_of plan bank h → g ≡ h
+
+-- and so two blocks of words of a run, of one generator or of two, are digests of two messages
+abbrev pub MessagesAreOwn : Type 0
+MessagesAreOwn = (plan : Plan) (bank : ℕ) (g h : Generator) (i j : ℕ) → IsLawfulPlan plan → bank < 2 ^ 32 → IsGeneratorOf plan g → IsGeneratorOf plan h → i < 8 → j < 8
+    → message_of plan bank g i ≡ message_of plan bank h j → (g ≡ h) × (i ≡ j)
+
+-- n sweeps of one place alone, as a replica has them that ages after a quench, are the decisions of these sweeps, which are
+-- lawful, each by the draw at its own address
+abbrev pub SweepsAloneAreDecisions : Type 0
+SweepsAloneAreDecisions = (plan : Plan) (s : Sample) (n p : ℕ) → IsLawfulPlan plan → Fits plan s → p < places_of plan
+    → ((sweeps (dynamics_of plan s.bit (slot_of plan p)) n (configuration_of (copy_at plan s p))).spins
+    ≡ spins_at (after (decide plan s.bit) (sweeps_decisions plan 0 n p) (drawn plan s (sweeps_decisions plan 0 n p)) (state_of plan s)) p)
+    × All (IsDecisionOf plan) (sweeps_decisions plan 0 n p)
+    × AllPairs (λ d e. address_of plan s.bit d ≢ address_of plan s.bit e) (sweeps_decisions plan 0 n p)

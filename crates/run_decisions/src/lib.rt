@@ -2,7 +2,7 @@
 //! contract of a function with an empty body.
 #![tactic(auto)]
 
-ghost use Rattle.run_decisions.specs.Runs.{RunsAreDecisions, DrawsAreOwn, DecisionsAreLawful, SweepsVisitEachOnce, TurnsAlternate, SweptStatesAreDecisions, RecordsAreOfSweptStates, PrintedNumbersAreDecisions, DecisionsAreCounted, GeneratorsAreLabelled, LabelsAreOwn};
+ghost use Rattle.run_decisions.specs.Runs.{RunsAreDecisions, DrawsAreOwn, DecisionsAreLawful, SweepsVisitEachOnce, TurnsAlternate, SweptStatesAreDecisions, RecordsAreOfSweptStates, PrintedNumbersAreDecisions, DecisionsAreCounted, GeneratorsAreLabelled, LabelsAreOwn, MessagesAreOwn, SweepsAloneAreDecisions};
 
 /// After any number of epochs the spins are those after the decisions of these epochs in order, each
 /// by the draw at its address.
@@ -61,4 +61,15 @@ pub fn generators_are_labelled()
 /// No two generators of a run have one label.
 pub fn labels_are_own()
     ensures { LabelsAreOwn }
+{}
+
+/// The words of two generators of a run, and of two blocks of one, are digests of different messages.
+pub fn messages_are_own()
+    ensures { MessagesAreOwn }
+{}
+
+/// The sweeps of one replica alone, as in an aging run, are their decisions in order, each by a draw of
+/// its own.
+pub fn sweeps_alone_are_decisions()
+    ensures { SweepsAloneAreDecisions }
 {}

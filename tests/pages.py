@@ -1,0 +1,148 @@
+#!/usr/bin/env python3
+"""Runs the commands of manual pages, and compares what they print with what the pages show.
+
+    python3 tests/pages.py PROGRAM [PAGE ..]        PAGES below where none is named
+    python3 tests/pages.py --self-test
+
+A page is read from its top, and its commands go to one shell. A block that is indented by four blanks is of
+commands; a block between ``` is what the blocks of commands before it print, output and errors together, since the
+last one. Under a heading nothing may be printed that the page doesn't show, and where nothing is shown the last
+command of each block ends with status 0. Blocks that get the program or show a manual page (SKIPPED) are left out.
+The folder is a new one with the program as ./glass, the tools, and copies of the examples.
+
+Status: 0 where all is as the pages say, 1 where something is not, with a line a fault, 2 for a wrong word."""
+import os
+import re
+import shutil
+import subprocess
+import sys
+import tempfile
+from pathlib import Path
+from typing import Iterator, List, NamedTuple, Tuple
+
+TOP = Path(__file__).resolve().parent.parent
+PAGES = ("docs/manual/tutorial.md",)
+SKIPPED = ("make", "tools/build", "man -l ../docs/manual/glass.1")
+MARK = "@@ end of block"
+
+
+class Step(NamedTuple):
+    """Blocks of commands, what they are to print, and the page's line at which the first one begins."""
+
+    line: int
+    blocks: List[str]
+    shown: str
+
+
+def segments(page: str) -> Iterator[Tuple[str, int, str]]:
+    """What a page has of commands, of shown output and of headings, each with the number of its first line."""
+    lines = page.splitlines()
+    at = 0
+    while at < len(lines):
+        start, line = at, lines[at]
+        at += 1
+        if line.startswith("```"):
+            while at < len(lines) and not lines[at].startswith("```"):
+                at += 1
+            yield "shown", start + 1, "".join(text + "\n" for text in lines[start + 1:at])
+            at += 1
+        elif line.startswith("    ") and (start == 0 or not lines[start - 1].strip()):
+            while at < len(lines) and (lines[at].startswith("    ") or not lines[at].strip()):
+                at += 1
+            yield "commands", start + 1, "\n".join(text[4:] for text in lines[start:at]).strip()
+        elif line.startswith("#"):
+            yield "heading", start + 1, line
+
+
+def steps(page: str) -> Iterator[Step]:
+    """The steps of a page in their order; one whose output isn't shown is to print nothing."""
+    start, blocks = 0, []  # type: int, List[str]
+    for kind, line, text in (*segments(page), ("heading", 0, "the end")):
+        if kind == "commands" and text not in SKIPPED:
+            start = start if blocks else line
+            blocks.append(text)
+        elif kind != "commands" and blocks:
+            yield Step(start, blocks, text if kind == "shown" else "")
+            blocks = []
+
+
+def script(found: List[Step]) -> str:
+    """The commands of all steps, each block with a line behind it that tells its status."""
+    return "".join(f"{block}\necho \"{MARK} $?\"\n" for step in found for block in step.blocks)
+
+
+def ran(found: List[Step], folder: Path) -> List[str]:
+    """What the blocks of all steps print, each with the line of its status, in one shell."""
+    environment = {**os.environ, "PYTHONUNBUFFERED": "1", "PYTHONDONTWRITEBYTECODE": "1", "LC_ALL": "C.UTF-8"}
+    output = subprocess.run(["bash"], input=script(found), cwd=folder, env=environment, stdout=subprocess.PIPE,
+                            stderr=subprocess.STDOUT, universal_newlines=True, check=False).stdout
+    return re.findall(rf"(?:.*\n)*?{MARK} \d+\n", output)
+
+
+def faults(name: str, page: str, folder: Path) -> Iterator[str]:
+    """What a page's commands do otherwise than it says."""
+    found = list(steps(page))
+    printed = iter(ran(found, folder))
+    for step in found:
+        text = ""
+        for block in step.blocks:
+            output, _, status = next(printed, f"{MARK} none\n").rpartition(MARK)
+            text += output
+            if status.strip() != "0" and not step.shown:
+                yield f"{name}:{step.line}: status {status.strip()} of {block.splitlines()[-1]}"
+        if text != step.shown:
+            pairs = zip(text.splitlines() + ["(its end)"], step.shown.splitlines() + ["(its end)"])
+            one, other = next((got, shown) for got, shown in pairs if got != shown)
+            yield f"{name}:{step.line}: the commands print {one!r}, and the page shows {other!r}"
+
+
+def prepare(folder: Path, program: Path) -> None:
+    """Puts the program, the tools and the examples into a folder."""
+    shutil.copy(program, folder / "glass")
+    (folder / "tools").symlink_to(TOP / "tools")
+    shutil.copytree(TOP / "examples", folder / "examples")
+
+
+def self_test() -> int:
+    """Tests the tool on small pages, each with the lines of its faults."""
+    cases = {
+        "Text\n\n    echo a\n\n```\na\n```\n": [], "Text\n\n    echo a\n\n```\nb\n```\n": [3],
+        "    a=1\n\nText\n\n    echo $a\n\n```\n1\n```\n": [], "    echo a\n": [1], "    echo a\n\n# Next\n": [1],
+        "    false\n": [1], "    make\n\nText\n\n    true\n": [],
+        "    false\n    echo a >&2; false\n\n```\na\n```\n": [],
+        "    cat <<'END'\n    x\n    END\n\n```\nx\n```\n": [],
+        "    echo a >&2\n    echo b\n\nText\n\n```\na\nb\n```\n\n    echo c\n\n```\nd\n```\n": [11],
+        "```\nonly shown\n```\n": [], "    echo a\n\n    echo b\n\n```\na\nb\n```\n": [], "    exit 0\n": [1]}
+    with tempfile.TemporaryDirectory() as name:
+        for page, wanted in cases.items():
+            found = [int(fault.split(":")[1]) for fault in faults("page", page, Path(name))]
+            if found != wanted:
+                print(f"pages: self-test: {page!r}: faults at {found}, not {wanted}", file=sys.stderr)
+                return 1
+    print(f"pages: {len(cases)} tests passed")
+    return 0
+
+
+def main(words: List[str]) -> int:
+    if words == ["--help"]:
+        print(__doc__)
+        return 0
+    if words == ["--self-test"]:
+        return self_test()
+    if not words or words[0].startswith("-") or not Path(words[0]).is_file():
+        print("pages: name the program, and pages behind it; --help says more", file=sys.stderr)
+        return 2
+    found: List[str] = []
+    for name in words[1:] or PAGES:
+        with tempfile.TemporaryDirectory() as folder:
+            prepare(Path(folder), Path(words[0]))
+            found += faults(name, (TOP / name).read_text(encoding="utf-8"), Path(folder))
+    for fault in found:
+        print(fault, file=sys.stderr)
+    if not found:
+        print(f"pages: passed, {', '.join(words[1:] or PAGES)}")
+    return 1 if found else 0
+
+
+if __name__ == "__main__":
+    sys.exit(main(sys.argv[1:]))

@@ -1,0 +1,99 @@
+#!/usr/bin/env python3
+"""Holds the links of all pages to what they lead to: a file or folder that is there, and a heading of that page.
+
+    python3 tools/check_links.py
+
+Links to other hosts are left out, and so are pages that a tool makes (MADE) and that aren't there yet.
+
+--self-test runs the tests of this tool.
+
+Status: 0 where all is right, 1 where it is not, with a line a fault, 2 for a wrong word."""
+import re
+import subprocess
+import sys
+import tempfile
+from pathlib import Path
+from typing import Iterator, List, Set
+
+import source_check
+
+LINK = re.compile(r"\]\(([^)\s]+)\)")
+MADE = ("docs/gate_times.md",)
+
+
+def anchor(heading: str) -> str:
+    """The name by which a heading is linked to: lower case, without marks, with a hyphen for each blank."""
+    shown = re.sub(r"\[([^\]]*)\]\([^)]*\)", r"\1", heading).strip().lower()
+    return re.sub(r"[^\w\- ]", "", shown).replace(" ", "-")
+
+
+def without_code(page: str) -> str:
+    """A page without its blocks and pieces of code."""
+    return re.sub(r"`[^`\n]*`", "", re.sub(r"^```.*?^```", "", page, flags=re.DOTALL | re.MULTILINE))
+
+
+def anchors(path: Path) -> Set[str]:
+    """The names of a page's headings; of a name that comes again the later ones have a number."""
+    found: Set[str] = set()
+    text = re.sub(r"^```.*?^```", "", path.read_text(encoding="utf-8"), flags=re.DOTALL | re.MULTILINE)
+    for heading in re.findall(r"^#{1,6} (.*)$", text, re.MULTILINE):
+        name, number = anchor(heading), 0
+        while (f"{name}-{number}" if number else name) in found:
+            number += 1
+        found.add(f"{name}-{number}" if number else name)
+    return found
+
+
+def faults(root: Path, page: Path) -> Iterator[str]:
+    """The links of a page that lead nowhere."""
+    for link in LINK.findall(without_code(page.read_text(encoding="utf-8"))):
+        name, _, part = link.partition("#")
+        if re.match(r"[a-z]+:", link):
+            continue
+        target = (page.parent / name).resolve() if name else page
+        if not target.exists():
+            if str(target.relative_to(root)) not in MADE:
+                yield f"{page.relative_to(root)}: there is no {link}"
+        elif part and target.suffix == ".md" and part not in anchors(target):
+            yield f"{page.relative_to(root)}: there is no heading {link}"
+
+
+def pages(root: Path) -> List[Path]:
+    """The pages of the repository, as git knows them, also new ones."""
+    named = subprocess.run(["git", "ls-files", "--cached", "--others", "--exclude-standard", "*.md"], cwd=root,
+                           stdout=subprocess.PIPE, universal_newlines=True, check=True).stdout.splitlines()
+    return [root / name for name in sorted(set(named)) if (root / name).is_file()]
+
+
+def differences(root: Path) -> List[str]:
+    return [fault for page in pages(root) for fault in faults(root, page)]
+
+
+def self_test() -> int:
+    """Tests the tool on two small pages, with links that lead somewhere and links that don't."""
+    links = {"other.md": 0, "other.md#a-heading-of-code": 0, "other.md#twice-1": 0, "folder": 0, "#here": 0,
+             "https://example.org/x": 0, MADE[0]: 0, "none.md": 1, "other.md#no-heading": 1, "#there": 1,
+             "other.md#in-code": 1, "other.md#twice-2": 1}
+    with tempfile.TemporaryDirectory() as name:
+        root = Path(name).resolve()
+        (root / "folder").mkdir()
+        (root / "other.md").write_text("# A heading, of `code`\n## Twice\n## Twice\n```\n# In code\n```\n", encoding="utf-8")
+        for link, wanted in links.items():
+            page = root / "page.md"
+            page.write_text(f"# Here\n[x]({link}) `[y](none.md)`\n\n```\n[z](none.md)\n```\n", encoding="utf-8")
+            found = list(faults(root, page))
+            if len(found) != wanted:
+                print(f"check_links: self-test: {link}: {found}", file=sys.stderr)
+                return 1
+    print(f"check_links: {len(links)} tests passed")
+    return 0
+
+
+def main(words: List[str]) -> int:
+    root = Path(__file__).resolve().parent.parent
+    return source_check.run("check_links", __doc__, words, self_test, lambda: differences(root),
+                            lambda: f"the links of {len(pages(root))} pages lead somewhere")
+
+
+if __name__ == "__main__":
+    sys.exit(main(sys.argv[1:]))
