@@ -11,10 +11,10 @@ from glass_analysis.reports import Records
 from long_run_folder import digest_of
 from make_tables import Refusal, inverse_temperatures
 from manifest import Study, study_of
+from report_errors import few_blocks
 from run_temperatures import rule_table, run_betas
 
 Taken = TypeVar("Taken")
-FEW_BLOCKS = 16
 NOTE = """note: the error is over the disorder: the samples of one run share each random number.
       Several reports, of other seeds, have the whole error."""
 
@@ -73,8 +73,7 @@ class Slots:
     def end(self, options: argparse.Namespace, figure: Callable[[], object], count: Optional[int] = None) -> None:
         """Tells how many blocks the errors are over, and draws."""
         if count is not None and count > 1:
-            print(f"errors are over {count} blocks, and are themselves uncertain by {uncertainty(count):.0%}"
-                  + (f": take {FEW_BLOCKS} or more for a result" if count < FEW_BLOCKS else ""))
+            print(few_blocks(count) or f"errors are over {count} blocks, and are themselves uncertain by {uncertainty(count):.0%}")
         if self.files == 1:
             print(NOTE)
         if options.plot:

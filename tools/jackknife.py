@@ -38,6 +38,7 @@ from analyse import LONGEST_LINE, Report, read_each, spelled  # noqa: E402
 from exit_status import status_of  # noqa: E402
 from make_tables import OneLineParser, Refusal, add_temperatures, inverse_temperatures  # noqa: E402
 from manifest import add_run, study_of  # noqa: E402
+from report_errors import few_blocks  # noqa: E402
 
 # The number of rows, and the sums over them of both energies, of the squared overlap and of its square.
 Sums = namedtuple("Sums", "rows energy squares fourths")
@@ -240,6 +241,8 @@ def print_averages(averages, names, head):
         print(line)
     if averages.seeds:
         print_seeds(averages, names, head)
+    if few_blocks(averages.blocks):
+        print(few_blocks(averages.blocks))
 
 
 # ---------------------------------------------------------------- the program

@@ -65,6 +65,8 @@ def check_agreement(checks, caller, report, rows):
 def check_values(checks, caller, report, rows):
     """With a block a sample the error of a mean is the standard error of the samples' means."""
     out = caller.call([report], "--blocks", str(SAMPLES))[1].splitlines()
+    checks.same("five blocks are few", out[-1],
+                "errors are over 5 blocks, and are themselves uncertain by 35%: take 16 or more for a result")
     for t in range(SLOTS):
         printed = [float(text) for text in out[2 + t].split()[1:]]
         own = [r for r in rows if r[2] == t]

@@ -2,6 +2,18 @@
 import math
 
 
+FEW_BLOCKS = 16
+
+
+def few_blocks(count):
+    """The line that is told below errors over few blocks, else none: an error over n is that of a standard deviation of
+    Gaussian values, uncertain by a part 1 / sqrt(2 n - 2)."""
+    if not 2 <= count < FEW_BLOCKS:
+        return None
+    return (f"errors are over {count} blocks, and are themselves uncertain by {(2 * count - 2) ** -0.5:.0%}: "
+            f"take {FEW_BLOCKS} or more for a result")
+
+
 def deviation(values):
     """The standard deviation of a list of values, None of fewer than two."""
     if len(values) < 2:

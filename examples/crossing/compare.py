@@ -81,6 +81,14 @@ def crossing_of(temperatures: NDArray[np.float64], small: Size, large: Size) -> 
                      lambda a, b: crossing(temperatures, binder(a), binder(b)))
 
 
+def told(found: Interval) -> str:
+    where = "nowhere" if np.isnan(found.value) else f"at T = {found.value:.3f}"
+    resampled = f"between {found.low:.3f} and {found.high:.3f}"
+    if not found.missing:
+        return f"{where}, {resampled}"
+    return f"{where}; {1 - found.missing:.1%} of the resamples do, {resampled}"
+
+
 def print_rest(size: int, found: Size, temperatures: NDArray[np.float64]) -> None:
     seeds = found.parts.shape[0]
     q2 = found.parts[:, :, :, 0, SQUARE].reshape(seeds * BLOCKS, -1)
@@ -104,9 +112,7 @@ def main(words: List[str]) -> int:
     for slot, temperature in enumerate(temperatures):
         print(f"{temperature:<8g}" + "".join(f"{r.value[slot]:>11.5f} {r.error[slot]:>8.5f}" for r in ratios.values()))
     for small, large in combinations(sizes, 2):
-        found = crossing_of(temperatures, sizes[small], sizes[large])
-        print(f"sizes {small:>2} and {large:>2} cross at T = {found.value:.3f}, between {found.low:.3f} and {found.high:.3f}"
-              + (f"; in {found.missing:.1%} of the resamples nowhere" if found.missing else ""))
+        print(f"sizes {small:>2} and {large:>2} cross {told(crossing_of(temperatures, sizes[small], sizes[large]))}")
     print(f"the transition: {TRANSITION} +- {ITS_ERROR}")
     draw(temperatures, ratios, {size: jackknife(found.density.reshape(-1, found.density.shape[-1]))
                                for size, found in sizes.items()})

@@ -76,6 +76,8 @@ def test_crossings_of_noisy_curves_have_ends_and_no_error_that_is_nan():
     assert steep.missing < 0.01 and steep.low < 1.1 < steep.high and steep.high - steep.low < 0.06
     flat = examples.crossing_of(temperatures, size(0.2), size(0.21))
     assert 0 < flat.missing < 1 and math.isfinite(flat.low) and math.isfinite(flat.high)
+    assert examples.told(steep).startswith("at T = 1.") and "of the resamples do, between " in examples.told(flat)
+    assert examples.told(flat._replace(value=math.nan)).startswith("nowhere; ")
 
 
 def test_reports_of_two_numbers_of_epochs_are_not_taken_together(tmp_path):
