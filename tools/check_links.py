@@ -3,7 +3,7 @@
 
     python3 tools/check_links.py
 
-Links to other hosts are left out, and so are pages that a tool makes (MADE) and that aren't there yet.
+Links to other hosts are left out.
 
 --self-test runs the tests of this tool.
 
@@ -18,7 +18,6 @@ from typing import Iterator, List, Set
 import source_check
 
 LINK = re.compile(r"\]\(([^)\s]+)\)")
-MADE = ("docs/gate_times.md",)
 
 
 def anchor(heading: str) -> str:
@@ -52,8 +51,7 @@ def faults(root: Path, page: Path) -> Iterator[str]:
             continue
         target = (page.parent / name).resolve() if name else page
         if not target.exists():
-            if str(target.relative_to(root)) not in MADE:
-                yield f"{page.relative_to(root)}: there is no {link}"
+            yield f"{page.relative_to(root)}: there is no {link}"
         elif part and target.suffix == ".md" and part not in anchors(target):
             yield f"{page.relative_to(root)}: there is no heading {link}"
 
@@ -72,7 +70,7 @@ def differences(root: Path) -> List[str]:
 def self_test() -> int:
     """Tests the tool on two small pages, with links that lead somewhere and links that don't."""
     links = {"other.md": 0, "other.md#a-heading-of-code": 0, "other.md#twice-1": 0, "folder": 0, "#here": 0,
-             "https://example.org/x": 0, MADE[0]: 0, "none.md": 1, "other.md#no-heading": 1, "#there": 1,
+             "https://example.org/x": 0, "none.md": 1, "other.md#no-heading": 1, "#there": 1,
              "other.md#in-code": 1, "other.md#twice-2": 1}
     with tempfile.TemporaryDirectory() as name:
         root = Path(name).resolve()

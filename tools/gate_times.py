@@ -145,7 +145,7 @@ def page(command: Sequence[str], clock: float, used: float, share: float, spent:
     proved = sum(spent.values())
     return f"""# What the gate costs
 
-Made by `python3 tools/gate_times.py --write docs/gate_times.md`; not written by hand.
+Made by `python3 tools/gate_times.py --write FILE`; not written by hand.
 
 - `{" ".join(command)}` at {output_of(["git", "log", "-1", "--format=%h of %cs"])}, {output_of(["rt", "version"])}
 - {len(os.sched_getaffinity(0))} processors, {processor()}; the host gave {share:.0%} of their time to others
