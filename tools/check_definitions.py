@@ -31,6 +31,7 @@ PATHS = {
     "finite_chance/specs/Sums": "chance", "finite_chance/specs/Chains": "chance",
     "run_decisions/specs/Decisions": "decisions",
     "fair_runs/specs/Equilibrium": "fair",
+    "potts_laws/specs/Changes": "potts", "potts_laws/specs/Weights": "potts",
 }
 # Definitions that the independent program writes otherwise, or that no run asks for.
 OTHERWISE = {
