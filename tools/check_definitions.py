@@ -34,6 +34,7 @@ PATHS = {
     "measured_sums/specs/OverlapField": "planes", "measured_sums/specs/PlaneFamilies": "planes",
     "measured_sums/specs/PlaneCorrelations": "planes", "measured_sums/specs/EpochBins": "measured",
     "measured_sums/specs/MeasuredSums": "measured", "measured_sums/specs/SumsText": "measured",
+    "potts_laws/specs/Changes": "potts", "potts_laws/specs/Weights": "potts",
 }
 # Definitions that the independent program writes otherwise, or that no run asks for.
 OTHERWISE = {

@@ -1,0 +1,53 @@
+-- Values of the words worked by hand, computed from the definitions alone.
+use Rattle.std.proofs.Common.{◌≡◌, ℕ, ◌*◌, ◌^◌, Bool, true, false, List, [], ◌∷◌, refl, arith}
+use Rattle.spin_model.specs.Lattice.{forward, backward}
+use Rattle.spin_model.specs.Steps.{count_below}
+use Rattle.potts_glass.specs.Potts.{Dynamics, visit}
+use Rattle.potts_laws.specs.Changes.{changed, updated_by}
+use Rattle.potts_laws.specs.Weights.{height, weight, IsThreshold}
+
+-- eight sites of colour 0, and the same with colour 1 at the first
+abbrev even_colours : List ℕ
+even_colours = 0 ∷ 0 ∷ 0 ∷ 0 ∷ 0 ∷ 0 ∷ 0 ∷ 0 ∷ []
+
+one-changed : changed even_colours 0 1 ≡ 1 ∷ 0 ∷ 0 ∷ 0 ∷ 0 ∷ 0 ∷ 0 ∷ 0 ∷ []
+one-changed = refl
+
+-- with J = +1 their 24 bonds lower the energy to the least that there is; six of them don't once a site has changed
+least : height 2 (λ n. false) even_colours ≡ 0
+unfolding count_below forward
+least = refl
+
+six-higher : height 2 (λ n. false) (changed even_colours 0 1) ≡ 6
+unfolding count_below forward
+six-higher = refl
+
+six-more_factors : weight 2 3 2 (λ n. false) (changed even_colours 0 1) ≡ 2 ^ 6 * 3 ^ 42
+unfolding count_below forward
+six-more_factors = refl
+
+-- with J = -1 they raise it to the greatest
+greatest : height 2 (λ n. true) even_colours ≡ 48
+unfolding count_below forward
+greatest = refl
+
+-- the step of the draw 2 ^ 32 - 1 leads from colour 0 to 3: for nothing where J = -1, and by a second draw below the
+-- threshold for the gap 6 where J = +1
+abbrev dynamics : Bool → Dynamics
+dynamics sign = record { size = 2; thresholds = 0 ∷ 0 ∷ 0 ∷ 0 ∷ 0 ∷ 100 ∷ []; bonds = λ n. sign }
+
+free : updated_by (dynamics true) even_colours 0 4294967295 100 ≡ 3 ∷ 0 ∷ 0 ∷ 0 ∷ 0 ∷ 0 ∷ 0 ∷ 0 ∷ []
+unfolding count_below forward backward visit
+free = refl
+
+made : updated_by (dynamics false) even_colours 0 4294967295 99 ≡ 3 ∷ 0 ∷ 0 ∷ 0 ∷ 0 ∷ 0 ∷ 0 ∷ 0 ∷ []
+unfolding count_below forward backward visit
+made = refl
+
+kept : updated_by (dynamics false) even_colours 0 4294967295 100 ≡ even_colours
+unfolding count_below forward backward visit
+kept = refl
+
+-- at exp(-beta) = 1 / 2 the gap 1 has an exact threshold
+exact : IsThreshold 0 1 1 2 (2147483648 ∷ []) 1
+exact = record { limited = omega arith; near = record { above = omega arith; below = omega arith } }

@@ -1,0 +1,5 @@
+pub mod Counts
+pub mod Proposals
+pub mod Bonds
+pub mod Balancing
+pub mod KnownValues

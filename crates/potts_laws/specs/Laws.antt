@@ -1,0 +1,46 @@
+-- What makes the definitions the physics: the laws.
+use Rattle.std.specs.Prelude.{◌≡◌, ℕ, ◌+◌, ◌*◌, ◌^◌, ◌<◌, ◌==◌, if◌then◌else◌, max, pos, ◌+ℤ◌, List, length, slice_index}
+use Rattle.finite_chance.specs.Chains.{AreNear}
+use Rattle.spin_model.specs.Couplings.{Bonds}
+use Rattle.spin_model.specs.Lattice.{IsLawfulSize, volume}
+use Rattle.potts_glass.specs.Potts.{Dynamics, proposed, votes, around, energy}
+use Rattle.potts_laws.specs.Changes.{changed, updated_by, proposing_draws, leading_draws}
+use Rattle.potts_laws.specs.Weights.{weight, weight_of, AreThresholds}
+
+-- an update writes a colour at its site and does nothing else
+abbrev pub UpdatesKeepTheRest : Type 0
+UpdatesKeepTheRest = (d : Dynamics) (colours : List ℕ) (i u v : ℕ) → i < length colours
+    → updated_by d colours i u v ≡ changed colours i (slice_index (updated_by d colours i u v) i)
+
+-- a third of the 2 ^ 32 draws each, but for one: 2 ^ 32 is no multiple of 3
+abbrev pub ProposalsAreCounted : Type 0
+ProposalsAreCounted = (c step : ℕ) → step < 3 → proposing_draws c (proposed c step) ≡ (if step == 0 then 1431655766 else 1431655765)
+
+-- the gap, the votes for the old colour over the new one less those for the new one over the old, is the energy's change
+abbrev pub GapIsEnergyChange : Type 0
+GapIsEnergyChange = (d : Dynamics) (colours : List ℕ) (i c : ℕ) → IsLawfulSize d.size → length colours ≡ volume d.size → i < volume d.size
+    → energy d.size d.bonds (changed colours i c) +ℤ pos (votes (around d.size d.bonds colours i) c (slice_index colours i))
+    ≡ energy d.size d.bonds colours +ℤ pos (votes (around d.size d.bonds colours i) (slice_index colours i) c)
+
+-- an energy greater by m makes a configuration (a / b) ^ m = exp(-m beta) times as likely
+abbrev pub WeightsAreBoltzmann : Type 0
+WeightsAreBoltzmann = (a b l : ℕ) (bonds : Bonds) (s t : List ℕ) (m : ℕ) → energy l bonds t ≡ energy l bonds s +ℤ pos m
+    → weight a b l bonds t * b ^ m ≡ weight a b l bonds s * a ^ m
+
+-- ---- detailed balance
+
+-- the pairs that change the colour of site i to c times the weight of the configuration are those that change it back
+-- times the weight of the other, to within e / s
+abbrev pub Balances : ℕ → ℕ → ℕ → ℕ → Dynamics → List ℕ → ℕ → ℕ → Type 0
+Balances e s a b d colours i c = AreNear e
+    (s * (leading_draws d colours i c * weight_of a b d colours))
+    (s * (leading_draws d (changed colours i c) i (slice_index colours i) * weight_of a b d (changed colours i c)))
+
+-- an update balances each change to within the one draw by which proposals differ, and a third of the rounding, times the
+-- greater weight: 1 + r / (3 s) parts of 2 ^ 32
+abbrev pub UpdatesBalance : Type 0
+UpdatesBalance = (r s a b : ℕ) (d : Dynamics) (colours : List ℕ) (i step : ℕ)
+    → IsLawfulSize d.size → length colours ≡ volume d.size → i < volume d.size → slice_index colours i < 4 → step < 3
+    → AreThresholds r s a b d.thresholds
+    → Balances ((2 ^ 32 * s + 1431655766 * r) * max (weight_of a b d colours) (weight_of a b d (changed colours i (proposed (slice_index colours i) step))))
+    s a b d colours i (proposed (slice_index colours i) step)

@@ -1,0 +1,59 @@
+"""One update of the Potts glass, and its weights: potts_laws/specs/Changes.antt and Weights.antt, over
+potts_glass/specs/Potts.antt. The number of equally likely draws is a parameter, 2^32 in the definitions."""
+from collections import namedtuple
+
+from reference.lattice import backward, bond, bond_count, forward
+from reference.words import count_below
+
+# The thresholds for the gaps 1 to 6, in draws; `bonds` says of a bond's number whether J is -1.
+Dynamics = namedtuple("Dynamics", "size thresholds bonds")
+STATES = 4
+
+
+def proposed(c, u, number):
+    return (c + 1 + 3 * u // number) % STATES
+
+
+def signs(l, bonds, i):
+    """The six neighbours of a site, each with J of the bond to it."""
+    ahead = [(forward(l, i, d), bond(i, d)) for d in range(3)]
+    behind = [(backward(l, i, d), bond(backward(l, i, d), d)) for d in range(3)]
+    return [(site, -1 if bonds(n) else 1) for site, n in ahead + behind]
+
+
+def gap(d, colours, i, new):
+    """The sum over the neighbours of J ([s' = old] - [s' = new])."""
+    return sum(j * ((colours[s] == colours[i]) - (colours[s] == new)) for s, j in signs(d.size, d.bonds, i))
+
+
+def changed(colours, i, c):
+    return colours[:i] + (c,) + colours[i + 1:]
+
+
+def updated_by(d, colours, i, u, v, number):
+    new = proposed(colours[i], u, number)
+    cost = gap(d, colours, i, new)
+    return changed(colours, i, new) if cost <= 0 or v < d.thresholds[cost - 1] else colours
+
+
+def proposing_draws(c, other, number):
+    return count_below(lambda u: proposed(c, u, number) == other, number)
+
+
+def leading_draws(d, colours, i, c, number):
+    return sum(count_below(lambda v: updated_by(d, colours, i, u, v, number)[i] == c, number) for u in range(number))
+
+
+def height(l, bonds, colours):
+    """The energy, minus the sum over all bonds of J where the two colours are equal, and one for each bond."""
+    pairs = [(n, colours[n // 3] == colours[forward(l, n // 3, n % 3)]) for n in range(bond_count(l))]
+    return bond_count(l) - sum(-1 if bonds(n) else 1 for n, equal in pairs if equal)
+
+
+def weight(a, b, l, bonds, colours):
+    high = height(l, bonds, colours)
+    return a ** high * b ** (2 * bond_count(l) - high)
+
+
+def weight_of(a, b, d, colours):
+    return weight(a, b, d.size, d.bonds, colours)
