@@ -19,7 +19,7 @@ pub record IsPartlyFair {D X : Type 0} (sum : (X → ℕ) → ℕ) (n r q : ℕ)
 abbrev pub Sees : {X : Type 0} → (X → X → Type 0) → (X → ℕ) → Type 0
 Sees {X} Alike h = (x y : X) → Alike x y → h x ≡ h y
 
-sum-constant : (n c : ℕ) → sum_to n (λ u. c) ≡ n * c
+pub sum-constant : (n c : ℕ) → sum_to n (λ u. c) ≡ n * c
 unfolding sum_to
 sum-constant zero c = omega arith
 sum-constant (suc n) c = let before = sum-constant n c in omega arith

@@ -1,21 +1,24 @@
 -- Decisions about other places leave what stands at chosen places as it is, and so do not count for an observable of these.
-use Rattle.std.proofs.Common.{inl, inr, ◌≡◌, ◌≢◌, ℕ, zero, suc, ◌-◌, ◌*◌, ◌^◌, ◌<◌, ◌≤◌, Bool, true, false, cond, ◌==◌, List, [], ◌∷◌, length, get_or, set, refl, ap, sym, subst, ◌∙◌, arith}
+use Rattle.std.proofs.Common.{inl, inr, ◌≡◌, ◌≢◌, ℕ, zero, suc, ◌+◌, ◌-◌, ◌*◌, ◌^◌, ◌<◌, ◌≤◌, Bool, true, false, cond, ◌==◌, List, [], ◌∷◌, length, get_or, set, refl, ap, sym, subst, ◌∙◌, arith}
 use Rattle.std.specs.Prelude.{All}
 use Rattle.std.proofs.lemmas.Bool.{cases_Bool, cases_lt, eq-eqb, lt-ltb, le-ltb}
 use Rattle.std.proofs.lemmas.List.{get_or-set_other, length-set}
 use Rattle.std.proofs.lemmas.List.Elements.{All-weaker}
-use Rattle.spin_model.specs.Lattice.{IsLawfulSize, colour}
+use Rattle.spin_model.specs.Lattice.{IsLawfulSize, volume, colour}
 use Rattle.coupling_set.specs.CouplingWords.{bonds_of}
 use Rattle.scalar_rule.specs.Plan.{Plan, slots_of, dynamics_of}
 use Rattle.scalar_rule.specs.Sums.{unsatisfied}
 use Rattle.scalar_rule.specs.Sweep.{visit}
 use Rattle.scalar_rule.specs.Exchange.{is_swapped}
 use Rattle.finite_chance.specs.Chains.{AreNear}
-use Rattle.run_decisions.specs.Decisions.{Decision, Update, Exchange, IsDecisionOf, decide, slot_of, spins_at, replica_of}
+use Rattle.run_decisions.specs.Decisions.{Decision, Update, Exchange, IsDecisionOf, decide, slot_of, spins_at, replica_of, measured_decisions}
 use Rattle.fair_runs.specs.Equilibrium.{over_states, BelongTo, boltzmann, partition, total, total_after}
 use Rattle.fair_runs.specs.Places.{first_place, last_place, IsWithin, count_about, AgreeAt, ReadsOnly}
 use Rattle.fair_runs.proofs.Decided.{IsState, states-are-sum}
 use Rattle.fair_runs.proofs.Equilibrium.{decision-fair}
+use Rattle.run_decisions.proofs.Lawful.{measured-lawful}
+use Rattle.fair_runs.proofs.PlaceCounts.{one-place_count}
+use Rattle.std.proofs.Math.Nat.{mul-le-mul_left}
 use Rattle.fair_runs.proofs.Partly.{IsPartlyFair, chain-partly}
 
 -- ---- states that agree
@@ -182,12 +185,22 @@ unfolding first_place last_place IsDecisionOf
 place-within plan chosen one (Update p j i) of = refl
 place-within plan chosen one (Exchange p turn) of = let paired = of.1 in absurd (omega arith)
 
-pub place-alone : (r q : ℕ) (a b : ℕ → ℕ) (plan : Plan) (bit p : ℕ) (decisions : List Decision) (g : List Bool → ℕ) (m : ℕ)
-    → IsLawfulSize plan.size → BelongTo r q a b plan → slots_of plan ≡ 1 → All (IsDecisionOf plan) decisions → ((spins : List Bool) → g spins ≤ m)
-    → AreNear (count_about (λ k. k == p) decisions * r * (2 ^ 32) ^ length decisions * m * partition a b plan bit)
-    (q * (2 ^ 32 * total_after a b plan bit decisions (λ x. g (spins_at x p))))
-    (q * (2 ^ 32 * ((2 ^ 32) ^ length decisions * total a b plan bit (λ x. g (spins_at x p)))))
-place-alone r q a b plan bit p decisions g m lawful belong one of small =
+wider : (c k r q m z x y : ℕ) → c ≤ k → AreNear (c * r * q * m * z) x y → AreNear (k * r * q * m * z) x y
+wider c k r q m z x y few near =
+    let above = near.above in
+    let below = near.below in
+    let more = mul-le-mul_left (r * q * m * z) few in
+    record { above = omega arith; below = omega arith }
+
+pub place-alone : (r q : ℕ) (a b : ℕ → ℕ) (plan : Plan) (bit start n p : ℕ) (g : List Bool → ℕ) (m : ℕ)
+    → IsLawfulSize plan.size → BelongTo r q a b plan → slots_of plan ≡ 1 → ((spins : List Bool) → g spins ≤ m)
+    → AreNear ((n + 1) * (plan.sweeps * volume plan.size) * r * (2 ^ 32) ^ length (measured_decisions plan start n) * m * partition a b plan bit)
+    (q * (2 ^ 32 * total_after a b plan bit (measured_decisions plan start n) (λ x. g (spins_at x p))))
+    (q * (2 ^ 32 * ((2 ^ 32) ^ length (measured_decisions plan start n) * total a b plan bit (λ x. g (spins_at x p)))))
+place-alone r q a b plan bit start n p g m lawful belong one small =
     let chosen : ℕ → Bool = λ k. k == p in
-    others-dont_count r q a b plan bit chosen decisions (λ x. g (spins_at x p)) m lawful belong of (All-weaker (IsDecisionOf plan) (IsWithin chosen) (place-within plan chosen one) decisions of)
-    (λ x y agree. ap g (agree.spins p (eq-eqb p p refl))) (λ x. small (spins_at x p))
+    let decisions = measured_decisions plan start n in
+    let of = measured-lawful plan start n in
+    wider (count_about chosen decisions) ((n + 1) * (plan.sweeps * volume plan.size)) r ((2 ^ 32) ^ length decisions) m (partition a b plan bit) _ _ (one-place_count plan start n p one)
+    (others-dont_count r q a b plan bit chosen decisions (λ x. g (spins_at x p)) m lawful belong of (All-weaker (IsDecisionOf plan) (IsWithin chosen) (place-within plan chosen one) decisions of)
+    (λ x y agree. ap g (agree.spins p (eq-eqb p p refl))) (λ x. small (spins_at x p)))

@@ -1,9 +1,10 @@
 -- Observables that read some of the places: only the decisions about those places count.
-use Rattle.std.specs.Prelude.{◌≡◌, ℕ, suc, ◌*◌, ◌^◌, ◌≤◌, Bool, true, ◌==◌, List, length, All, count_by}
-use Rattle.spin_model.specs.Lattice.{IsLawfulSize}
+use Rattle.std.specs.Prelude.{◌≡◌, ℕ, suc, ◌+◌, ◌*◌, ◌^◌, ◌≤◌, Bool, true, ◌==◌, List, length, All, count_by}
+use Rattle.spin_model.specs.Steps.{count_below}
+use Rattle.spin_model.specs.Lattice.{IsLawfulSize, volume}
 use Rattle.scalar_rule.specs.Plan.{Plan, slots_of}
 use Rattle.finite_chance.specs.Chains.{AreNear}
-use Rattle.run_decisions.specs.Decisions.{Decision, Update, Exchange, IsDecisionOf, spins_at, replica_of}
+use Rattle.run_decisions.specs.Decisions.{Decision, Update, Exchange, IsDecisionOf, spins_at, places_of, replica_of, measured_decisions}
 use Rattle.fair_runs.specs.Equilibrium.{BelongTo, partition, total, total_after}
 
 -- the first and the last place that a decision is about
@@ -49,10 +50,17 @@ OtherReplicaDoesntCount = (r s : ℕ) (a b : ℕ → ℕ) (plan : Plan) (bit rep
     (s * (2 ^ 32 * total_after a b plan bit decisions g))
     (s * (2 ^ 32 * ((2 ^ 32) ^ length decisions * total a b plan bit g)))
 
--- and of one slot, which knows no exchange, that of what stands at one place, by the updates there
+-- of n epochs and the sweeps of the next at most this many decisions are about places of a set: for each of these places an
+-- update of each site in each sweep, and an exchange in each of the n epochs
+abbrev pub DecisionsAboutPlacesAreCounted : Type 0
+DecisionsAboutPlacesAreCounted = (plan : Plan) (chosen : ℕ → Bool) (start n : ℕ)
+    → count_about chosen (measured_decisions plan start n) ≤ count_below chosen (places_of plan) * (n * (plan.sweeps * volume plan.size + 1) + plan.sweeps * volume plan.size)
+
+-- so a run with one slot, which has no exchange, changes the mean of an observable of one place, when it is measured after n
+-- epochs and the sweeps of the next, by at most the updates of this place: half of all decisions
 abbrev pub OnePlaceStaysNearEquilibrium : Type 0
-OnePlaceStaysNearEquilibrium = (r s : ℕ) (a b : ℕ → ℕ) (plan : Plan) (bit p : ℕ) (decisions : List Decision) (g : List Bool → ℕ) (m : ℕ)
-    → IsLawfulSize plan.size → BelongTo r s a b plan → slots_of plan ≡ 1 → All (IsDecisionOf plan) decisions → ((spins : List Bool) → g spins ≤ m)
-    → AreNear (count_about (λ q. q == p) decisions * r * (2 ^ 32) ^ length decisions * m * partition a b plan bit)
-    (s * (2 ^ 32 * total_after a b plan bit decisions (λ x. g (spins_at x p))))
-    (s * (2 ^ 32 * ((2 ^ 32) ^ length decisions * total a b plan bit (λ x. g (spins_at x p)))))
+OnePlaceStaysNearEquilibrium = (r s : ℕ) (a b : ℕ → ℕ) (plan : Plan) (bit start n p : ℕ) (g : List Bool → ℕ) (m : ℕ)
+    → IsLawfulSize plan.size → BelongTo r s a b plan → slots_of plan ≡ 1 → ((spins : List Bool) → g spins ≤ m)
+    → AreNear ((n + 1) * (plan.sweeps * volume plan.size) * r * (2 ^ 32) ^ length (measured_decisions plan start n) * m * partition a b plan bit)
+    (s * (2 ^ 32 * total_after a b plan bit (measured_decisions plan start n) (λ x. g (spins_at x p))))
+    (s * (2 ^ 32 * ((2 ^ 32) ^ length (measured_decisions plan start n) * total a b plan bit (λ x. g (spins_at x p)))))
