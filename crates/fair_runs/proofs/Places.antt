@@ -1,6 +1,7 @@
 -- Decisions about other places leave what stands at chosen places as it is, and so do not count for an observable of these.
 use Rattle.std.proofs.Common.{inl, inr, ◌≡◌, ◌≢◌, ℕ, zero, suc, ◌+◌, ◌-◌, ◌*◌, ◌^◌, ◌<◌, ◌≤◌, Bool, true, false, cond, ◌==◌, List, [], ◌∷◌, length, get_or, set, refl, ap, sym, subst, ◌∙◌, arith}
 use Rattle.std.specs.Prelude.{All}
+use Rattle.std.proofs.Math.Nat.{mul-le-mul_left}
 use Rattle.std.proofs.lemmas.Bool.{cases_Bool, cases_lt, eq-eqb, lt-ltb, le-ltb}
 use Rattle.std.proofs.lemmas.List.{get_or-set_other, length-set}
 use Rattle.std.proofs.lemmas.List.Elements.{All-weaker}
@@ -12,14 +13,13 @@ use Rattle.scalar_rule.specs.Sweep.{visit}
 use Rattle.scalar_rule.specs.Exchange.{is_swapped}
 use Rattle.finite_chance.specs.Chains.{AreNear}
 use Rattle.run_decisions.specs.Decisions.{Decision, Update, Exchange, IsDecisionOf, decide, slot_of, spins_at, replica_of, measured_decisions}
+use Rattle.run_decisions.proofs.Lawful.{measured-lawful}
 use Rattle.fair_runs.specs.Equilibrium.{over_states, BelongTo, boltzmann, partition, total, total_after}
 use Rattle.fair_runs.specs.Places.{first_place, last_place, IsWithin, count_about, AgreeAt, ReadsOnly}
 use Rattle.fair_runs.proofs.Decided.{IsState, states-are-sum}
 use Rattle.fair_runs.proofs.Equilibrium.{decision-fair}
-use Rattle.run_decisions.proofs.Lawful.{measured-lawful}
-use Rattle.fair_runs.proofs.PlaceCounts.{one-place_count}
-use Rattle.std.proofs.Math.Nat.{mul-le-mul_left}
 use Rattle.fair_runs.proofs.Partly.{IsPartlyFair, chain-partly}
+use Rattle.fair_runs.proofs.PlaceCounts.{one-place_count}
 
 -- ---- states that agree
 
