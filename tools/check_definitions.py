@@ -30,7 +30,7 @@ PATHS = {
     "glass_engine/specs/Banks": "banks", "run_checkpoint/specs/BankEncoding": "banks",
     "finite_chance/specs/Sums": "chance", "finite_chance/specs/Chains": "chance",
     "run_decisions/specs/Decisions": "decisions",
-    "fair_runs/specs/Equilibrium": "fair",
+    "fair_runs/specs/Equilibrium": "fair", "fair_runs/specs/Places": "fair",
     "measured_sums/specs/OverlapField": "planes", "measured_sums/specs/PlaneFamilies": "planes",
     "measured_sums/specs/PlaneCorrelations": "planes", "measured_sums/specs/EpochBins": "measured",
     "measured_sums/specs/MeasuredSums": "measured", "measured_sums/specs/SumsText": "measured",
@@ -50,6 +50,9 @@ OTHERWISE = {
     "potts_sweep_words": "of the Potts glass: tools/plain_potts.py",
     "potts_start_words": "of the Potts glass: tools/plain_potts.py",
     "words_on": "how the kept words lie; `couplings_view` makes them by `place_of`",
+    "AgreeAt": "the same spins at a place: in `check_places` of fair_cases", "ReadsOnly": "what stands at one place: in `check_places`",
+    "OtherPlacesDontCount": "a law: `check_places`", "OtherReplicaDoesntCount": "a law: `check_places`, where a place is a replica",
+    "DecisionsAboutPlacesAreCounted": "a law: `check_counts` of fair_cases", "OnePlaceStaysNearEquilibrium": "a law: `check_places`",
     "summary_line": "of `demo`", "slot_line": "of `demo`",
 }
 # Two definitions of one name in one module's files.

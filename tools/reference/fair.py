@@ -1,4 +1,4 @@
-"""Means in equilibrium and after decisions: fair_runs/specs/Equilibrium.antt, over model_laws/specs/Weights.antt. The number
+"""Means in equilibrium and after decisions: fair_runs/specs/Equilibrium.antt and Places.antt, over model_laws/specs/Weights.antt. The number
 of equally likely draws is a parameter, 2^32 in the definitions."""
 from math import prod
 
@@ -6,7 +6,7 @@ from reference.lattice import bond_count, volume
 from reference.bonds import bonds_of
 from reference.sums import unsatisfied
 from reference.chance import after, over_spin, sum_lists, sum_to
-from reference.decisions import decide, places_of, slot_of, spins_at
+from reference.decisions import Exchange, decide, places_of, slot_of, spins_at
 
 
 def weight(a, b, l, bonds, spins):
@@ -54,3 +54,15 @@ def total_after(a, b, plan, bit, decisions, g, draws=2 ** 32):
         return decide(plan, bit, decision, u, x)
     return over_states(plan, lambda x: boltzmann(a, b, plan, bit, x) * over_draws(
         len(decisions), lambda us: g(after(act, decisions, us, x)), draws))
+
+
+def first_place(decision):
+    return decision.place
+
+
+def last_place(decision):
+    return decision.place + 1 if isinstance(decision, Exchange) else decision.place
+
+
+def count_about(chosen, decisions):
+    return sum(chosen(first_place(decision)) for decision in decisions)

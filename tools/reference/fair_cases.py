@@ -134,6 +134,46 @@ def check_equilibrium(checks):
     checks.same("a threshold three draws off moves it", 0 < moved <= wrong.rounding / DRAWS, True)
 
 
+def at_place(weights, place):
+    """The weights of what stands at a place."""
+    made = Counter()
+    for state, weight in weights.items():
+        made[state[place]] += weight
+    return made
+
+
+def check_places(checks):
+    """What stands at a place is moved by the decisions about it alone; so a wrong threshold moves the place of the update."""
+    source = rng.Random(17)
+    for rule in ("heat", "metropolis"):
+        case = Case(rule, 1, source.random())
+        decided = [Update(1, 0, source.randrange(8)), Update(0, 0, source.randrange(8)), Update(1, 1, source.randrange(8))]
+        moved, still = case.after(case.weights, decided), scaled(case.weights, DRAWS ** 3)
+        for place, own in enumerate((1, 2)):
+            count = fair.count_about(lambda p: p == place, decided)
+            checks.same(f"{rule}: decisions about place {place}", count, own)
+            checks.same(f"{rule}: place {place} by its own", distance(at_place(moved, place), at_place(still, place))
+                        <= count * case.rounding / DRAWS, True)
+    wrong = Case("metropolis", 1, 7, off=3)
+    moved = [wrong.after(wrong.weights, [Update(1, 0, i)]) for i in range(8)]
+    far = [max(distance(at_place(it, place), at_place(scaled(wrong.weights, DRAWS), place)) for it in moved) for place in range(2)]
+    checks.same("the other place stays, this one moves", (far[0], far[1] > 0), (0, True))
+
+
+def check_counts(checks):
+    """The decisions of a run about a set of places, of one slot and of two."""
+    for slots, epochs in product((1, 2), range(4)):
+        plan = Case("heat", slots, 4).plan
+        decided, updates = listed.measured_decisions(plan, 1, epochs), plan.sweeps * volume(SIZE)
+        for replica in range(2):
+            about = fair.count_about(lambda p: listed.replica_of(plan, p) == replica, decided)
+            exchanged = sum(isinstance(it, Exchange) and listed.replica_of(plan, it.place) == replica for it in decided)
+            checks.same(f"{slots} slots, {epochs} epochs: a replica", about, slots * (epochs + 1) * updates + exchanged)
+            checks.same("at most an exchange of a place in an epoch", exchanged <= (slots - 1) * epochs, True)
+        within = {fair.last_place(it) - fair.first_place(it) for it in decided}
+        checks.same("exchanges are of a place and the next", within, {0, 1} if slots == 2 and epochs > 1 else within & {0, 1})
+
+
 def check_means(checks):
     """The definitions of the means give what the weights of all states do."""
     case = Case("metropolis", 1, 3)
@@ -204,7 +244,7 @@ def main(words):
     listed.unsatisfied = lru_cache(maxsize=None)(listed.unsatisfied)
     fair.unsatisfied = lru_cache(maxsize=None)(fair.unsatisfied)
     checks = Checks("fair_cases")
-    for check in (check_equilibrium, check_means, check_push_forward, check_forgetting, check_caught, check_exact):
+    for check in (check_equilibrium, check_places, check_counts, check_means, check_push_forward, check_forgetting, check_caught, check_exact):
         check(checks)
     return checks.end()
 

@@ -81,10 +81,10 @@ exchanges-fairly r q a b plan bit p lawful belong paired next =
           (passing-counts (test x y) (2 ^ 32)) (passing-counts (test y x) (2 ^ 32)) near);
     }
 
-abbrev fair_for : ℕ → ℕ → (ℕ → ℕ) → (ℕ → ℕ) → Plan → ℕ → Decision → Type 0
+abbrev pub fair_for : ℕ → ℕ → (ℕ → ℕ) → (ℕ → ℕ) → Plan → ℕ → Decision → Type 0
 fair_for r q a b plan bit d = IsNearlyFair (over_states plan) (2 ^ 32) r q (boltzmann a b plan bit) (decide plan bit) d
 
-decision-fair : (r q : ℕ) (a b : ℕ → ℕ) (plan : Plan) (bit : ℕ) → IsLawfulSize plan.size → BelongTo r q a b plan → (d : Decision) → IsDecisionOf plan d → fair_for r q a b plan bit d
+pub decision-fair : (r q : ℕ) (a b : ℕ → ℕ) (plan : Plan) (bit : ℕ) → IsLawfulSize plan.size → BelongTo r q a b plan → (d : Decision) → IsDecisionOf plan d → fair_for r q a b plan bit d
 unfolding IsDecisionOf weights_of
 decision-fair r q a b plan bit lawful belong (Update p j i) of =
     update-fair plan bit (2 ^ 32) r q p j i (weights_of a b plan bit) (λ s u. turns (dynamics_of plan bit (slot_of plan p)) s i u) of.0 of.1 (updates-fairly r q a b plan bit p i lawful belong of.0 of.1)

@@ -1,9 +1,11 @@
 -- Values that were worked out with pencil and paper, so that a wrong definition of the words does not check.
-use Rattle.std.proofs.Common.{◌≡◌, ◌+◌, ◌*◌, ◌^◌, true, false, not, [], ◌∷◌, refl}
+use Rattle.std.proofs.Common.{◌≡◌, ◌+◌, ◌*◌, ◌^◌, ◌==◌, true, false, not, [], ◌∷◌, refl}
 use Rattle.std.specs.Prelude.{map, take, count_by}
 use Rattle.spin_model.specs.Steps.{table}
 use Rattle.finite_chance.specs.Sums.{sum_lists}
 use Rattle.fair_runs.specs.Equilibrium.{over_configurations, product_to, state_weight}
+use Rattle.run_decisions.specs.Decisions.{Update, Exchange}
+use Rattle.fair_runs.specs.Places.{first_place, last_place, count_about}
 use Rattle.fair_runs.specs.Trapped.{layer, layered, layered_opposite}
 
 -- 2 * 3 * 4
@@ -28,3 +30,12 @@ pub layers : (map (layer 4) (0 ∷ 3 ∷ 21 ∷ 63 ∷ []) ≡ 0 ∷ 3 ∷ 3 ∷
     × (map not (layered 4) ≡ layered_opposite 4)
 unfolding table
 layers = (refl, refl, refl)
+
+-- two updates of place 1, one of place 0, and an exchange of places 1 and 2
+pub decisions_about_one : count_about (λ p. p == 1) (Update 1 0 3 ∷ Update 0 0 3 ∷ Exchange 1 0 ∷ Update 1 1 5 ∷ []) ≡ 3
+unfolding first_place
+decisions_about_one = refl
+
+pub exchange_reaches_next : last_place (Exchange 1 0) ≡ 2
+unfolding last_place
+exchange_reaches_next = refl
