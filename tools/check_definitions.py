@@ -35,6 +35,7 @@ PATHS = {
     "measured_sums/specs/PlaneCorrelations": "planes", "measured_sums/specs/EpochBins": "measured",
     "measured_sums/specs/MeasuredSums": "measured", "measured_sums/specs/SumsText": "measured",
     "potts_laws/specs/Changes": "potts", "potts_laws/specs/Weights": "potts",
+    "potts_laws/specs/Equilibrium": "potts",
 }
 # Definitions that the independent program writes otherwise, or that no run asks for.
 OTHERWISE = {

@@ -1,7 +1,8 @@
-"""One update of the Potts glass, and its weights: potts_laws/specs/Changes.antt and Weights.antt, over
-potts_glass/specs/Potts.antt. The number of equally likely draws is a parameter, 2^32 in the definitions."""
+"""Updates of the Potts glass, its weights and its equilibrium: potts_laws/specs/Changes.antt, Weights.antt and
+Equilibrium.antt, over potts_glass/specs/Potts.antt. The number of equally likely draws is a parameter, 2^32 in the definitions."""
 from collections import namedtuple
 
+from reference.chance import outcomes, sum_lists
 from reference.lattice import backward, bond, bond_count, forward
 from reference.words import count_below
 
@@ -57,3 +58,33 @@ def weight(a, b, l, bonds, colours):
 
 def weight_of(a, b, d, colours):
     return weight(a, b, d.size, d.bonds, colours)
+
+
+def over_colour(f):
+    return sum(f(c) for c in range(STATES))
+
+
+def over_configurations(v, f):
+    return sum_lists(over_colour, v, f)
+
+
+def update_by(d, i, w, colours, number):
+    return updated_by(d, colours, i, w // number, w % number, number)
+
+
+# The sums over all configurations take one of `over`, which sums over some sites and leaves the others as they are: those that
+# are never updated may be left.
+
+
+def partition(a, b, d, over):
+    return over(lambda x: weight_of(a, b, d, x))
+
+
+def total(a, b, d, over, g):
+    return over(lambda x: weight_of(a, b, d, x) * g(x))
+
+
+def total_after(a, b, d, over, sites, g, number):
+    def act(i, w, x):
+        return update_by(d, i, w, x, number)
+    return total(a, b, d, over, lambda x: outcomes(act, number ** 2, sites, g, x))

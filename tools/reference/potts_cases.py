@@ -16,7 +16,6 @@ from reference import potts  # noqa: E402
 from reference.lattice import bond_count, volume  # noqa: E402
 
 SIZE, DRAWS = 4, 64
-THIRD = -(-DRAWS // 3)
 
 
 def interval(step, number):
@@ -24,11 +23,15 @@ def interval(step, number):
     return -(-(step + 1) * number // 3) - -(-step * number // 3)
 
 
-def case(seed, ratio):
+def third(number):
+    return -(-number // 3)
+
+
+def case(seed, ratio, number=DRAWS):
     """A sample with random couplings, and random colours; thresholds at exp(-beta) = ratio, and their greatest rounding."""
     source = rng.Random(seed)
     negative = [source.random() < 0.5 for _ in range(bond_count(SIZE))]
-    exact = [DRAWS * ratio ** g for g in range(1, 7)]
+    exact = [number * ratio ** g for g in range(1, 7)]
     rows = [int(it + Fraction(1, 2)) for it in exact]
     colours = tuple(source.randrange(4) for _ in range(volume(SIZE)))
     return potts.Dynamics(SIZE, rows, negative.__getitem__), colours, max(abs(x - y) for x, y in zip(rows, exact))
@@ -72,10 +75,40 @@ def check_balance(checks):
         d, colours, rounding = case(seed, ratio)
         sites = rng.Random(seed).sample(range(volume(SIZE)), 6)
         found = greatest(d, ratio, colours, sites)
-        checks.same(f"balance at {ratio}", (0 < found, found <= DRAWS + THIRD * rounding), (True, True))
+        checks.same(f"balance at {ratio}", (0 < found, found <= DRAWS + third(DRAWS) * rounding), (True, True))
     d, colours, _ = case(0, Fraction(1, 2))
     later = d._replace(thresholds=d.thresholds[1:] + [0])
     checks.same("balance by the next threshold", greatest(later, Fraction(1, 2), colours, range(6)) <= DRAWS, False)
+
+
+def moved(d, ratio, colours, sites, updates, number):
+    """How far updates move the chance that sites have one colour, which starts in equilibrium over the colours of the sites."""
+    a, b = ratio.numerator, ratio.denominator
+
+    def over(f):
+        def joined(some):
+            placed = dict(zip(sites, some))
+            return f(tuple(placed.get(i, c) for i, c in enumerate(colours)))
+        return potts.over_configurations(len(sites), joined)
+
+    def equal(x):
+        return int(len({x[i] for i in sites}) == 1)
+    before = Fraction(potts.total(a, b, d, over, equal), potts.partition(a, b, d, over))
+    after = Fraction(potts.total_after(a, b, d, over, updates, equal, number), potts.partition(a, b, d, over))
+    return abs(after / number ** (2 * len(updates)) - before)
+
+
+def check_updates(checks):
+    """Each update moves a chance by at most three times a draw and a third of the rounding; always made, by more."""
+    ratio, sites = Fraction(1, 2), (21, 22)
+    for number, updates in ((32, (21,)), (8, (22, 21))):
+        d, colours, rounding = case(1, ratio, number)
+        bound = len(updates) * 3 * (number + third(number) * rounding) / number ** 2
+        found = moved(d, ratio, colours, sites, updates, number)
+        checks.same(f"{len(updates)} updates by {number} draws", (0 < found, found <= bound), (True, True))
+    d, colours, _ = case(1, ratio, 32)
+    always = d._replace(thresholds=[32] * 6)
+    checks.same("updates always made", moved(always, ratio, colours, sites, (21,), 32) <= Fraction(3 * 32, 32 ** 2), False)
 
 
 def main(words):
@@ -83,7 +116,7 @@ def main(words):
         print("potts_cases: --self-test is the one word; the head of the file says more", file=sys.stderr)
         return 2
     checks = Checks("potts_cases")
-    for check in (check_proposals, check_gap, check_balance):
+    for check in (check_proposals, check_gap, check_balance, check_updates):
         check(checks)
     return checks.end()
 

@@ -59,14 +59,14 @@ weights-ratio a b l bonds s t m gap =
 
 -- ---- what an update does
 
-update-writes : (d : Dynamics) (colours : List ℕ) (i u v : ℕ)
+pub update-writes : (d : Dynamics) (colours : List ℕ) (i u v : ℕ)
     → updated_by d colours i u v ≡ set colours i (new_colour d.thresholds (step_of u) v (around d.size d.bonds colours i) (get_or colours i 0))
 unfolding visit
 update-writes d colours i u v =
     ap (λ b. if b then set colours i (new_colour d.thresholds (step_of u) v (around d.size d.bonds colours i) (get_or colours i 0)) else colours)
     (eq-eqb (class d.size i) (class d.size i) refl)
 
-update-colour : (d : Dynamics) (colours : List ℕ) (i u v : ℕ) → i < length colours
+pub update-colour : (d : Dynamics) (colours : List ℕ) (i u v : ℕ) → i < length colours
     → get_or (updated_by d colours i u v) i 0 ≡ new_colour d.thresholds (step_of u) v (around d.size d.bonds colours i) (get_or colours i 0)
 update-colour d colours i u v within = ap (λ xs. get_or xs i 0) (update-writes d colours i u v) ∙ get_or-set_same colours i _ 0 within
 
@@ -192,7 +192,7 @@ dear-change all r s a b thresholds lost won p back q w v dear six fit few many s
 
 -- ---- detailed balance
 
-wider : (e w m x y : ℕ) → w ≤ m → AreNear (e * w) x y → AreNear (e * m) x y
+pub wider : (e w m x y : ℕ) → w ≤ m → AreNear (e * w) x y → AreNear (e * m) x y
 wider e w m x y less n =
     let h = mul-le-mul_left e less in
     let p = n.above in

@@ -1,10 +1,12 @@
 -- Values of the words worked by hand, computed from the definitions alone.
-use Rattle.std.proofs.Common.{◌≡◌, ℕ, ◌*◌, ◌^◌, Bool, true, false, List, [], ◌∷◌, refl, arith}
+use Rattle.std.proofs.Common.{◌≡◌, ℕ, ◌+◌, ◌*◌, ◌^◌, Bool, true, false, List, get_or, [], ◌∷◌, refl, arith}
 use Rattle.spin_model.specs.Lattice.{forward, backward}
 use Rattle.spin_model.specs.Steps.{count_below}
 use Rattle.potts_glass.specs.Potts.{Dynamics, visit}
 use Rattle.potts_laws.specs.Changes.{changed, updated_by}
 use Rattle.potts_laws.specs.Weights.{height, weight, IsThreshold}
+use Rattle.potts_laws.specs.Equilibrium.{over_configurations, update_by}
+use Rattle.finite_chance.specs.Sums.{sum_lists}
 
 -- eight sites of colour 0, and the same with colour 1 at the first
 abbrev even_colours : List ℕ
@@ -51,3 +53,17 @@ kept = refl
 -- at exp(-beta) = 1 / 2 the gap 1 has an exact threshold
 exact : IsThreshold 0 1 1 2 (2147483648 ∷ []) 1
 exact = record { limited = omega arith; near = record { above = omega arith; below = omega arith } }
+
+-- the pair of draws of `made` as one number
+made-by_number : update_by (dynamics false) 0 (4294967295 * 2 ^ 32 + 99) even_colours ≡ 3 ∷ 0 ∷ 0 ∷ 0 ∷ 0 ∷ 0 ∷ 0 ∷ 0 ∷ []
+unfolding count_below forward backward visit
+made-by_number = refl
+
+-- two sites have 16 configurations; the first one's colours are 4 (0 + 1 + 2 + 3) together
+sixteen : over_configurations 2 (λ x. 1) ≡ 16
+unfolding sum_lists
+sixteen = refl
+
+first-colours : over_configurations 2 (λ x. get_or x 0 0) ≡ 24
+unfolding sum_lists
+first-colours = refl

@@ -2,4 +2,6 @@ pub mod Counts
 pub mod Proposals
 pub mod Bonds
 pub mod Balancing
+pub mod Draws
+pub mod Updates
 pub mod KnownValues

@@ -1,11 +1,12 @@
 -- What makes the definitions the physics: the laws.
-use Rattle.std.specs.Prelude.{◌≡◌, ℕ, ◌+◌, ◌*◌, ◌^◌, ◌<◌, ◌==◌, if◌then◌else◌, max, pos, ◌+ℤ◌, List, length, slice_index}
+use Rattle.std.specs.Prelude.{◌≡◌, ℕ, ◌+◌, ◌*◌, ◌^◌, ◌<◌, ◌≤◌, ◌==◌, if◌then◌else◌, max, pos, ◌+ℤ◌, List, length, slice_index, All}
 use Rattle.finite_chance.specs.Chains.{AreNear}
 use Rattle.spin_model.specs.Couplings.{Bonds}
 use Rattle.spin_model.specs.Lattice.{IsLawfulSize, volume}
 use Rattle.potts_glass.specs.Potts.{Dynamics, proposed, votes, around, energy}
 use Rattle.potts_laws.specs.Changes.{changed, updated_by, proposing_draws, leading_draws}
 use Rattle.potts_laws.specs.Weights.{weight, weight_of, AreThresholds}
+use Rattle.potts_laws.specs.Equilibrium.{partition, total, total_after}
 
 -- an update writes a colour at its site and does nothing else
 abbrev pub UpdatesKeepTheRest : Type 0
@@ -44,3 +45,15 @@ UpdatesBalance = (r s a b : ℕ) (d : Dynamics) (colours : List ℕ) (i step : �
     → AreThresholds r s a b d.thresholds
     → Balances ((2 ^ 32 * s + 1431655766 * r) * max (weight_of a b d colours) (weight_of a b d (changed colours i (proposed (slice_index colours i) step))))
     s a b d colours i (proposed (slice_index colours i) step)
+
+-- ---- equilibrium
+
+-- any list of k updates, each by a pair of draws of its own, leaves the mean of an observable from 0 to m within
+-- k m (3 + (1 + 2 / 2 ^ 32) r / s) parts of 2 ^ 32 of its mean in equilibrium. Both means are times s, the partition sum and
+-- 2 ^ 64 for each update and once more
+abbrev pub UpdatesStayNearEquilibrium : Type 0
+UpdatesStayNearEquilibrium = (r s a b : ℕ) (d : Dynamics) (sites : List ℕ) (g : List ℕ → ℕ) (m : ℕ)
+    → IsLawfulSize d.size → AreThresholds r s a b d.thresholds → All (λ i. i < volume d.size) sites → ((x : List ℕ) → g x ≤ m)
+    → AreNear (length sites * (3 * (2 ^ 32 * s + 1431655766 * r)) * (2 ^ 64) ^ length sites * m * partition a b d)
+    (s * (2 ^ 64 * total_after a b d sites g))
+    (s * (2 ^ 64 * ((2 ^ 64) ^ length sites * total a b d g)))

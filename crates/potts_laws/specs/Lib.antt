@@ -1,3 +1,4 @@
 pub mod Changes
 pub mod Weights
+pub mod Equilibrium
 pub mod Laws

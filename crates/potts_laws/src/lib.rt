@@ -2,7 +2,7 @@
 //! is the contract of a function with an empty body.
 #![tactic(auto)]
 
-ghost use Rattle.potts_laws.specs.Laws.{UpdatesKeepTheRest, ProposalsAreCounted, GapIsEnergyChange, WeightsAreBoltzmann, UpdatesBalance};
+ghost use Rattle.potts_laws.specs.Laws.{UpdatesKeepTheRest, ProposalsAreCounted, GapIsEnergyChange, WeightsAreBoltzmann, UpdatesBalance, UpdatesStayNearEquilibrium};
 
 /// The update of a site writes its colour and nothing else.
 pub fn updates_keep_the_rest()
@@ -29,4 +29,10 @@ pub fn weights_are_boltzmann()
 /// and the rounding of the threshold.
 pub fn updates_balance()
     ensures { UpdatesBalance }
+{}
+
+/// Any updates of sites, by independent draws, leave the mean of every observable near its mean in
+/// equilibrium.
+pub fn updates_stay_near_equilibrium()
+    ensures { UpdatesStayNearEquilibrium }
 {}
