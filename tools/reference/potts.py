@@ -72,6 +72,10 @@ def update_by(d, i, w, colours, number):
     return updated_by(d, colours, i, w // number, w % number, number)
 
 
+def pair_of(draw_at, i, number):
+    return draw_at(i, 0) * number + draw_at(i, 1)
+
+
 # The sums over all configurations take one of `over`, which sums over some sites and leaves the others as they are: those that
 # are never updated may be left.
 

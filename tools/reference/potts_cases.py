@@ -111,12 +111,21 @@ def check_updates(checks):
     checks.same("updates always made", moved(always, ratio, colours, sites, (21,), 32) <= Fraction(3 * 32, 32 ** 2), False)
 
 
+def check_pairs(checks):
+    """An update by a pair as one number is that by the two draws."""
+    d, colours, _ = case(2, Fraction(2, 3))
+    for u in range(0, DRAWS, 5):
+        for v in range(0, DRAWS, 7):
+            pair = potts.pair_of(lambda i, m: (u, v)[m], 9, DRAWS)
+            checks.same(f"pair {u} {v}", potts.update_by(d, 9, pair, colours, DRAWS), potts.updated_by(d, colours, 9, u, v, DRAWS))
+
+
 def main(words):
     if words != ["--self-test"]:
         print("potts_cases: --self-test is the one word; the head of the file says more", file=sys.stderr)
         return 2
     checks = Checks("potts_cases")
-    for check in (check_proposals, check_gap, check_balance, check_updates):
+    for check in (check_proposals, check_gap, check_balance, check_updates, check_pairs):
         check(checks)
     return checks.end()
 

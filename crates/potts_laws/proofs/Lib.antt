@@ -4,4 +4,5 @@ pub mod Bonds
 pub mod Balancing
 pub mod Draws
 pub mod Updates
+pub mod HalfSweeps
 pub mod KnownValues

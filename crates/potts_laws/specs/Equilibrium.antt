@@ -20,6 +20,10 @@ over_configurations v f = sum_lists over_colour v f
 abbrev pub update_by : Dynamics → ℕ → ℕ → List ℕ → List ℕ
 update_by d i w colours = updated_by d colours i (w / 2 ^ 32) (w % 2 ^ 32)
 
+-- the pair of draws of a site as one number
+abbrev pub pair_of : (ℕ → ℕ → ℕ) → ℕ → ℕ
+pair_of draw_at i = draw_at i 0 * 2 ^ 32 + draw_at i 1
+
 -- the sum of all weights
 abbrev pub partition : ℕ → ℕ → Dynamics → ℕ
 partition a b d = over_configurations (volume d.size) (weight_of a b d)

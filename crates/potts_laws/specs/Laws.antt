@@ -1,12 +1,13 @@
 -- What makes the definitions the physics: the laws.
-use Rattle.std.specs.Prelude.{◌≡◌, ℕ, ◌+◌, ◌*◌, ◌^◌, ◌<◌, ◌≤◌, ◌==◌, if◌then◌else◌, max, pos, ◌+ℤ◌, List, length, slice_index, All}
-use Rattle.finite_chance.specs.Chains.{AreNear}
+use Rattle.std.specs.Prelude.{◌≡◌, ℕ, ◌+◌, ◌*◌, ◌^◌, ◌<◌, ◌≤◌, ◌==◌, if◌then◌else◌, max, pos, ◌+ℤ◌, List, length, slice_index, All, map}
+use Rattle.finite_chance.specs.Chains.{AreNear, after}
 use Rattle.spin_model.specs.Couplings.{Bonds}
 use Rattle.spin_model.specs.Lattice.{IsLawfulSize, volume}
-use Rattle.potts_glass.specs.Potts.{Dynamics, proposed, votes, around, energy}
+use Rattle.run_decisions.specs.Decisions.{sites_of}
+use Rattle.potts_glass.specs.Potts.{Dynamics, State, proposed, votes, around, site_draw, half_sweep, energy}
 use Rattle.potts_laws.specs.Changes.{changed, updated_by, proposing_draws, leading_draws}
 use Rattle.potts_laws.specs.Weights.{weight, weight_of, AreThresholds}
-use Rattle.potts_laws.specs.Equilibrium.{partition, total, total_after}
+use Rattle.potts_laws.specs.Equilibrium.{update_by, pair_of, partition, total, total_after}
 
 -- an update writes a colour at its site and does nothing else
 abbrev pub UpdatesKeepTheRest : Type 0
@@ -57,3 +58,8 @@ UpdatesStayNearEquilibrium = (r s a b : ℕ) (d : Dynamics) (sites : List ℕ) (
     → AreNear (length sites * (3 * (2 ^ 32 * s + 1431655766 * r)) * (2 ^ 64) ^ length sites * m * partition a b d)
     (s * (2 ^ 64 * total_after a b d sites g))
     (s * (2 ^ 64 * ((2 ^ 64) ^ length sites * total a b d g)))
+
+-- a half sweep is such a list: the sites of its class in rising order, each by its two draws of 32 bits. A sweep is two
+abbrev pub HalfSweepsAreUpdates : Type 0
+HalfSweepsAreUpdates = (d : Dynamics) (c : ℕ) (s : State) → ((i : ℕ) → i < volume d.size → site_draw d.size s.words i 1 < 2 ^ 32)
+    → (half_sweep d c s).colours ≡ after (update_by d) (sites_of d.size c) (map (pair_of (site_draw d.size s.words)) (sites_of d.size c)) s.colours

@@ -2,7 +2,7 @@
 //! is the contract of a function with an empty body.
 #![tactic(auto)]
 
-ghost use Rattle.potts_laws.specs.Laws.{UpdatesKeepTheRest, ProposalsAreCounted, GapIsEnergyChange, WeightsAreBoltzmann, UpdatesBalance, UpdatesStayNearEquilibrium};
+ghost use Rattle.potts_laws.specs.Laws.{UpdatesKeepTheRest, ProposalsAreCounted, GapIsEnergyChange, WeightsAreBoltzmann, UpdatesBalance, UpdatesStayNearEquilibrium, HalfSweepsAreUpdates};
 
 /// The update of a site writes its colour and nothing else.
 pub fn updates_keep_the_rest()
@@ -35,4 +35,9 @@ pub fn updates_balance()
 /// equilibrium.
 pub fn updates_stay_near_equilibrium()
     ensures { UpdatesStayNearEquilibrium }
+{}
+
+/// A half sweep is the updates of the sites of its class, in rising order.
+pub fn half_sweeps_are_updates()
+    ensures { HalfSweepsAreUpdates }
 {}
