@@ -3,6 +3,7 @@ Equilibrium.antt, over potts_glass/specs/Potts.antt. The number of equally likel
 from collections import namedtuple
 
 from reference.chance import outcomes, sum_lists
+from reference.decisions import sites_of
 from reference.lattice import backward, bond, bond_count, forward
 from reference.words import count_below
 
@@ -92,3 +93,7 @@ def total_after(a, b, d, over, sites, g, number):
     def act(i, w, x):
         return update_by(d, i, w, x, number)
     return total(a, b, d, over, lambda x: outcomes(act, number ** 2, sites, g, x))
+
+
+def sweeps_sites(l, n):
+    return (sites_of(l, 0) + sites_of(l, 1)) * n

@@ -120,12 +120,24 @@ def check_pairs(checks):
             checks.same(f"pair {u} {v}", potts.update_by(d, 9, pair, colours, DRAWS), potts.updated_by(d, colours, 9, u, v, DRAWS))
 
 
+def check_sites(checks):
+    """A sweep updates each site once, and no two neighbours in one half of it."""
+    sites = potts.sweeps_sites(SIZE, 2)
+    half = volume(SIZE) // 2
+    for first in (0, 2 * half):
+        checks.same(f"sites from {first}", sorted(sites[first:first + 2 * half]), list(range(volume(SIZE))))
+    for first in range(0, len(sites), half):
+        part = sites[first:first + half]
+        near = {s for i in part for s, _ in potts.signs(SIZE, lambda n: False, i)}
+        checks.same(f"neighbours from {first}", near & set(part), set())
+
+
 def main(words):
     if words != ["--self-test"]:
         print("potts_cases: --self-test is the one word; the head of the file says more", file=sys.stderr)
         return 2
     checks = Checks("potts_cases")
-    for check in (check_proposals, check_gap, check_balance, check_updates, check_pairs):
+    for check in (check_proposals, check_gap, check_balance, check_updates, check_pairs, check_sites):
         check(checks)
     return checks.end()
 

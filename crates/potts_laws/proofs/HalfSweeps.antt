@@ -14,7 +14,7 @@ use Rattle.potts_glass.specs.Potts.{Dynamics, State, step_of, new_colour, around
 use Rattle.potts_laws.specs.Equilibrium.{update_by, pair_of}
 use Rattle.potts_laws.proofs.Balancing.{update-writes}
 
-sites-next : (l c n : ℕ) → below-sites l c (suc n) ≡ below-sites l c n ++ cond (class l n == c) (n ∷ []) []
+pub sites-next : (l c n : ℕ) → below-sites l c (suc n) ≡ below-sites l c n ++ cond (class l n == c) (n ∷ []) []
 unfolding below-sites
 sites-next l c n =
     ap (λ m. filter (λ i. class l i == c) (table (λ i. i) m)) (sym (add-one n))

@@ -1,11 +1,11 @@
 -- Values of the words worked by hand, computed from the definitions alone.
 use Rattle.std.proofs.Common.{◌≡◌, ℕ, ◌+◌, ◌*◌, ◌^◌, Bool, true, false, List, get_or, [], ◌∷◌, refl, arith}
 use Rattle.spin_model.specs.Lattice.{forward, backward}
-use Rattle.spin_model.specs.Steps.{count_below}
+use Rattle.spin_model.specs.Steps.{count_below, table}
 use Rattle.potts_glass.specs.Potts.{Dynamics, visit}
 use Rattle.potts_laws.specs.Changes.{changed, updated_by}
 use Rattle.potts_laws.specs.Weights.{height, weight, IsThreshold}
-use Rattle.potts_laws.specs.Equilibrium.{over_configurations, update_by}
+use Rattle.potts_laws.specs.Equilibrium.{over_configurations, update_by, sweeps_sites}
 use Rattle.finite_chance.specs.Sums.{sum_lists}
 
 -- eight sites of colour 0, and the same with colour 1 at the first
@@ -67,3 +67,8 @@ sixteen = refl
 first-colours : over_configurations 2 (λ x. get_or x 0 0) ≡ 24
 unfolding sum_lists
 first-colours = refl
+
+-- the sites of even x + y + z, and then the others
+one-sweep : sweeps_sites 2 1 ≡ 0 ∷ 3 ∷ 5 ∷ 6 ∷ 1 ∷ 2 ∷ 4 ∷ 7 ∷ []
+unfolding sweeps_sites table
+one-sweep = refl

@@ -5,4 +5,5 @@ pub mod Balancing
 pub mod Draws
 pub mod Updates
 pub mod HalfSweeps
+pub mod Sweeps
 pub mod KnownValues

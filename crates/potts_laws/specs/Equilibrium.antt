@@ -1,9 +1,10 @@
 -- Equilibrium of one sample: sums over all configurations of four colours, and the means of an observable before and after updates
 -- by independent, equally likely draws.
-use Rattle.std.specs.Prelude.{ℕ, ◌+◌, ◌*◌, ◌/◌, ◌%◌, ◌^◌, List}
+use Rattle.std.specs.Prelude.{ℕ, zero, suc, ◌+◌, ◌*◌, ◌/◌, ◌%◌, ◌^◌, List, [], ◌++◌}
 use Rattle.finite_chance.specs.Sums.{sum_lists}
 use Rattle.finite_chance.specs.Chains.{outcomes}
 use Rattle.spin_model.specs.Lattice.{volume}
+use Rattle.run_decisions.specs.Decisions.{sites_of}
 use Rattle.potts_glass.specs.Potts.{Dynamics}
 use Rattle.potts_laws.specs.Changes.{updated_by}
 use Rattle.potts_laws.specs.Weights.{weight_of}
@@ -36,3 +37,8 @@ total a b d g = over_configurations (volume d.size) (λ x. weight_of a b d x * g
 -- the partition sum and (2 ^ 64) ^ the number of updates
 abbrev pub total_after : ℕ → ℕ → Dynamics → List ℕ → (List ℕ → ℕ) → ℕ
 total_after a b d sites g = over_configurations (volume d.size) (λ x. weight_of a b d x * outcomes (update_by d) (2 ^ 64) sites g x)
+
+-- the sites of n sweeps in the order of their updates: those of class 0 in rising order, then those of class 1, n times
+unfoldable pub sweeps_sites : ℕ → ℕ → List ℕ
+sweeps_sites l zero = []
+sweeps_sites l (suc n) = (sites_of l 0 ++ sites_of l 1) ++ sweeps_sites l n

@@ -7,7 +7,7 @@ use Rattle.run_decisions.specs.Decisions.{sites_of}
 use Rattle.potts_glass.specs.Potts.{Dynamics, State, proposed, votes, around, site_draw, half_sweep, energy}
 use Rattle.potts_laws.specs.Changes.{changed, updated_by, proposing_draws, leading_draws}
 use Rattle.potts_laws.specs.Weights.{weight, weight_of, AreThresholds}
-use Rattle.potts_laws.specs.Equilibrium.{update_by, pair_of, partition, total, total_after}
+use Rattle.potts_laws.specs.Equilibrium.{update_by, pair_of, partition, total, total_after, sweeps_sites}
 
 -- an update writes a colour at its site and does nothing else
 abbrev pub UpdatesKeepTheRest : Type 0
@@ -63,3 +63,16 @@ UpdatesStayNearEquilibrium = (r s a b : ℕ) (d : Dynamics) (sites : List ℕ) (
 abbrev pub HalfSweepsAreUpdates : Type 0
 HalfSweepsAreUpdates = (d : Dynamics) (c : ℕ) (s : State) → ((i : ℕ) → i < volume d.size → site_draw d.size s.words i 1 < 2 ^ 32)
     → (half_sweep d c s).colours ≡ after (update_by d) (sites_of d.size c) (map (pair_of (site_draw d.size s.words)) (sites_of d.size c)) s.colours
+
+-- n sweeps of independent, equally likely draws are n L ^ 3 updates: the mean of an observable from 0 to m stays near its mean in
+-- equilibrium
+abbrev pub SweepsStayNearEquilibrium : Type 0
+SweepsStayNearEquilibrium = (r s a b : ℕ) (d : Dynamics) (n : ℕ) (g : List ℕ → ℕ) (m : ℕ)
+    → IsLawfulSize d.size → AreThresholds r s a b d.thresholds → ((x : List ℕ) → g x ≤ m)
+    → AreNear (n * volume d.size * (3 * (2 ^ 32 * s + 1431655766 * r)) * (2 ^ 64) ^ (n * volume d.size) * m * partition a b d)
+    (s * (2 ^ 64 * total_after a b d (sweeps_sites d.size n) g))
+    (s * (2 ^ 64 * ((2 ^ 64) ^ (n * volume d.size) * total a b d g)))
+
+-- the means are there, where a and b stand for a temperature above zero
+abbrev pub PartitionIsPositive : Type 0
+PartitionIsPositive = (a b : ℕ) (d : Dynamics) → 0 < a → 0 < b → 0 < partition a b d

@@ -2,7 +2,7 @@
 //! is the contract of a function with an empty body.
 #![tactic(auto)]
 
-ghost use Rattle.potts_laws.specs.Laws.{UpdatesKeepTheRest, ProposalsAreCounted, GapIsEnergyChange, WeightsAreBoltzmann, UpdatesBalance, UpdatesStayNearEquilibrium, HalfSweepsAreUpdates};
+ghost use Rattle.potts_laws.specs.Laws.{UpdatesKeepTheRest, ProposalsAreCounted, GapIsEnergyChange, WeightsAreBoltzmann, UpdatesBalance, UpdatesStayNearEquilibrium, HalfSweepsAreUpdates, SweepsStayNearEquilibrium, PartitionIsPositive};
 
 /// The update of a site writes its colour and nothing else.
 pub fn updates_keep_the_rest()
@@ -40,4 +40,14 @@ pub fn updates_stay_near_equilibrium()
 /// A half sweep is the updates of the sites of its class, in rising order.
 pub fn half_sweeps_are_updates()
     ensures { HalfSweepsAreUpdates }
+{}
+
+/// Sweeps by independent draws leave the mean of every observable near its mean in equilibrium.
+pub fn sweeps_stay_near_equilibrium()
+    ensures { SweepsStayNearEquilibrium }
+{}
+
+/// The sum of all weights is positive, so that the means are there.
+pub fn partition_is_positive()
+    ensures { PartitionIsPositive }
 {}
