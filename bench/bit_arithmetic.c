@@ -1,5 +1,5 @@
 /* count6 and add_count in C, to compare with the crate bit_compare: the same functions on the same
-   words, timed as crates/bench_bits times them. Prints for each the least nanoseconds of a pass and
+   words, timed as crates/bench_kernels times them. Prints for each the least nanoseconds of a pass and
    the exclusive or of all words that it left. */
 #include "common.h"
 

@@ -23,9 +23,9 @@ passes=1000
 limit=1.2
 . "$(dirname "$0")/common.sh"
 read_words "$@"
-build_sides bit_arithmetic bench_bits
+build_sides bit_arithmetic bench_kernels
 
 for _ in $(seq "$turns"); do
     "$build/bit_arithmetic_c" "$passes" | sed 's/^/C /'
-    "$build/bench_bits" "$passes" | sed 's/^/Rattle /'
+    "$build/bench_kernels" bits "$passes" | sed 's/^/Rattle /'
 done | compare ns

@@ -25,14 +25,14 @@ limit=1.5
 . "$(dirname "$0")/common.sh"
 read_words "$@"
 begin_build
-build_crate bench_checkpoint
-program="$build/bench_checkpoint"
-told=$("$program" 64 again) || { echo "the state that was read is not written as the same bytes"; exit 1; }
+build_crate bench_kernels
+program="$build/bench_kernels"
+told=$("$program" checkpoint 64 again) || { echo "the state that was read is not written as the same bytes"; exit 1; }
 bytes=$(awk '{ print $3 }' <<< "$told")
 
 # One run with a piece of work: its name, the seconds of processor time and the most kilobytes.
 run_work() {
-    /usr/bin/time -f "$1 %U %S %M" "$program" 64 "$1" 2>&1 > /dev/null || fail "a run failed: $1"
+    /usr/bin/time -f "$1 %U %S %M" "$program" checkpoint 64 "$1" 2>&1 > /dev/null || fail "a run failed: $1"
 }
 
 # Turns come first, so that a busy moment of the machine doesn't fall on all those of one piece of work.

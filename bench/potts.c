@@ -1,5 +1,5 @@
 /* The sweep of the four-state Potts glass in 64 samples in C, to compare with the crate potts_glass: the
-   same state and the same form, timed as crates/bench_potts times it. Prints the least nanoseconds of a
+   same state and the same form, timed as crates/bench_kernels times it. Prints the least nanoseconds of a
    pass, and the colours that all passes left in one number. */
 #include "common.h"
 #include "draws.h"

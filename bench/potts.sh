@@ -27,13 +27,13 @@ sizes="8 16 32 64"
 . "$(dirname "$0")/common.sh"
 read_words "$@"
 check_sizes
-build_sides potts bench_potts
+build_sides potts bench_kernels
 
 # One run of a side, in picoseconds.
 run_side() {
     local side=$1 program=$2 size=$3
     local sweeps=$((262144 / size ** 3))
-    "$program" "$size" "$sweeps" "$passes" \
+    $program "$size" "$sweeps" "$passes" \
         | awk -v name="$side $size" '{ print name, $1 * 1000 / (64 * 262144), $2 }'
 }
 
@@ -41,6 +41,6 @@ run_side() {
 for _ in $(seq "$turns"); do
     for size in $sizes; do
         run_side C "$build/potts_c" "$size"
-        run_side Rattle "$build/bench_potts" "$size"
+        run_side Rattle "$build/bench_kernels potts" "$size"
     done
 done | compare ps

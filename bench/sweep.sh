@@ -30,14 +30,14 @@ replicas=1
 . "$(dirname "$0")/common.sh"
 read_words "$@"
 check_sizes "8 12 16 20 24 28 32 36 40 44 48 52 56 60 64"
-build_sides sweep bench_sweep
+build_sides sweep bench_kernels
 
 # One run of a side, in picoseconds.
 run_side() {
     local side=$1 program=$2 size=$3 rule=$4
     local sweeps=$((262144 / size ** 3)) words=
     [ "$side $replicas" != "Rattle 2" ] || words=both
-    "$program" "$size" "$rule" "$sweeps" "$passes" $words \
+    $program "$size" "$rule" "$sweeps" "$passes" $words \
         | awk -v name="$side $size $rule" -v updates=$((64 * size ** 3 * sweeps)) \
             '{ print name, $1 * 1000 / updates, $2 }'
 }
@@ -47,7 +47,7 @@ for _ in $(seq "$turns"); do
     for size in $sizes; do
         for rule in metropolis heat; do
             run_side C "$build/sweep_c" "$size" "$rule"
-            run_side Rattle "$build/bench_sweep" "$size" "$rule"
+            run_side Rattle "$build/bench_kernels sweep" "$size" "$rule"
         done
     done
 done | compare ps

@@ -1,5 +1,5 @@
 /* The sweep of one replica in 64 samples in C, to compare with the crate plane_sweep: the same state and
-   the same form, timed as crates/bench_sweep times it. Prints the least nanoseconds of a pass, and the
+   the same form, timed as crates/bench_kernels times it. Prints the least nanoseconds of a pass, and the
    spins that all passes left in one number. */
 #include "common.h"
 #include "draws.h"

@@ -1,5 +1,5 @@
 /* The unsatisfied bonds and the agreeing sites of 64 samples in C, to compare with the crate bit_totals:
-   the same form on the same words, timed as crates/bench_totals times them. Prints for each the least
+   the same form on the same words, timed as crates/bench_kernels times them. Prints for each the least
    nanoseconds of a pass and the planes that it left in one number. */
 #include "common.h"
 #include "lanes.h"

@@ -29,12 +29,12 @@ for size in $sizes; do
     { [ "$(number --sizes "$size")" -ge 4 ] && [ "$size" -le 64 ] && [ $((size % 2)) -eq 0 ]; } \
         || fail "--sizes takes even numbers from 4 to 64, not '$size'"
 done
-build_sides totals bench_totals
+build_sides totals bench_kernels
 
 # Turns come first, so that a busy moment of the machine doesn't fall on all those of one size.
 for _ in $(seq "$turns"); do
     for size in $sizes; do
         "$build/totals_c" "$size" "$passes" | sed "s/^/C $size /"
-        "$build/bench_totals" "$size" "$passes" | sed "s/^/Rattle $size /"
+        "$build/bench_kernels" totals "$size" "$passes" | sed "s/^/Rattle $size /"
     done
 done | compare ns

@@ -1,6 +1,0 @@
--- As many planes as turns.
-use Rattle.std.proofs.Common.{◌≡◌, vec_len}
-use Rattle.bench_bits.proofs.inputs.zeros.Given as goal
-
-abbrev pub invariant-planes : goal.invariant-planes
-invariant-planes g l = vec_len l.planes ≡ l._i

@@ -1,5 +1,0 @@
-use Rattle.plane_sweep.specs.Packed.{FitsDuo}
-use Rattle.bench_sweep.proofs.timing.least_of_both.Given as goal
-
-abbrev pub invariant-passes : goal.invariant-passes
-invariant-passes g l = FitsDuo l.plan.size l.duo
