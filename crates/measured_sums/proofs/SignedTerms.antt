@@ -96,7 +96,7 @@ terms-around f l r within =
     split ∙ ap₂ (λ a b. a +ℤ b) early late ∙ +ℤ_comm (sum_of (λ j. f (r + j)) (l - r)) (sum_of f r) ∙ sym whole
 
 -- as many steps on as are left to the whole circle are so many steps back
-returned : (m l r : ℕ) → m < l → r ≤ l → ((m + r) % l + (l - r)) % l ≡ m
+pub returned : (m l r : ℕ) → m < l → r ≤ l → ((m + r) % l + (l - r)) % l ≡ m
 returned m l r below within =
     let swapped : (m + r) % l + (l - r) ≡ l - r + (m + r) % l = omega arith in
     ap (λ n. n % l) swapped ∙ add-mod-mod (l - r) (m + r) l ∙ past-wrap (l - r + (m + r)) m l (omega arith) below

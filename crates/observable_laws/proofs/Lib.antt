@@ -1,0 +1,2 @@
+mod Products
+mod Grid
