@@ -7,3 +7,4 @@ pub mod BankReports
 pub mod AcceptedParts
 pub mod CheckpointLengths
 pub mod NextRuns
+mod Packing

@@ -2,3 +2,4 @@ pub mod AmountLaws
 pub mod LengthLaws
 pub mod NextRuns
 pub mod LawfulRuns
+pub mod PackingLaws

@@ -4,6 +4,7 @@ ghost use Rattle.run_laws.specs.AmountLaws.{PartsAreAccepted};
 ghost use Rattle.run_laws.specs.LawfulRuns.{BanksReportsAreLawful, EndedReportsAreLawful, RunReportsAreLawful, StoppedReportsAreLawful};
 ghost use Rattle.run_laws.specs.LengthLaws.{SavedCheckpointsAreShort};
 ghost use Rattle.run_laws.specs.NextRuns.{LawfulRunsGoOn};
+ghost use Rattle.run_laws.specs.PackingLaws.{OrdersDontReachCheckpoints, PackingChangesNothing};
 ghost use Rattle.glass_main.specs.ResumeLaws.{AcceptedBanksAreEncodings, SavedBanksAreRead, SavedBanksGoOn, SavedRunsAreRead, SavedRunsGoOn};
 ghost use Rattle.glass_main.specs.SampleLaws.{SamplesBelow64AreOfOneBank};
 ghost use Rattle.glass_main.specs.SavedLaws.{EncodedStatesAreRead, ReadStatesAreEncoded};
@@ -114,4 +115,16 @@ pub fn encoded_states_are_read()
 /// opening states on, those of the run with 64 samples of the same run file and the same files.
 pub fn samples_below_64_are_of_one_bank()
     ensures { SamplesBelow64AreOfOneBank }
+{}
+
+/// Two runs that differ in their workers and pieces alone ask for the same; the text and the checkpoint of
+/// a run that goes to its last epoch are one text and one checkpoint.
+pub fn packing_changes_nothing()
+    ensures { PackingChangesNothing }
+{}
+
+/// The checkpoint of a run to its last epoch doesn't depend on the samples, the epochs and the spins that
+/// it prints.
+pub fn orders_dont_reach_checkpoints()
+    ensures { OrdersDontReachCheckpoints }
 {}
