@@ -49,7 +49,7 @@ module _ (id : TableId) (plan : Plan) (v : View Origin) (q : Seat) (own : IsSeat
 
   pub given : (next : NextPair) → TakesPairOrSlot v (seat_view q) next → IsPairGiven id plan next q
   given (pairs.Pair j) t = (free-after _ (λ l. (j.slot + 1, j.epoch) ∷ (j.slot, j.epoch) ∷ l) t.turn, base-after _ _ t.turn ∙ t.base)
-  given (pairs.Single next) t = given-slot next t
+  given (pairs.Single next) t = given-slot next t.0
 
 -- two partners in a seat's hands
 abbrev pub partners : ℕ → ℕ → List (ℕ × ℕ)

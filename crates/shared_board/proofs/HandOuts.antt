@@ -1,19 +1,21 @@
 -- A hand-out, and the other answers of a board that is asked for a slot.
-use Rattle.std.proofs.Common.{◌≡◌, ℕ, ◌+◌, ◌*◌, ◌<◌, ◌≤◌, List, ◌∷◌, length, get_or, set, sym, refl, ap, ◌∙◌, subst, arith, Some, length-set, get_or-set_same}
+use Rattle.std.proofs.Common.{◌≡◌, ℕ, ◌+◌, ◌*◌, ◌<◌, ◌≤◌, true, List, ◌∷◌, length, get_or, set, sym, refl, ap, ap₂, ◌∙◌, subst, arith, Some, length-set, get_or-set_same}
 use Rattle.exchange_board.specs.declared.origin.Origin.{Origin}
 use Rattle.exchange_board.specs.Machine.{IsPhased}
+use Rattle.scalar_rule.specs.Epoch.{has_partner, partner}
+use Rattle.scalar_rule.proofs.SlotPartners.{back}
 use Rattle.exchange_board.specs.Content.{taken_before}
-use Rattle.exchange_board.specs.Views.{BoardView, JobView, place_at, out_at, progress, words_of}
-use Rattle.exchange_board.specs.Answers.{Nexts, Takes}
+use Rattle.exchange_board.specs.Views.{Stage, BoardView, JobView, place_at, ready_at, out_at, progress, words_of}
+use Rattle.exchange_board.specs.Answers.{Nexts, Takes, IsSpent, GoesAlone}
 use Rattle.exchange_board.specs.declared.board.Next.{Next}
 use Rattle.exchange_board.specs.declared.board.Next.TheVariants as nexts
 use Rattle.turn_cell.specs.Progress.{ArePhased, AtMost}
 use Rattle.turn_cell.specs.AtomicSteps.{after_return, IsStored}
 use Rattle.turn_cell.proofs.Views.{at_most_itself, at_most_set}
-use Rattle.shared_board.specs.Words.{HasTakesLeft, MustWait, IsFinished, IsStopped}
-use Rattle.shared_board.specs.Turns.{IsLook, IsHandOut, TakesSlot}
+use Rattle.shared_board.specs.Words.{taken_at, HasTakesLeft, MustWait, IsFinished, IsStopped}
+use Rattle.shared_board.specs.Turns.{IsLook, IsHandOut, TakesSlot, GoesOutAlone, GoesNextOutAlone, found_slot}
 use Rattle.shared_board.specs.Shared.{knows, HasFound}
-use Rattle.shared_board.proofs.Words.{word-at, words-long, words-set, place-set, phased-words, phased-set, set-back, taken-words, ended-words, words-ended, none_ready-words, out_words}
+use Rattle.shared_board.proofs.Words.{word-at, words-long, words-set, place-set, place-other, phased-words, phased-set, set-back, taken-words, ended-words, words-ended, none_ready-words, out_words}
 use Rattle.shared_board.proofs.Stores.{SeatView, left, stored-out, one-turn}
 use Rattle.std.proofs.lemmas.Option.{same_Some}
 
@@ -129,3 +131,50 @@ quiet-same b c (nexts.Job j) not_job next = absurd (not_job j refl)
 quiet-same b c nexts.Nothing not_job next = next.0
 quiet-same b c nexts.Finished not_job next = next.0
 quiet-same b c nexts.Stopped not_job next = next.0
+
+-- ---- the words that were found, and a slot that goes out alone
+
+-- a stage of this progress number at rest
+rests-at : (p : Stage) (e : ℕ) → p.phase < 3 → progress p ≡ 4 * e → p ≡ ready_at e
+rests-at p e small is =
+    let make : ℕ → ℕ → Stage = λ a b. record { epoch = a; phase = b } in
+    let epoch : p.epoch ≡ e = omega arith in
+    let phase : p.phase ≡ 0 = omega arith in
+    ap₂ make epoch phase
+
+pub slot-found : (h w : SeatView) (b c : BoardView) (j : JobView) → h.known ≡ words_of b → Takes b c j → w.seen ≡ words_of c
+    → set w.seen j.slot (4 * j.epoch) ≡ h.known
+slot-found h w b c j known t seen =
+    ap (λ (l : List ℕ). set l j.slot (4 * j.epoch)) (seen ∙ words-after b c j t)
+    ∙ set-back (words_of b) j.slot (4 * j.epoch + 1) (4 * j.epoch) (word-before b c j t)
+    ∙ sym known
+
+pub goes-alone : (w : SeatView) (b c : BoardView) (j : JobView) → IsPhased b.places → Takes b c j → w.seen ≡ words_of c → GoesAlone c j → GoesOutAlone w j
+goes-alone w b c j small t seen lone has word =
+    let ps : List Stage = b.places in
+    let n = length c.places in
+    let u = partner j.slot j.epoch in
+    let places : c.places ≡ set ps j.slot (out_at j.epoch) = ap (λ (x : BoardView). x.places) t.after in
+    let long : length w.seen ≡ n = ap length seen ∙ words-long c.places in
+    let as_many : n ≡ length ps = ap length places ∙ length-set ps j.slot (out_at j.epoch) in
+    let has_here : has_partner n j.slot j.epoch ≡ true = subst (λ m. has_partner m j.slot j.epoch ≡ true) long has in
+    let there = back n j.slot j.epoch (let k = t.known in omega arith) has_here in
+    let other : place_at c.places u ≡ place_at ps u = ap (λ (l : List Stage). place_at l u) places ∙ place-other ps j.slot u (out_at j.epoch) there.other in
+    let number : progress (place_at c.places u) ≡ 4 * j.epoch = sym (word-at c.places u) ∙ ap (λ (l : List ℕ). get_or l u 0) (sym seen) ∙ word in
+    let phased : (place_at c.places u).phase < 3 = subst (λ (x : Stage). x.phase < 3) (sym other) (small u (let k = there.known in omega arith)) in
+    let spent : IsSpent c = lone has_here (rests-at (place_at c.places u) j.epoch phased number) in
+    let origin : c.origin ≡ j.origin = ap (λ (x : BoardView). x.origin) t.after ∙ sym t.origin in
+    ap taken_at seen ∙ taken-words c.places ∙ spent ∙ ap (λ (o : Origin). taken_before o + o.window.takes) origin
+
+-- the answers without a slot
+pub quiet-alone : (w : SeatView) (n : Next) → ((j : JobView) → n ≡ nexts.Job j → ⊥) → GoesNextOutAlone w n
+quiet-alone w (nexts.Job j) not_job = absurd (not_job j refl)
+quiet-alone w nexts.Nothing not_job = tt
+quiet-alone w nexts.Finished not_job = tt
+quiet-alone w nexts.Stopped not_job = tt
+
+pub quiet-found : (w : SeatView) (n : Next) (words : List ℕ) → ((j : JobView) → n ≡ nexts.Job j → ⊥) → w.seen ≡ words → found_slot w n ≡ words
+quiet-found w (nexts.Job j) words not_job seen = absurd (not_job j refl)
+quiet-found w nexts.Nothing words not_job seen = seen
+quiet-found w nexts.Finished words not_job seen = seen
+quiet-found w nexts.Stopped words not_job seen = seen

@@ -67,10 +67,34 @@ TakesSlot v w nexts.Nothing = IsLook v w MustWait
 TakesSlot v w nexts.Finished = IsLook v w IsFinished
 TakesSlot v w nexts.Stopped = IsLook v w IsStopped
 
+-- where a slot is handed out alone and its partner's word is 4 times its epoch, the last hand-out is made: the two would have
+-- gone out together
+abbrev pub GoesOutAlone : View Origin → JobView → Type 0
+GoesOutAlone w j = has_partner (length w.seen) j.slot j.epoch ≡ true → slice_index w.seen (partner j.slot j.epoch) ≡ 4 * j.epoch
+    → taken_at w.seen ≡ taken_before j.origin + j.origin.window.takes
+
+-- the same of an answer; those without a slot say nothing more
+abbrev pub GoesNextOutAlone : View Origin → Next → Type 0
+GoesNextOutAlone w (nexts.Job j) = GoesOutAlone w j
+GoesNextOutAlone w nexts.Nothing = Unit {0}
+GoesNextOutAlone w nexts.Finished = Unit {0}
+GoesNextOutAlone w nexts.Stopped = Unit {0}
+
 -- the seat v asked for two partners in one turn, and is then w
 abbrev pub TakesPairOrSlot : View Origin → View Origin → NextPair → Type 0
 TakesPairOrSlot v w (pairs.Pair p) = IsPairOut v w p
-TakesPairOrSlot v w (pairs.Single next) = TakesSlot v w next
+TakesPairOrSlot v w (pairs.Single next) = TakesSlot v w next × GoesNextOutAlone w next
+
+-- the words that a turn found which asked for a slot, and left the seat w: those that w has seen, but for what was handed out
+abbrev pub found_slot : View Origin → Next → List ℕ
+found_slot w (nexts.Job j) = slice_set w.seen j.slot (4 * j.epoch)
+found_slot w nexts.Nothing = w.seen
+found_slot w nexts.Finished = w.seen
+found_slot w nexts.Stopped = w.seen
+
+abbrev pub found_by : View Origin → NextPair → List ℕ
+found_by w (pairs.Pair p) = slice_set (slice_set w.seen p.slot (4 * p.epoch)) (p.slot + 1) (4 * p.epoch)
+found_by w (pairs.Single next) = found_slot w next
 
 -- slot t came back at e and waits, since its partner has not come back: its word alone was changed
 pub record IsWaiting (v w : View Origin) (t e : ℕ) : Type 0 where
@@ -107,8 +131,9 @@ pub record ReturnsPair (v w : View Origin) (t e : ℕ) : Type 0 where
   pub turn : IsTurn v w (slice_set (slice_set w.seen t (4 * e + 1)) (t + 1) (4 * e + 1)) (without (t + 1) (without t v.out))
 
 -- the seat v handed the slots t and t + 1 back at e and then asked for two partners, and is then w: as in two turns, which
--- count as one
+-- count as one, and between which no other seat changes a word
 pub record ReturnsPairAndTakes (v w : View Origin) (t e : ℕ) (next : NextPair) : Type 0 where
   pub between : View Origin
   pub returned : ReturnsPair v between t e
   pub taken : TakesPairOrSlot (record between { turns = v.turns }) w next
+  pub found : found_by w next ≡ between.seen

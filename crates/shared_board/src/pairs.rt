@@ -5,7 +5,7 @@ ghost use Rattle.exchange_board.specs.Views.{place_at, progress};
 ghost use Rattle.turn_cell.specs.AtomicSteps.{with_refused, after_return};
 ghost use Rattle.turn_cell.specs.Seats.{seat_view, IsSeatOf};
 ghost use Rattle.turn_cell.specs.Sums.{times};
-ghost use Rattle.shared_board.specs.Turns.{IsAmong, TakesPairOrSlot, ReturnsPair, ReturnsPairAndTakes};
+ghost use Rattle.shared_board.specs.Turns.{IsAmong, found_by, TakesPairOrSlot, ReturnsPair, ReturnsPairAndTakes};
 
 use crate::shared::{BoardPass, SharedBoard};
 use exchange_board::{Board, NextPair, PairSwept, Share};
@@ -35,6 +35,7 @@ impl SharedBoard {
         ensures own { IsSeatOf (lock_id self.now) pass.new }
         ensures refused { (seat_view pass.new).refused ≡ (seat_view pass.old).refused }
         ensures taken { (v : _) → HasInHand v (seat_view pass.old) board → TakesPairOrSlot v (seat_view pass.new) result }
+        ensures found { found_by (seat_view pass.new) result ≡ (seat_view pass.old).known }
     {
         match board.next_pair(share) {
             NextPair::Pair(pair) => {

@@ -3,9 +3,9 @@
 ghost use Rattle.std.specs.Prelude.{◌≡◌, ◌≤◌, false};
 ghost use Rattle.turn_cell.specs.AtomicSteps.{with_refused};
 ghost use Rattle.turn_cell.specs.Seats.{seat_view, IsSeatOf};
-ghost use Rattle.exchange_board.specs.Answers.{Nexts};
+ghost use Rattle.exchange_board.specs.Answers.{GoesNextAlone, Nexts};
 ghost use Rattle.exchange_board.specs.Machine.{IsPhased};
-ghost use Rattle.shared_board.specs.Turns.{TakesSlot};
+ghost use Rattle.shared_board.specs.Turns.{found_slot, GoesNextOutAlone, TakesSlot};
 
 use crate::shared::{BoardPass, SharedBoard};
 use exchange_board::{Board, Job, Next};
@@ -84,6 +84,8 @@ impl SharedBoard {
         ensures own { IsSeatOf (lock_id self.now) pass.new }
         ensures refused { (seat_view pass.new).refused ≡ (seat_view pass.old).refused }
         ensures taken { (v : _) (b : _) → HasInHand v (seat_view pass.old) b → IsPhased b.places → Nexts b board next → TakesSlot v (seat_view pass.new) result }
+        ensures alone { GoesNextAlone board next → GoesNextOutAlone (seat_view pass.new) result }
+        ensures found { found_slot (seat_view pass.new) result ≡ (seat_view pass.old).known }
     {
         match next {
             Next::Job(job) => {

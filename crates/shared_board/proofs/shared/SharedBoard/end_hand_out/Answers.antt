@@ -1,12 +1,12 @@
 -- The holder's hand-out is one turn.
 use Rattle.std.proofs.Common.{◌≡◌, ◌∷◌, Some, sym, ap, ◌∙◌, subst}
 use Rattle.exchange_board.specs.Views.{BoardView, words_of}
-use Rattle.exchange_board.specs.Answers.{Nexts, Takes}
+use Rattle.exchange_board.specs.Answers.{Nexts, Takes, GoesNextAlone}
 use Rattle.turn_cell.specs.AtomicSteps.{after_return}
 use Rattle.turn_cell.specs.Seats.{seat_view}
 use Rattle.shared_board.specs.Shared.{knows}
 use Rattle.shared_board.proofs.Stores.{SeatView}
-use Rattle.shared_board.proofs.HandOuts.{out-stored, hands-out, quiet-answers}
+use Rattle.shared_board.proofs.HandOuts.{out-stored, hands-out, quiet-answers, slot-found, goes-alone, quiet-alone, quiet-found}
 use Rattle.shared_board.proofs.shared.SharedBoard.end_hand_out.Goals as goal
 use Rattle.shared_board.proofs.shared.SharedBoard.end_hand_out.Goals.{After-store}
 
@@ -38,10 +38,29 @@ returns-in-Job-clause-taken c v b has small answer =
     hands-out v (seeing (seat_view c.args.pass.now)) (seeing (seat_view c.store.new.pass)) (seat_view c.give_back.new.pass) b c.args.board c.in-Job.job
     has small (subst (Nexts b c.args.board) c.in-Job.is answer) (ap seeing (stored (goal.at.returns-in-Job-clause-taken c).After-store)) c.give_back.ensures.back
 
+-- what the seat has seen once the lock is given back
+seen : (c : After-store) → (after_return (seat_view c.store.new.pass)).seen ≡ words_of c.args.board
+seen c = ap (λ (x : SeatView). x.known) (stored c)
+
+pub returns-in-Job-clause-alone : goal.returns-in-Job-clause-alone
+returns-in-Job-clause-alone c lone =
+    let at = (goal.at.returns-in-Job-clause-alone c).After-store in
+    goes-alone (seat_view c.give_back.new.pass) c.requires.asked.before c.args.board c.in-Job.job c.requires.asked.phased (gave at)
+    (ap (λ (x : SeatView). x.seen) c.give_back.ensures.back ∙ seen at) (subst (GoesNextAlone c.args.board) c.in-Job.is lone)
+
+pub returns-in-Job-clause-found : goal.returns-in-Job-clause-found
+returns-in-Job-clause-found c =
+    let at = (goal.at.returns-in-Job-clause-found c).After-store in
+    slot-found (seat_view c.args.pass.now) (seat_view c.give_back.new.pass) c.requires.asked.before c.args.board c.in-Job.job
+    c.requires.asked.holder.words (gave at) (ap (λ (x : SeatView). x.seen) c.give_back.ensures.back ∙ seen at)
+
 pub returns-in_default : goal.returns-in_default
 returns-in_default c = record {
   own = c.give_back-in_default.ensures.own;
   refused = ap (λ (x : SeatView). x.refused) c.give_back-in_default.ensures.back;
   taken = λ v b has small answer. quiet-answers v (record (seat_view c.args.pass.now) { seen = v.seen }) (seat_view c.give_back-in_default.new.pass) b c.args.board c.args.next
       c.in_default.not-Job has small c.give_back-in_default.ensures.back answer;
+  alone = λ lone. quiet-alone (seat_view c.give_back-in_default.new.pass) c.args.next c.in_default.not-Job;
+  found = quiet-found (seat_view c.give_back-in_default.new.pass) c.args.next (seat_view c.args.pass.now).known c.in_default.not-Job
+      (ap (λ (x : SeatView). x.seen) c.give_back-in_default.ensures.back);
 }

@@ -1,10 +1,11 @@
 -- The holder's hand-out of two partners is one turn.
-use Rattle.std.proofs.Common.{◌≡◌, ◌+◌, ◌*◌, ◌∷◌, set, Some, sym, ap, ◌∙◌}
+use Rattle.std.proofs.Common.{◌≡◌, ℕ, ◌+◌, ◌*◌, List, ◌∷◌, set, Some, sym, ap, ◌∙◌, arith}
 use Rattle.exchange_board.specs.Views.{BoardView, words_of}
 use Rattle.turn_cell.specs.AtomicSteps.{after_return}
 use Rattle.turn_cell.specs.Seats.{seat_view}
 use Rattle.shared_board.specs.Shared.{knows}
 use Rattle.shared_board.proofs.Stores.{SeatView}
+use Rattle.shared_board.proofs.Words.{two-back}
 use Rattle.shared_board.proofs.PairTurns.{TwoChanged, out-changed, first-out, second-out-lawful, second-out, pair-hands-out}
 use Rattle.shared_board.proofs.shared.SharedBoard.hand_out_pair.Goals as goal
 use Rattle.shared_board.proofs.shared.SharedBoard.hand_out_pair.Goals.{After-store, After-store-in-Pair}
@@ -55,5 +56,18 @@ returns-in-Pair-clause-taken c v has =
     pair-hands-out v (seeing (seat_view c.args.pass.now)) (seeing (seat_view c.store-in-Pair.new.pass)) (seat_view c.give_back.new.pass) c.args.board c.next_pair.new.self c.in-Pair.pair
     has c.next_pair.ensures.phased c.in-Pair.ensures.next (ap seeing (second (goal.at.returns-in-Pair-clause-taken c).After-store-in-Pair)) c.give_back.ensures.back
 
+pub returns-in-Pair-clause-found : goal.returns-in-Pair-clause-found
+returns-in-Pair-clause-found c =
+    let at = goal.at.returns-in-Pair-clause-found c in
+    let t = c.in-Pair.pair.slot in
+    let e = c.in-Pair.pair.epoch in
+    let changed = two at.After-store in
+    let seen : (seat_view c.give_back.new.pass).seen ≡ set (set (words_of c.args.board) t (4 * e + 1)) (t + 1) (4 * e + 1) =
+        ap (λ (x : SeatView). x.seen) c.give_back.ensures.back ∙ ap (λ (x : SeatView). x.known) (second at.After-store-in-Pair) ∙ changed.words in
+    ap (λ (l : List ℕ). set (set l t (4 * e)) (t + 1) (4 * e)) seen
+    ∙ two-back (words_of c.args.board) t (t + 1) (4 * e + 1) (4 * e) (4 * e) (λ z. omega arith) changed.low_before changed.high_before
+    ∙ sym c.requires.holder.words
+
 pub returns-in-Single-clause-taken : goal.returns-in-Single-clause-taken
-returns-in-Single-clause-taken c v has = c.end_hand_out.ensures.taken v c.args.board has c.next_pair.ensures.phased c.in-Single.ensures.next.0
+returns-in-Single-clause-taken c v has =
+    (c.end_hand_out.ensures.taken v c.args.board has c.next_pair.ensures.phased c.in-Single.ensures.next.0, c.end_hand_out.ensures.alone c.in-Single.ensures.next.1)

@@ -35,6 +35,7 @@ returns-clause-turned g c =
       between = after_return m;
       returned = c.put_pair_back-back.ensures.returned v taken;
       taken = c.hand_out_pair.ensures.taken (as_returned v m) (c.put_pair_back-back.ensures.found v taken);
+      found = c.hand_out_pair.ensures.found;
     } in
     subst (λ n. ReturnsPairAndTakes (with_refused (seat_view c.args.pass.now) n) (seat_view c.hand_out_pair.new.pass) c.args.swept.slot c.args.swept.epoch c.hand_out_pair.result)
     (sym (c.hand_out_pair.ensures.refused ∙ c.put_pair_back-back.ensures.refused)) turned
