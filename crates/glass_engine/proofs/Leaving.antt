@@ -65,9 +65,9 @@ left-long id plan [] (q ∷ qs) all = absurd all
 left-long id plan (p ∷ ps) [] all = absurd all
 left-long id plan (p ∷ ps) (q ∷ qs) all = ap suc (left-long id plan ps qs all.1)
 
--- seats that are handed back are idle, each at its place
+-- seats that are handed back are idle
 pub idle-left : (id : TableId) (plan : Plan) (o : Origin) (places n k : ℕ) (ps qs : List Seat) → AreOpened id o places n k ps → HaveLeft id plan ps qs
-    → AreIdle id (Some o) n k qs
+    → AreIdle id (Some o) n qs
 idle-left id plan o places n k [] [] all left = tt
 idle-left id plan o places n k [] (q ∷ qs) all left = absurd left
 idle-left id plan o places n k (p ∷ ps) [] all left = absurd left
@@ -77,7 +77,7 @@ idle-left id plan o places n k (p ∷ ps) (q ∷ qs) all left =
     let same = left.0.1 in (
       record {
         own = rest.own;
-        number = same.numbers ∙ ap (λ (v : SeatView). v.numbers) me;
+        alone = ap (λ (l : List ℕ). length l) (same.numbers ∙ ap (λ (v : SeatView). v.numbers) me);
         total = same.total ∙ ap (λ (v : SeatView). v.total) me;
         base = same.base ∙ ap (λ (v : SeatView). v.base) me;
         free = rest.free;
@@ -154,7 +154,7 @@ back ps qs len = take len (qs ++ drop (length qs) ps)
 
 module _ (r : run.Inside) (plan : Plan) (qs : List Seat) (keeps : KeepsRun r) (whole : r.seats.len ≡ length r.seats.items)
     (left : HaveLeft (lock_id r.board) plan r.seats.items qs) where
-  all-idle : AreIdle (lock_id r.board) (Some r.opened.value.origin) (length r.seats.items) 0 qs
+  all-idle : AreIdle (lock_id r.board) (Some r.opened.value.origin) (length r.seats.items) qs
   all-idle = idle-left (lock_id r.board) plan r.opened.value.origin (length r.opened.value.places) (length r.seats.items) 0 r.seats.items qs keeps.seats left
 
   long : length qs ≡ length r.seats.items
@@ -167,14 +167,14 @@ module _ (r : run.Inside) (plan : Plan) (qs : List Seat) (keeps : KeepsRun r) (w
   first-base =
       let some = keeps.some_seats in
       let n = long in
-      idle-base (lock_id r.board) (Some r.opened.value.origin) (length r.seats.items) 0 qs all-idle (omega arith)
+      idle-base (lock_id r.board) (Some r.opened.value.origin) (length r.seats.items) qs all-idle (omega arith)
 
   -- the board can be closed with them
-  pub run-idle : let seats = back r.seats.items qs r.seats.len in AreIdle (lock_id r.board) (base_of seats) (length seats) 0 seats
+  pub run-idle : let seats = back r.seats.items qs r.seats.len in AreIdle (lock_id r.board) (base_of seats) (length seats) seats
   run-idle =
-      let P : List Seat → Type 0 = λ l. AreIdle (lock_id r.board) (base_of l) (length l) 0 l in
-      let B : Option Origin → Type 0 = λ b. AreIdle (lock_id r.board) b (length qs) 0 qs in
-      let N : ℕ → Type 0 = λ n. AreIdle (lock_id r.board) (Some r.opened.value.origin) n 0 qs in
+      let P : List Seat → Type 0 = λ l. AreIdle (lock_id r.board) (base_of l) (length l) l in
+      let B : Option Origin → Type 0 = λ b. AreIdle (lock_id r.board) b (length qs) qs in
+      let N : ℕ → Type 0 = λ n. AreIdle (lock_id r.board) (Some r.opened.value.origin) n qs in
       subst P (sym are) (subst B (sym first-base) (subst N (sym long) all-idle))
 
   -- and is then the run's, at its end

@@ -45,8 +45,25 @@ pub fn store<R: AllocGlobal>(rt: &R, run: &str, failing: u64) -> Result<MemorySh
     shelf.add("run.toml", run.as_bytes())?;
     shelf.add("rules.csv", RULES.as_bytes())?;
     shelf.add("swaps.csv", b"4294967296\n")?;
-    shelf.room("c", 10688)?;
-    shelf.room("d", 10688)?;
+    shelf.room("c", 11000)?;
+    shelf.room("d", 11000)?;
+    Ok(shelf)
+}
+
+/// The same of so many slots, all of one row of thresholds, which never swap.
+pub fn store_of<R: AllocGlobal>(rt: &R, slots: u32) -> Result<MemoryShelf, Fail> {
+    let mut rules = String::new(rt.alloc());
+    let mut swaps = String::new(rt.alloc());
+    for slot in 0..slots {
+        rules.push_str("4294967296,4294967296,4294967296,0,0,0,0\n")?;
+        if slot > 0 {
+            swaps.push_str("0\n")?;
+        }
+    }
+    let mut shelf = MemoryShelf::new(rt.alloc(), [NEVER].to_vec(rt.alloc())?);
+    shelf.add("run.toml", RUN.as_bytes())?;
+    shelf.add("rules.csv", rules.as_str().as_bytes())?;
+    shelf.add("swaps.csv", swaps.as_str().as_bytes())?;
     Ok(shelf)
 }
 

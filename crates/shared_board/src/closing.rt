@@ -14,12 +14,11 @@ impl SharedBoard {
 
     /// The board of all workers, once they are done with it.
     ///
-    /// Takes all seats that it was opened with, seat i at place i, none of which holds the lock or has
-    /// work. The board has their provenance, no slot in work, and no progress word below what any of
+    /// Takes all seats that it was opened with, in any order, none of which holds the lock or has work. The board has their provenance, no slot in work, and no progress word below what any of
     /// them had seen. Takes no memory.
     pub fn close(self, passes: Vec<BoardPass>) -> Board
         requires some { 0 < length passes.items }
-        requires idle { AreIdle (lock_id self) (base_of passes.items) (length passes.items) 0 passes.items }
+        requires idle { AreIdle (lock_id self) (base_of passes.items) (length passes.items) passes.items }
         ensures base { Some result.origin ≡ base_of passes.items }
         ensures home { NoneOut result.places }
         ensures seen { All (λ p. AtMost (seat_view p).seen (words_of result)) passes.items }

@@ -59,4 +59,4 @@ AreOther t (h ∷ hs) = (h.1.slot ≢ t) × AreOther t hs
 
 -- both seats can be handed back
 abbrev pub AreBothIdle : TableId → Seat → Seat → Type 0
-AreBothIdle id p q = IsIdle id (seat_view p).base 2 0 p × IsIdle id (seat_view p).base 2 1 q
+AreBothIdle id p q = IsIdle id (seat_view p).base 2 p × IsIdle id (seat_view p).base 2 q

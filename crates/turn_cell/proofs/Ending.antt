@@ -86,7 +86,7 @@ module _ {O : Type 0} where
 module _ {T O : Type 0} where
   -- of these seats, those behind the first ones are gathered in one
   pub record IsGathering (id : TableId) (all ps : List (Pass T O)) (kept : Pass T O) : Type 0 where
-    pub idle : AreIdle id (base_of all) (length all) 0 ps
+    pub idle : AreIdle id (base_of all) (length all) ps
     pub gathered : List (Pass T O)
     pub parts : all ≡ ps ++ gathered
     pub own : IsSeatOf id kept
@@ -98,16 +98,16 @@ module _ {T O : Type 0} where
     pub seen : All (λ q. AtMost (seat_view q).seen (seat_view kept).seen) gathered
 
   pub gathering-one : (id : TableId) (all ps : List (Pass T O)) (p : Pass T O) → all ≡ ps ++ p ∷ []
-      → AreIdle id (base_of all) (length all) 0 all → IsGathering id all ps p
+      → AreIdle id (base_of all) (length all) all → IsGathering id all ps p
   gathering-one id all ps p is idle =
-      let here : AreIdle id (base_of all) (length all) 0 (ps ++ p ∷ []) = subst (AreIdle id (base_of all) (length all) 0) is idle in
-      let last = idle-last id (base_of all) (length all) 0 (length ps) ps p here (omega arith) in
+      let here : AreIdle id (base_of all) (length all) (ps ++ p ∷ []) = subst (AreIdle id (base_of all) (length all)) is idle in
+      let last = idle-last id (base_of all) (length all) ps p here in
       record {
-        idle = idle-front id (base_of all) (length all) 0 ps (p ∷ []) here;
+        idle = idle-front id (base_of all) (length all) ps (p ∷ []) here;
         gathered = p ∷ [];
         parts = is;
         own = last.own;
-        count = ap (λ (l : List ℕ). length l) last.number;
+        count = last.alone;
         total = last.total;
         base = last.base;
         free = last.free;
@@ -117,23 +117,23 @@ module _ {T O : Type 0} where
 
   -- where the last of those left comes next
   pub gathering-last : (id : TableId) (all now ps : List (Pass T O)) (p kept : Pass T O) → now ≡ ps ++ p ∷ []
-      → IsGathering id all now kept → IsIdle id (base_of all) (length all) (length ps) p
-  gathering-last id all now ps p kept is g = idle-last id (base_of all) (length all) 0 (length ps) ps p (subst (AreIdle id (base_of all) (length all) 0) is g.idle) (omega arith)
+      → IsGathering id all now kept → IsIdle id (base_of all) (length all) p
+  gathering-last id all now ps p kept is g = idle-last id (base_of all) (length all) ps p (subst (AreIdle id (base_of all) (length all)) is g.idle)
 
   pub gathering-more : (id : TableId) (all now ps : List (Pass T O)) (p kept after : Pass T O) → now ≡ ps ++ p ∷ []
       → IsGathering id all now kept → IsSeatOf id after → seat_view after ≡ after_join (seat_view kept) (seat_view p)
       → IsGathering id all ps after
   gathering-more id all now ps p kept after is g own joined =
-      let here : AreIdle id (base_of all) (length all) 0 (ps ++ p ∷ []) = subst (AreIdle id (base_of all) (length all) 0) is g.idle in
-      let last = idle-last id (base_of all) (length all) 0 (length ps) ps p here (omega arith) in
+      let here : AreIdle id (base_of all) (length all) (ps ++ p ∷ []) = subst (AreIdle id (base_of all) (length all)) is g.idle in
+      let last = idle-last id (base_of all) (length all) ps p here in
       let v : View O = seat_view after in
       let seen : v.seen ≡ greatest (seat_view kept).seen (seat_view p).seen = ap (λ (x : View O). x.seen) joined in
       record {
-        idle = idle-front id (base_of all) (length all) 0 ps (p ∷ []) here;
+        idle = idle-front id (base_of all) (length all) ps (p ∷ []) here;
         gathered = p ∷ g.gathered;
         parts = g.parts ∙ (ap (λ (l : List (Pass T O)). l ++ g.gathered) is ∙ append_assoc ps (p ∷ []) g.gathered);
         own = own;
-        count = omega (arith, ap (λ (x : View O). length x.numbers) joined, length-append (seat_view kept).numbers (seat_view p).numbers, ap (λ (l : List ℕ). length l) last.number, g.count);
+        count = omega (arith, ap (λ (x : View O). length x.numbers) joined, length-append (seat_view kept).numbers (seat_view p).numbers, last.alone, g.count);
         total = ap (λ (x : View O). x.total) joined ∙ g.total;
         base = ap (λ (x : View O). x.base) joined ∙ g.base;
         free = ap (λ (x : View O). x.holding) joined ∙ g.free;

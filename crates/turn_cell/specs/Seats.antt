@@ -46,23 +46,23 @@ module _ {T O : Type 0} where
   base_of [] = None
   base_of (p ∷ ps) = (seat_view p).base
 
-  -- seat k of n, which doesn't hold the lock and has these items in work
-  pub record IsFree (id : TableId) (common : Option O) (n k : ℕ) (items : List (ℕ × ℕ)) (p : Pass T O) : Type 0 where
+  -- one of n seats, which doesn't hold the lock and has these items in work
+  pub record IsFree (id : TableId) (common : Option O) (n : ℕ) (items : List (ℕ × ℕ)) (p : Pass T O) : Type 0 where
     pub own : IsSeatOf id p
-    pub number : (seat_view p).numbers ≡ k ∷ []
+    pub alone : length (seat_view p).numbers ≡ 1
     pub total : (seat_view p).total ≡ n
     pub base : (seat_view p).base ≡ common
     pub free : (seat_view p).holding ≡ false
     pub work : (seat_view p).out ≡ items
 
   -- and has nothing in work
-  abbrev pub IsIdle : TableId → Option O → ℕ → ℕ → Pass T O → Type 0
-  IsIdle id common n k p = IsFree id common n k [] p
+  abbrev pub IsIdle : TableId → Option O → ℕ → Pass T O → Type 0
+  IsIdle id common n p = IsFree id common n [] p
 
-  -- so are all seats from number k on
-  abbrev pub AreIdle : TableId → Option O → ℕ → ℕ → List (Pass T O) → Type 0
-  AreIdle id common n k [] = Unit {0}
-  AreIdle id common n k (p ∷ ps) = IsIdle id common n k p × AreIdle id common n (k + 1) ps
+  -- so is each of these, in any order
+  abbrev pub AreIdle : TableId → Option O → ℕ → List (Pass T O) → Type 0
+  AreIdle id common n [] = Unit {0}
+  AreIdle id common n (p ∷ ps) = IsIdle id common n p × AreIdle id common n ps
 
 module _ {T O : Type 0} where
   -- an idle seat that stands for all these, and has seen what any of them had seen

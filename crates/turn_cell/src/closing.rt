@@ -17,12 +17,12 @@ use std::alloc::Global;
 impl<V: Kept> TurnCell<V> {
     /// Closes the lock and answers its value.
     ///
-    /// Takes all seats that the lock was opened with, seat i at place i, none of which holds the
-    /// lock or has work. The value has their provenance, no word of phase 1, and no word below what
+    /// Takes all seats that the lock was opened with, in any order, none of which holds the lock or
+    /// has work. The value has their provenance, no word of phase 1, and no word below what
     /// any of them had seen. Takes no memory.
     pub fn close(self, passes: Vec<Pass<V>>) -> V
         requires some { 0 < length passes.items }
-        requires idle { AreIdle (cell_id self) (base_of passes.items) (length passes.items) 0 passes.items }
+        requires idle { AreIdle (cell_id self) (base_of passes.items) (length passes.items) passes.items }
         ensures base { Some (V.origin result) ≡ base_of passes.items }
         ensures ended { NoneIsInWork (V.marks result) }
         ensures seen { All (λ p. AtMost (seat_view p).seen (V.marks result)) passes.items }
@@ -39,7 +39,7 @@ impl<V: Kept> TurnCell<V> {
     // All seats in one.
     fn gather(&self, mut passes: Vec<Pass<V>>) -> Pass<V>
         requires some { 0 < length passes.items }
-        requires idle { AreIdle (cell_id self.now) (base_of passes.items) (length passes.items) 0 passes.items }
+        requires idle { AreIdle (cell_id self.now) (base_of passes.items) (length passes.items) passes.items }
         ensures { IsGathered (cell_id self.now) passes.items result }
     {
         let Some(mut kept) = passes.pop() else {

@@ -14,10 +14,10 @@ fn first_hands_out<R: Wait + Abort>(
     p: &mut Pass<Words>,
     q: &mut Pass<Words>,
 )
-    requires p { IsIdle (cell_id cell.now) (Some 7) 2 0 p.old }
-    requires q { IsIdle (cell_id cell.now) (Some 7) 2 1 q.old }
-    ensures p { IsFree (cell_id cell.now) (Some 7) 2 0 ((0, 0) ∷ []) p.new }
-    ensures q { IsIdle (cell_id cell.now) (Some 7) 2 1 q.new }
+    requires p { IsIdle (cell_id cell.now) (Some 7) 2 p.old }
+    requires q { IsIdle (cell_id cell.now) (Some 7) 2 q.old }
+    ensures p { IsFree (cell_id cell.now) (Some 7) 2 ((0, 0) ∷ []) p.new }
+    ensures q { IsIdle (cell_id cell.now) (Some 7) 2 q.new }
 {
     let value = cell.take_turn(rt, p);
     assert!(rt; value.words[0] == 0 && value.words[1] == 0);
@@ -31,8 +31,8 @@ fn first_hands_out<R: Wait + Abort>(
 
 // Seat 1 finds what seat 0 left, and hands out the second place.
 fn second_hands_out<R: Abort>(rt: &R, cell: &TurnCell<Words>, q: &mut Pass<Words>)
-    requires { IsIdle (cell_id cell.now) (Some 7) 2 1 q.old }
-    ensures { IsFree (cell_id cell.now) (Some 7) 2 1 ((1, 0) ∷ []) q.new }
+    requires { IsIdle (cell_id cell.now) (Some 7) 2 q.old }
+    ensures { IsFree (cell_id cell.now) (Some 7) 2 ((1, 0) ∷ []) q.new }
 {
     match cell.try_turn(q) {
         Tried::Turn(value) => {
@@ -46,8 +46,8 @@ fn second_hands_out<R: Abort>(rt: &R, cell: &TurnCell<Words>, q: &mut Pass<Words
 
 // Seat 0 hands the first place back, which then waits for its partner.
 fn first_hands_back<R: Wait + Abort>(rt: &R, cell: &TurnCell<Words>, p: &mut Pass<Words>)
-    requires { IsFree (cell_id cell.now) (Some 7) 2 0 ((0, 0) ∷ []) p.old }
-    ensures { IsIdle (cell_id cell.now) (Some 7) 2 0 p.new }
+    requires { IsFree (cell_id cell.now) (Some 7) 2 ((0, 0) ∷ []) p.old }
+    ensures { IsIdle (cell_id cell.now) (Some 7) 2 p.new }
 {
     let value = cell.take_turn(rt, p);
     // Its own item is still in work, as it left it.
@@ -59,8 +59,8 @@ fn first_hands_back<R: Wait + Abort>(rt: &R, cell: &TurnCell<Words>, p: &mut Pas
 
 // Seat 1 hands the second place back, and both come to rest.
 fn second_hands_back<R: Wait + Abort>(rt: &R, cell: &TurnCell<Words>, q: &mut Pass<Words>)
-    requires { IsFree (cell_id cell.now) (Some 7) 2 1 ((1, 0) ∷ []) q.old }
-    ensures { IsIdle (cell_id cell.now) (Some 7) 2 1 q.new }
+    requires { IsFree (cell_id cell.now) (Some 7) 2 ((1, 0) ∷ []) q.old }
+    ensures { IsIdle (cell_id cell.now) (Some 7) 2 q.new }
 {
     let value = cell.take_turn(rt, q);
     prove!(value.words[1] == 1);
@@ -84,8 +84,9 @@ fn two_seats_take_turns(rt: HostRuntime) -> Result<(), Fail> {
     second_hands_out(&rt, &cell, &mut q);
     first_hands_back(&rt, &cell, &mut p);
     second_hands_back(&rt, &cell, &mut q);
-    seats.push_reserved(p);
+    // In the other order.
     seats.push_reserved(q);
+    seats.push_reserved(p);
     let end = cell.close(seats);
     assert!(rt; end.name == 7);
     assert!(rt; end.words[0] == 4 && end.words[1] == 4);
@@ -94,8 +95,8 @@ fn two_seats_take_turns(rt: HostRuntime) -> Result<(), Fail> {
 
 // The one seat finds the first place waiting for its partner, and brings it to rest.
 fn waiting_place_comes_to_rest<R: Wait + Abort>(rt: &R, cell: &TurnCell<Words>, p: &mut Pass<Words>)
-    requires { IsIdle (cell_id cell.now) (Some 7) 1 0 p.old }
-    ensures { IsIdle (cell_id cell.now) (Some 7) 1 0 p.new }
+    requires { IsIdle (cell_id cell.now) (Some 7) 1 p.old }
+    ensures { IsIdle (cell_id cell.now) (Some 7) 1 p.new }
 {
     let value = cell.take_turn(rt, p);
     assert!(rt; value.words[0] == 2 && value.words[1] == 4);

@@ -28,15 +28,9 @@ fn place_at_rest(value: &Words) -> Option<u32>
 }
 
 // Hands out a place, hands it back, and says whether both places are at their end.
-fn round<R: Wait>(
-    rt: &R,
-    cell: &TurnCell<Words>,
-    seat: &mut Pass<Words>,
-    number: u32,
-    total: u32,
-) -> bool
-    requires { IsIdle (cell_id cell.now) (Some 7) total number seat.old }
-    ensures { IsIdle (cell_id cell.now) (Some 7) total number seat.new }
+fn round<R: Wait>(rt: &R, cell: &TurnCell<Words>, seat: &mut Pass<Words>, total: u32) -> bool
+    requires { IsIdle (cell_id cell.now) (Some 7) total seat.old }
+    ensures { IsIdle (cell_id cell.now) (Some 7) total seat.new }
 {
     let value = cell.take_turn(rt, seat);
     let ended = value.words[0] == 4 * EPOCHS && value.words[1] == 4 * EPOCHS;
@@ -47,7 +41,7 @@ fn round<R: Wait>(
     let word = value.words[place as usize];
     let value = stored(cell, seat, value, place, word + 1);
     cell.give_back(seat, value);
-    hands_back(rt, cell, seat, number, total, place, word / 4);
+    hands_back(rt, cell, seat, total, place, word / 4);
     false
 }
 
@@ -56,14 +50,13 @@ fn hands_back<R: Wait>(
     rt: &R,
     cell: &TurnCell<Words>,
     seat: &mut Pass<Words>,
-    number: u32,
     total: u32,
     place: u32,
     epoch: u64,
 )
     requires place { (place < 2) × (epoch < 8) }
-    requires seat { IsFree (cell_id cell.now) (Some 7) total number ((place, epoch) ∷ []) seat.old }
-    ensures { IsIdle (cell_id cell.now) (Some 7) total number seat.new }
+    requires seat { IsFree (cell_id cell.now) (Some 7) total ((place, epoch) ∷ []) seat.old }
+    ensures { IsIdle (cell_id cell.now) (Some 7) total seat.new }
 {
     let value = cell.take_turn(rt, seat);
     let partner = 1 - place;
@@ -77,12 +70,12 @@ fn hands_back<R: Wait>(
     cell.give_back(seat, value);
 }
 
-fn work<R: Wait>(rt: &R, cell: &TurnCell<Words>, seat: &mut Pass<Words>, number: u32, total: u32)
-    requires { IsIdle (cell_id cell.now) (Some 7) total number seat.old }
-    ensures { IsIdle (cell_id cell.now) (Some 7) total number seat.new }
+fn work<R: Wait>(rt: &R, cell: &TurnCell<Words>, seat: &mut Pass<Words>, total: u32)
+    requires { IsIdle (cell_id cell.now) (Some 7) total seat.old }
+    ensures { IsIdle (cell_id cell.now) (Some 7) total seat.new }
 {
     for _ in rt.forever() {
-        if round(rt, cell, seat, number, total) {
+        if round(rt, cell, seat, total) {
             return;
         }
     }
@@ -95,23 +88,21 @@ fn work_all<R: Threads + Wait + Sync>(
     rt: &R,
     cell: &TurnCell<Words>,
     seats: &mut [Pass<Words>],
-    first: u32,
     total: u32,
 )
-    requires few { first + length seats.old ≤ 64 }
-    requires idle { AreIdle (cell_id cell.now) (Some 7) total first seats.old }
+    requires idle { AreIdle (cell_id cell.now) (Some 7) total seats.old }
     ensures count { length seats.new ≡ length seats.old }
-    ensures idle { AreIdle (cell_id cell.now) (Some 7) total first seats.new }
+    ensures idle { AreIdle (cell_id cell.now) (Some 7) total seats.new }
 {
     if seats.len() < 2 {
         if let Some(seat) = seats.first_mut() {
-            work(rt, cell, seat, first, total);
+            work(rt, cell, seat, total);
         }
         return;
     }
     let half = seats.len() / 2;
     let (front, back) = seats.split_at_mut(half);
-    both(rt, cell, front, back, first, first + half as u32, total);
+    both(rt, cell, front, back, total);
 }
 
 // Apart from `work_all`, so that what the closures require is what this function is given.
@@ -121,32 +112,27 @@ fn both<R: Threads + Wait + Sync>(
     cell: &TurnCell<Words>,
     front: &mut [Pass<Words>],
     back: &mut [Pass<Words>],
-    first: u32,
-    middle: u32,
     total: u32,
 )
     requires some { (0 < length front.old) × (0 < length back.old) }
-    requires few { (first + length front.old ≤ 64) × (middle + length back.old ≤ 64) }
-    requires front { AreIdle (cell_id cell.now) (Some 7) total first front.old }
-    requires back { AreIdle (cell_id cell.now) (Some 7) total middle back.old }
+    requires front { AreIdle (cell_id cell.now) (Some 7) total front.old }
+    requires back { AreIdle (cell_id cell.now) (Some 7) total back.old }
     ensures count { (length front.new ≡ length front.old) × (length back.new ≡ length back.old) }
-    ensures front { AreIdle (cell_id cell.now) (Some 7) total first front.new }
-    ensures back { AreIdle (cell_id cell.now) (Some 7) total middle back.new }
+    ensures front { AreIdle (cell_id cell.now) (Some 7) total front.new }
+    ensures back { AreIdle (cell_id cell.now) (Some 7) total back.new }
 {
     join_mut(
         rt,
         &mut ||
-            requires { IsSync R.row × (first + length front.now ≤ 64)
-                × AreIdle (cell_id cell.now) (Some 7) total first front.now }
+            requires { IsSync R.row × AreIdle (cell_id cell.now) (Some 7) total front.now }
             ensures { (length front.exit.now ≡ length front.entry.now)
-                × AreIdle (cell_id cell.entry.now) (Some 7) total first front.exit.now }
-        { work_all(rt, cell, front, first, total) },
+                × AreIdle (cell_id cell.entry.now) (Some 7) total front.exit.now }
+        { work_all(rt, cell, front, total) },
         &mut ||
-            requires { IsSync R.row × (middle + length back.now ≤ 64)
-                × AreIdle (cell_id cell.now) (Some 7) total middle back.now }
+            requires { IsSync R.row × AreIdle (cell_id cell.now) (Some 7) total back.now }
             ensures { (length back.exit.now ≡ length back.entry.now)
-                × AreIdle (cell_id cell.entry.now) (Some 7) total middle back.exit.now }
-        { work_all(rt, cell, back, middle, total) },
+                × AreIdle (cell_id cell.entry.now) (Some 7) total back.exit.now }
+        { work_all(rt, cell, back, total) },
     );
 }
 
@@ -159,7 +145,7 @@ fn worked<R: Threads + Wait + Sync>(rt: &R, alloc: Global, total: u32) -> Result
         words: [0, 0],
     };
     let (cell, mut seats) = TurnCell::open(alloc, value, &[0, 0], total)?;
-    work_all(rt, &cell, seats.as_mut_slice(), 0, total);
+    work_all(rt, &cell, seats.as_mut_slice(), total);
     Ok(cell.close(seats))
 }
 

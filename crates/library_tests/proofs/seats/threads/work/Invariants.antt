@@ -6,4 +6,4 @@ use Rattle.library_tests.proofs.seats.threads.work.Given as goal
 abbrev pub invariant-loop : goal.invariant-loop
 invariant-loop g l =
     (goal.iterator-loop g).can_next l.iterator' × (goal.iterator-loop g).is_finite l.iterator'
-    × IsIdle (cell_id l.cell) (Some 7) l.total l.number l.seat
+    × IsIdle (cell_id l.cell) (Some 7) l.total l.seat
