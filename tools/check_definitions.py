@@ -46,7 +46,7 @@ OTHERWISE = {
     "hex_digit": "in `four_spins`", "rank": "the lock's progress word, of which no text and no bytes are made",
     "turns": "a number in proofs; the definition is `has_turn`", "sum_below": "Python's `sum`",
     "recorded_epochs": "a number of rows, which the lists have by themselves",
-    "run_report": "`uneven_report` of what a run was opened with", "flattened": "a packed state's own parts",
+    "bank_report": "`uneven_report` of what a run was opened with", "flattened": "a packed state's own parts",
     "BanksStand": "of packed states", "BanksFit": "of packed states", "banks_parts": "of packed states",
     "potts_sweep_words": "of the Potts glass: tools/plain_potts.py",
     "potts_start_words": "of the Potts glass: tools/plain_potts.py",

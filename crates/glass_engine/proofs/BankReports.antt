@@ -1,35 +1,178 @@
--- The report of banks that were driven is that of their runs.
-use Rattle.std.proofs.Common.{arith, ◌≡◌, inl, inr, ℕ, ◌+◌, ◌-◌, ◌*◌, ◌/◌, ◌<◌, ◌≤◌, Bool, cond, List, [], ◌∷◌, ◌++◌, length, map, drop, get_or, refl, sym, ap, ap₂, ◌∙◌, subst, append_assoc}
-use Rattle.std.specs.Prelude.{All}
-use Rattle.std.proofs.lemmas.Bool.{cases_lt}
-use Rattle.std.proofs.lemmas.List.{length-map}
+-- The report of banks that were driven, from what each ended with.
+use Rattle.std.proofs.Common.{arith, ◌≡◌, ℕ, suc, ◌+◌, ◌-◌, ◌*◌, ◌<◌, ◌≤◌, min, nat_lt, cond, List, [], ◌∷◌, ◌++◌, length, map, drop, get_or, refl, sym, ap, ap₂, ◌∙◌, subst, append_assoc}
+use Rattle.std.specs.Prelude.{All, ◌&&◌, ◌==◌}
+use Rattle.std.proofs.lemmas.List.{length-map, take-append-drop}
 use Rattle.std.proofs.lemmas.List.Elements.{All-cons, All-nil, All-head, All-tail, All-get_or}
 use Rattle.report_text.specs.Lines.{header_line, end_line}
 use Rattle.run_checkpoint.specs.Encoding.{flattened}
 use Rattle.run_plan.specs.declared.run_file.Orders.{Orders}
 use Rattle.scalar_rule.specs.Plan.{Plan, slots_of, IsLawfulPlan}
 use Rattle.scalar_rule.specs.Records.{in_order}
-use Rattle.scalar_rule.specs.Serial.{serial}
+use Rattle.scalar_rule.specs.Positions.{floor_of, uneven_records}
+use Rattle.scalar_rule.specs.Ragged.{all_ready}
+use Rattle.scalar_rule.specs.declared.sample.Record.{Record}
 use Rattle.scalar_rule.specs.declared.sample.PlainSlot.{PlainSlot}
-use Rattle.scalar_rule.specs.declared.sample.Sample.{Sample}
 use Rattle.plane_sweep.specs.Packed.{part, FitsDuo}
-use Rattle.plane_sweep.specs.Uneven.{uneven_part, level_stand}
-use Rattle.glass_engine.specs.BankPieces.{banks_in, own_measured, HasRowsFrom, AreRowsFrom, ended_slots, HasSpins, HaveSpins, IsPlanOf, IsFinished, banks_tail}
-use Rattle.glass_engine.specs.declared.bank_report.Finished.{Finished}
-use Rattle.glass_engine.specs.BankRuns.{bank_of, for_samples, plans_of, runs_of, samples_in, runs_report}
-use Rattle.glass_engine.specs.Banks.{Bank, of_sample, banks_measured, banks_slots, banks_report}
-use Rattle.glass_engine.specs.KeptBanks.{saved_as, done_as, Shared, IsBankRun, HaveSamples, AreBankRuns}
+use Rattle.plane_sweep.specs.Uneven.{uneven_part, positions_of}
+use Rattle.plane_sweep.specs.declared.uneven.RaggedStand.{RaggedStand}
+use Rattle.plane_sweep.proofs.LevelStands.{level-floor}
+use Rattle.exchange_board.specs.declared.origin.Origin.{Origin}
+use Rattle.exchange_board.specs.Answers.{stages_of}
+use Rattle.exchange_board.specs.Content.{plan_of, slots_in, rows_before}
+use Rattle.exchange_board.specs.Machine.{AllEnded}
+use Rattle.glass_engine.specs.Banks.{of_sample}
+use Rattle.glass_engine.specs.BankRuns.{bank_of, for_samples, runs_of, samples_in, own_measured, run_measured, run_slots, floor_before, floor_after, report_by, run_report, Course, IsAbreast, HaveSamples, AreAbreast}
+use Rattle.glass_engine.specs.KeptBanks.{saved_as, done_as, Shared, IsBankRun, AreBankRuns}
 use Rattle.glass_engine.specs.Laws.{IsSerial}
-use Rattle.glass_engine.specs.Report.{rows_in_order, all_spins}
-use Rattle.glass_engine.specs.Runs.{RunView, DoneView, IsEnd}
+use Rattle.glass_engine.specs.RecordPieces.{HasRowsFrom, AreRowsFrom, HasSpins}
+use Rattle.glass_engine.specs.Report.{rows_in_order, all_spins, uneven_measured}
+use Rattle.glass_engine.specs.Runs.{RunView, DoneView, starts, IsEnd}
 use Rattle.glass_engine.specs.declared.run.SaveKind.{SaveKind}
-use Rattle.glass_engine.proofs.BankDrives.{bank-plan, runs-done}
-use Rattle.glass_engine.proofs.BankLaws.{of-first, of-next}
-use Rattle.glass_engine.proofs.BankRows.{ended-first, ended-next, sample-within}
-use Rattle.glass_engine.proofs.Reporting.{spins-same}
-use Rattle.glass_engine.proofs.WholeRuns.{level-serial}
+use Rattle.glass_engine.proofs.Reporting.{stop-floor, floor-ended}
+use Rattle.glass_engine.proofs.WholeRuns.{whole-slots, whole-floor, level-serial}
 
--- ---- what a bank ended with
+-- ---- the rows and the spins of a bank
+
+module _ (course : Course) (d : DoneView) (a : IsAbreast course d) where
+  abbrev o : Origin
+  o = d.ended.origin
+
+  bank-rows : (slots : ℕ) → slots ≡ course.slots → HasRowsFrom slots course.every course.from course.to 0 d
+  unfolding part
+  bank-rows slots same =
+      let run = d.run in
+      let n = run.orders.samples in
+      let e = a.ended in
+      let count = rows_before o (floor_after d) * o.window.samples * slots_in o in
+      let rows : Plan → RaggedStand → ℕ → ℕ → List Record = λ p base k v. uneven_records p (λ b. uneven_part p.size b base) base.pending k v (floor_after d) in
+      let none : 0 * (n * slots) ≡ 0 = grind arith in
+      record {
+        slots_are = a.slots ∙ sym same;
+        more = drop count d.ended.records;
+        records = ap (λ k. drop k d.ended.records) none ∙ sym (take-append-drop count d.ended.records)
+            ∙ ap (λ xs. xs ++ drop count d.ended.records) (e.stop.records
+            ∙ ap₂ (λ p base. rows p base o.window.samples o.window.every) e.origin.plan_is e.origin.base_is
+            ∙ ap₂ (rows run.plan run.base) e.origin.samples_is (e.origin.every_is ∙ a.every)
+            ∙ ap₂ (in_order (uneven_measured run.plan (starts run) run.base.pending n course.every) n course.every) a.from a.to
+            ∙ ap (λ v. in_order (uneven_measured run.plan (starts run) run.base.pending n v) n course.every course.from course.to) (sym a.every));
+      }
+
+  bank-spins : (plan : Plan) → plan.size ≡ course.size → slots_of plan ≡ course.slots → course.to ≡ course.until → HasSpins plan course.to d
+  unfolding part
+  bank-spins plan size slots full =
+      let run = d.run in
+      let e = a.ended in
+      let F : ℕ → Type 0 = λ l. All (FitsDuo l) d.ended.stand.slots in
+      let own : (plan_of o).size ≡ plan.size = ap (λ (p : Plan). p.size) e.origin.plan_is ∙ a.size ∙ sym size in
+      let until : o.window.until ≡ course.to = e.origin.until_is ∙ a.until ∙ sym full in
+      let ended = floor-ended o d.ended e.lawful e.stop (a.to ∙ sym until) in
+      let ready : ℕ → Plan → RaggedStand → ℕ → List PlainSlot = λ m p base k. (all_ready p (uneven_part p.size m base) k).slots in
+      record {
+        count = e.stop.fits.slots ∙ ap slots_of e.origin.plan_is ∙ a.slots ∙ sym slots;
+        fits = subst F own e.stop.fits.each_slot;
+        slots = λ m small. ap₂ (λ p base. ready m p base course.to) (sym e.origin.plan_is) (sym e.origin.base_is) ∙ ap (ready m (plan_of o) o.base) (sym until)
+            ∙ sym (whole-slots o d.ended m e.stop ended small) ∙ ap (λ l. (uneven_part l m d.ended.stand).slots) own;
+      }
+
+-- ---- of all banks
+
+-- how many samples they print, where the last bank is k
+pub samples-last : (n : ℕ) (ds : List DoneView) (k : ℕ) (x : DoneView) → HaveSamples n (runs_of ds) → length ds ≡ k + 1 → x ≡ get_or ds k x → 1 ≤ x.run.orders.samples
+    → n ≡ 64 * k + x.run.orders.samples
+unfolding HaveSamples
+samples-last n [] k x all long is some = absurd (omega arith)
+samples-last n (d ∷ []) k x all long is some =
+    let first : k ≡ 0 = omega arith in
+    let own : x.run.orders.samples ≡ min n 64 = ap (λ (y : DoneView). y.run.orders.samples) (is ∙ ap (λ j. get_or (d ∷ []) j x) first) ∙ all.0 in
+    omega (arith, all.1)
+samples-last n (d ∷ c ∷ ds) k x all long is some =
+    let next : k ≡ suc (k - 1) = omega arith in
+    let rest = samples-last (n - 64) (c ∷ ds) (k - 1) x all.1 (omega arith) (is ∙ ap (λ j. get_or (d ∷ c ∷ ds) j x) next) some in
+    omega arith
+
+report-first : (ds : List DoneView) (d : DoneView) → 0 < length ds → d ≡ get_or ds 0 d → run_report ds ≡ report_by d ds
+unfolding run_report
+report-first [] d some is = absurd (omega arith)
+report-first (x ∷ ds) d some is = ap (λ y. report_by y (x ∷ ds)) (sym is)
+
+module _ (ds : List DoneView) (a : AreAbreast ds) (d : DoneView) (d_is : d ≡ get_or ds 0 d) where
+  known : IsAbreast a.course d
+  known =
+      let P : DoneView → Type 0 = IsAbreast a.course in
+      subst P (sym d_is) (All-get_or P ds 0 d (omega (arith, a.some)) a.each)
+
+  pub ended-until : d.ended.origin.window.until ≡ d.run.until
+  ended-until = known.ended.origin.until_is
+
+  module _ (plan : Plan) (plan_is : plan ≡ d.run.plan) (orders : Orders) (orders_are : orders ≡ for_samples (samples_in (runs_of ds)) d.run.orders)
+      (from to until : ℕ) (from_is : from ≡ floor_before d) (to_is : to ≡ floor_after d) (until_is : until ≡ d.run.until) where
+    count : orders.samples ≡ samples_in (runs_of ds)
+    count = ap (λ (r : Orders). r.samples) orders_are
+
+    samples : HaveSamples orders.samples (runs_of ds)
+    samples = subst (λ n. HaveSamples n (runs_of ds)) (sym count) a.samples
+
+    pub rows-start : (slots : ℕ) → slots ≡ slots_of plan → IsLawfulPlan plan → AreRowsFrom ds orders slots from to 0
+    rows-start slots is lawful =
+        let e = known.ended in
+        let every : orders.every ≡ a.course.every = ap (λ (r : Orders). r.every) orders_are ∙ known.every in
+        let own : slots ≡ a.course.slots = is ∙ ap slots_of plan_is ∙ known.slots in
+        let since : floor_before d ≤ floor_after d = subst (λ (r : RaggedStand). floor_of (positions_of r) ≤ floor_after d) e.origin.base_is e.stop.from in
+        let upto = stop-floor d.ended.origin d.ended e.lawful e.stop in
+        let P : ℕ → ℕ → ℕ → DoneView → Type 0 = λ v c z x. HasRowsFrom slots v c z 0 x in
+        let each : (v c z : ℕ) → v ≡ a.course.every → c ≡ a.course.from → z ≡ a.course.to → All (P v c z) ds =
+        λ v c z vs cs zs k x h. subst (λ y. P y c z (get_or ds k x)) (sym vs) (subst (λ y. P a.course.every y z (get_or ds k x)) (sym cs) (subst (λ y. P a.course.every a.course.from y (get_or ds k x)) (sym zs)
+        (bank-rows a.course (get_or ds k x) (a.each k x h) slots own))) in
+        record {
+          some_every = let z = e.stop.fits.some_every in let y = e.origin.every_is in let x = known.every in omega arith;
+          some_slots = omega (arith, lawful.rules.some);
+          few_slots = omega (arith, lawful.rules.few);
+          from = omega arith;
+          short = let z = e.lawful.until in omega arith;
+          counted = omega arith;
+          each = each orders.every from to every (from_is ∙ known.from) (to_is ∙ known.to);
+          samples = samples;
+        }
+
+    pub spins-start : to ≡ until → All (HasSpins plan to) ds × HaveSamples orders.samples (runs_of ds)
+    spins-start full =
+        let size : plan.size ≡ a.course.size = ap (λ (p : Plan). p.size) plan_is ∙ known.size in
+        let slots : slots_of plan ≡ a.course.slots = ap slots_of plan_is ∙ known.slots in
+        let there : to ≡ a.course.to = to_is ∙ known.to in
+        let last : a.course.to ≡ a.course.until = sym there ∙ full ∙ until_is ∙ known.until in (
+          λ k x h. subst (λ e. HasSpins plan e (get_or ds k x)) (sym there) (bank-spins a.course (get_or ds k x) (a.each k x h) plan size slots last),
+          samples,
+        )
+
+    pub report-is : run_report ds
+        ≡ header_line plan orders.samples from to ++ rows_in_order (run_measured ds) orders.samples orders.every from to
+        ++ (end_line to ++ cond (orders.spins && (to == until)) (all_spins plan orders.samples (run_slots to ds)) [])
+    report-is =
+        let parts : Plan → Orders → ℕ → ℕ → ℕ → List ℕ = λ p r c z u.
+        header_line p r.samples c z ++ rows_in_order (run_measured ds) r.samples r.every c z ++ end_line z ++ cond (r.spins && (z == u)) (all_spins p r.samples (run_slots z ds)) [] in
+        report-first ds d (omega (arith, a.some)) d_is
+        ∙ ap₂ (λ p r. parts p r (floor_before d) (floor_after d) d.run.until) (sym plan_is) (sym orders_are)
+        ∙ ap₂ (λ c z. parts plan orders c z d.run.until) (sym from_is) (sym to_is)
+        ∙ ap (parts plan orders from to) (sym until_is)
+        ∙ append_assoc (header_line plan orders.samples from to ++ rows_in_order (run_measured ds) orders.samples orders.every from to) (end_line to)
+        (cond (orders.spins && (to == until)) (all_spins plan orders.samples (run_slots to ds)) [])
+
+-- ---- one bank
+
+pub one-abreast : (d : DoneView) → IsEnd d.run d.ended → AreAbreast (d ∷ [])
+unfolding HaveSamples samples_in
+one-abreast d e =
+    let few : d.run.orders.samples ≤ 64 = let z = e.stop.fits.few_samples in let y = e.origin.samples_is in omega arith in
+    let course : Course = record { size = d.run.plan.size; slots = slots_of d.run.plan; every = d.run.orders.every; from = floor_before d; to = floor_after d; until = d.run.until } in
+    record {
+      some = omega arith;
+      few = omega arith;
+      course = course;
+      each = All-cons (IsAbreast course) d [] (record { ended = e; size = refl; slots = refl; every = refl; from = refl; to = refl; until = refl }) (All-nil (IsAbreast course));
+      samples = (omega arith, omega arith);
+    }
+
+-- ---- the banks of a run that isn't to stop
 
 -- what is known of each bank
 pub record IsBankEnd (shared : Shared) (orders : Orders) (d : DoneView) : Type 0 where
@@ -43,78 +186,26 @@ runs-at P (d ∷ ds) all = All-cons (λ (d : DoneView). P d.run) d ds (All-head 
 pub bank-ends : (orders : Orders) (ds : List DoneView) (runs : AreBankRuns orders (runs_of ds)) → All (λ (d : DoneView). IsEnd d.run d.ended) ds → All (IsBankEnd runs.shared orders) ds
 bank-ends orders ds runs ended = λ k d h. record { run = runs-at (IsBankRun runs.shared orders) ds runs.each k d h; ended = ended k d h }
 
-module _ (shared : Shared) (orders : Orders) (d : DoneView) (e : IsBankEnd shared orders d) where
-  pub serial-end : IsSerial d.run (bank_of d.run).start d.ended
-  serial-end = level-serial d.run (flattened d.run.base) d.ended e.run.takes e.run.level e.run.fits e.ended
+pub serial-end : (shared : Shared) (orders : Orders) (d : DoneView) → IsBankEnd shared orders d → IsSerial d.run (bank_of d.run).start d.ended
+serial-end shared orders d e = level-serial d.run (flattened d.run.base) d.ended e.run.takes e.run.level e.run.fits e.ended
 
-  bank-rows : (slots : ℕ) → shared.slots ≡ slots → HasRowsFrom slots orders.every shared.from shared.until 0 d
-  unfolding part
-  bank-rows slots same =
-      let n = d.run.orders.samples in
-      let none : 0 * (n * slots) ≡ 0 = grind arith in
-      record {
-        slots_are = e.run.slots ∙ same;
-        records = ap (λ k. drop k d.ended.records) none ∙ serial-end.records
-            ∙ ap₂ (λ v c. in_order (own_measured d.run) n v c d.run.until) e.run.every e.run.from
-            ∙ ap (in_order (own_measured d.run) n orders.every shared.from) e.run.until;
-      }
-
-  bank-spins : (plan : Plan) → plan.size ≡ shared.size → slots_of plan ≡ shared.slots → HasSpins plan d
-  bank-spins plan size slots =
-      let F : ℕ → Type 0 = λ l. All (FitsDuo l) d.ended.stand.slots in
-      let own : d.ended.origin.window.until ≡ d.run.until = e.ended.origin.until_is in
-      let fits = e.ended.stop.fits in
-      let at = e.ended.origin.plan_is in
-      record {
-        count = fits.slots ∙ ap (λ (p : Plan). slots_of p) at ∙ e.run.slots ∙ sym slots;
-        fits = subst F (ap (λ (p : Plan). p.size) at ∙ e.run.size ∙ sym size) fits.each_slot;
-      }
-
-  bank-slots : (l b : ℕ) → l ≡ shared.size → b < 64 → (serial d.run.plan ((bank_of d.run).start b) shared.until).slots ≡ (uneven_part l b d.ended.stand).slots
-  unfolding part
-  bank-slots l b size small =
-      ap (λ k. (serial d.run.plan ((bank_of d.run).start b) k).slots) (sym e.run.until)
-      ∙ sym (ap (λ (x : Sample). x.slots) (serial-end.stand b small))
-      ∙ ap (λ k. (uneven_part k b d.ended.stand).slots) (e.run.size ∙ sym size)
-
--- ---- of all banks
-
-pub rows-start : (orders : Orders) (ds : List DoneView) (runs : AreBankRuns orders (runs_of ds)) (slots : ℕ) → All (λ (d : DoneView). IsEnd d.run d.ended) ds → runs.shared.slots ≡ slots → 1 ≤ slots → slots ≤ 32
-    → AreRowsFrom ds orders slots runs.shared.from runs.shared.until 0
-rows-start orders ds runs slots ended same some few = record {
-  some_every = runs.orders_are.some_every;
-  some_slots = some;
-  few_slots = few;
-  from = runs.in_time;
-  short = runs.short;
-  counted = omega arith;
-  each = λ k d h. bank-rows runs.shared orders (get_or ds k d) (bank-ends orders ds runs ended k d h) slots same;
-  samples = runs.samples;
-}
-
-pub spins-start : (orders : Orders) (ds : List DoneView) (runs : AreBankRuns orders (runs_of ds)) (plan : Plan) → All (λ (d : DoneView). IsEnd d.run d.ended) ds → plan.size ≡ runs.shared.size
-    → slots_of plan ≡ runs.shared.slots → HaveSpins ds plan orders.samples
-spins-start orders ds runs plan ended size slots = record {
-  each = λ k d h. bank-spins runs.shared orders (get_or ds k d) (bank-ends orders ds runs ended k d h) plan size slots;
-  samples = runs.samples;
-}
-
-slots-ended : (shared : Shared) (orders : Orders) (l : ℕ) → l ≡ shared.size → (ds : List DoneView) → All (IsBankEnd shared orders) ds → (b : ℕ)
-    → banks_slots (banks_in ds) shared.until b ≡ ended_slots l ds b
-unfolding of_sample ended_slots
-slots-ended shared orders l size [] ends b = refl
-slots-ended shared orders l size (d ∷ ds) ends b =
-    let give : Bank → ℕ → List PlainSlot = λ bank m. (serial bank.plan (bank.start m) shared.until).slots in
-    elim (cases_lt b 64) [
-      | inl below ↦
-          of-first [] give (bank_of d.run) (banks_in ds) b below
-          ∙ bank-slots shared orders d (All-head (IsBankEnd shared orders) d ds ends) l b size below
-          ∙ sym (ended-first l d ds b below)
-      | inr past ↦
-          of-next [] give (bank_of d.run) (banks_in ds) b past
-          ∙ slots-ended shared orders l size ds (All-tail (IsBankEnd shared orders) d ds ends) (b - 64)
-          ∙ sym (ended-next l d ds b past)
-    ]
+bank-abreast : (shared : Shared) (orders : Orders) (d : DoneView) → IsBankEnd shared orders d
+    → IsAbreast (record { size = shared.size; slots = shared.slots; every = orders.every; from = shared.from; to = shared.until; until = shared.until }) d
+bank-abreast shared orders d e =
+    let o = d.ended.origin in
+    let some : 0 < slots_of d.run.plan = subst (λ (p : Plan). 0 < slots_of p) e.ended.origin.plan_is e.ended.lawful.plan.rules.some in
+    let long : 0 < length (flattened d.run.base).slots = omega (arith, e.run.fits.slots, some) in
+    let U : ℕ → Type 0 = λ k. AllEnded k (stages_of d.ended.stand) in
+    let all = subst U (sym e.ended.origin.until_is) (serial-end shared orders d e).places in
+    record {
+      ended = e.ended;
+      size = e.run.size;
+      slots = e.run.slots;
+      every = e.run.every;
+      from = ap (λ (r : RaggedStand). floor_of (positions_of r)) e.run.level ∙ (level-floor (flattened d.run.base) long).0 ∙ e.run.from;
+      to = whole-floor o d.ended e.ended.stop e.ended.lawful.plan.rules.some all ∙ e.ended.origin.until_is ∙ e.run.until;
+      until = e.run.until;
+    }
 
 samples-are : (n : ℕ) (runs : List RunView) → HaveSamples n runs → samples_in runs ≡ n
 unfolding HaveSamples samples_in
@@ -124,100 +215,17 @@ samples-are n (run ∷ runs) all =
     let own = all.0 in
     omega arith
 
--- the four parts of the report
-pub report-is : (orders : Orders) (ds : List DoneView) (runs : AreBankRuns orders (runs_of ds)) → All (λ (d : DoneView). IsEnd d.run d.ended) ds → (d : DoneView) → d ≡ get_or ds 0 d → (plan : Plan) → plan ≡ d.run.plan
-    → (from to : ℕ) → from ≡ runs.shared.from → to ≡ runs.shared.until
-    → runs_report (runs_of ds)
-    ≡ header_line plan orders.samples from to ++ rows_in_order (banks_measured (banks_in ds)) orders.samples orders.every from to ++ end_line to
-    ++ cond orders.spins (all_spins plan orders.samples (ended_slots plan.size ds)) []
-unfolding runs_report banks_report part
-report-is orders [] runs ended d d_is plan plan_is from to from_is to_is = absurd (let z = runs.orders_are.some_banks in omega arith)
-report-is orders (x ∷ ds) runs ended d d_is plan plan_is from to from_is to_is =
-    let all = x ∷ ds in
-    let shared = runs.shared in
-    let ends = bank-ends orders all runs ended in
-    let first = (All-head (IsBankEnd shared orders) x ds ends).run in
-    let banks = banks_in all in
-    let parts : Plan → ℕ → ℕ → ℕ → ℕ → Bool → List ℕ = λ p n v c e s.
-    header_line p n c e ++ rows_in_order (banks_measured banks) n v c e ++ end_line e ++ cond s (all_spins p n (banks_slots banks e)) [] in
-    let own : plan ≡ x.run.plan = plan_is ∙ ap (λ (z : DoneView). z.run.plan) d_is in
-    let size : plan.size ≡ shared.size = ap (λ (p : Plan). p.size) own ∙ first.size in
-    let n = orders.samples in
-    let v = orders.every in
-    let spins = spins-same plan n (banks_slots banks shared.until) (ended_slots plan.size all) (λ b below. slots-ended shared orders plan.size size all ends b) in
-    ap₂ (λ p k. parts p k x.run.orders.every (flattened x.run.base).epoch x.run.until x.run.orders.spins) (sym own) (samples-are n (runs_of all) runs.samples)
-    ∙ ap₂ (λ k c. parts plan n k c x.run.until x.run.orders.spins) first.every first.from
-    ∙ ap₂ (λ e s. parts plan n v shared.from e s) first.until first.spins
-    ∙ ap (λ xs. header_line plan n shared.from shared.until ++ rows_in_order (banks_measured banks) n v shared.from shared.until ++ end_line shared.until ++ cond orders.spins xs []) spins
-    ∙ ap₂ (λ c e. header_line plan n c e ++ rows_in_order (banks_measured banks) n v c e ++ end_line e ++ cond orders.spins (all_spins plan n (ended_slots plan.size all)) []) (sym from_is) (sym to_is)
-
--- ---- what the parts ask for
-
-pub spins-at : (ds : List DoneView) (plan : Plan) (n b : ℕ) (x : DoneView) → HaveSpins ds plan n → b < n → x ≡ get_or ds (b / 64) x → HasSpins plan x
-spins-at ds plan n b x have below is =
-    subst (HasSpins plan) (sym is) (All-get_or (HasSpins plan) ds (b / 64) x (sample-within n ds b have.samples below) have.each)
-
-some-banks : (orders : Orders) (ds : List DoneView) → AreBankRuns orders (runs_of ds) → 0 < length ds
-some-banks orders ds runs = let z = runs.orders_are.some_banks in let y = length-map ds (λ (x : DoneView). x.run) in omega arith
-
-pub first-plan : {X : Type 0} (f : X → Plan) (plans : List X) (orders : Orders) (ds : List DoneView) → AreBankRuns orders (runs_of ds) → map f plans ≡ plans_of (runs_of ds)
-    → (p : X) → p ≡ get_or plans 0 p → (plan : Plan) → plan ≡ f p → IsPlanOf ds plan
-first-plan f plans orders ds runs same p p_is plan plan_is = λ d d_is. plan_is ∙ bank-plan f plans ds same 0 (some-banks orders ds runs) p p_is d d_is
-
-module _ (orders : Orders) (ds : List DoneView) (runs : AreBankRuns orders (runs_of ds)) (ended : All (λ (d : DoneView). IsEnd d.run d.ended) ds) (plan : Plan) (plan_is : IsPlanOf ds plan)
-    (d : DoneView) (d_is : d ≡ get_or ds 0 d) where
-  some : 0 < length ds
-  some = some-banks orders ds runs
-
-  own : plan ≡ d.run.plan
-  own = plan_is d d_is
-
-  known : IsBankEnd runs.shared orders d
-  known =
-      let P : DoneView → Type 0 = IsBankEnd runs.shared orders in
-      subst P (sym d_is) (All-get_or P ds 0 d some (bank-ends orders ds runs ended))
-
-  slots-are : slots_of plan ≡ runs.shared.slots
-  slots-are = ap (λ (q : Plan). slots_of q) own ∙ known.run.slots
-
-  pub put-level : d.run.base ≡ level_stand (flattened d.run.base)
-  put-level = known.run.level
-
-  pub put-spins : HaveSpins ds plan orders.samples
-  put-spins = spins-start orders ds runs plan ended (ap (λ (q : Plan). q.size) own ∙ known.run.size) slots-are
-
-  module _ (from to : ℕ) (from_is : from ≡ (flattened d.run.base).epoch) (to_is : to ≡ d.ended.origin.window.until) where
-    from-shared : from ≡ runs.shared.from
-    from-shared = from_is ∙ known.run.from
-
-    to-shared : to ≡ runs.shared.until
-    to-shared = to_is ∙ known.ended.origin.until_is ∙ known.run.until
-
-    pub put-rows : (slots : ℕ) → slots ≡ slots_of plan → IsLawfulPlan plan → AreRowsFrom ds orders slots from to 0
-    put-rows slots is lawful =
-        let start = rows-start orders ds runs slots ended (sym (is ∙ slots-are)) (omega (arith, lawful.rules.some)) (omega (arith, lawful.rules.few)) in
-        subst (λ c. AreRowsFrom ds orders slots c to 0) (sym from-shared) (subst (λ e. AreRowsFrom ds orders slots runs.shared.from e 0) (sym to-shared) start)
-
-    pub put-is : runs_report (runs_of ds)
-        ≡ header_line plan orders.samples from to ++ rows_in_order (banks_measured (banks_in ds)) orders.samples orders.every from to ++ banks_tail plan ds orders to
-    put-is =
-        report-is orders ds runs ended d d_is plan own from to from-shared to-shared
-        ∙ append_assoc (header_line plan orders.samples from to ++ rows_in_order (banks_measured (banks_in ds)) orders.samples orders.every from to) (end_line to)
-        (cond orders.spins (all_spins plan orders.samples (ended_slots plan.size ds)) [])
-
-pub finished-spins : (f : Finished) → IsFinished f → HaveSpins f.driven.now f.plan.now f.orders.now.samples
-finished-spins f finished = have f.driven.now refl
-  where
-    have : (ds : List DoneView) → ds ≡ f.driven.now → HaveSpins f.driven.now f.plan.now f.orders.now.samples
-    have [] is = absurd (let some = some-banks f.orders.now f.driven.now finished.runs in omega (arith, ap length is))
-    have (d ∷ ds) is = put-spins f.orders.now f.driven.now finished.runs finished.ended f.plan.now finished.plan d (ap (λ xs. get_or xs 0 d) is)
-
-pub some-plans : {X : Type 0} (f : X → Plan) (plans : List X) (orders : Orders) (ds : List DoneView) → AreBankRuns orders (runs_of ds) → map f plans ≡ plans_of (runs_of ds) → 0 < length plans
-some-plans f plans orders ds runs same =
-    let some = runs.orders_are.some_banks in
-    let own = length-map plans f in
-    let theirs = length-map (runs_of ds) (λ (run : RunView). run.plan) in
-    omega (arith, ap length same)
+pub banks-abreast : (orders : Orders) (ds : List DoneView) → AreBankRuns orders (runs_of ds) → All (λ (d : DoneView). IsEnd d.run d.ended) ds → AreAbreast ds
+banks-abreast orders ds runs ended =
+    let long = length-map ds (λ (x : DoneView). x.run) in
+    let s = runs.shared in
+    record {
+      some = let z = runs.orders_are.some_banks in omega arith;
+      few = let z = runs.orders_are.few_banks in omega arith;
+      course = record { size = s.size; slots = s.slots; every = orders.every; from = s.from; to = s.until; until = s.until };
+      each = λ k d h. bank-abreast s orders (get_or ds k d) (bank-ends orders ds runs ended k d h);
+      samples = subst (λ n. HaveSamples n (runs_of ds)) (sym (samples-are orders.samples (runs_of ds) runs.samples)) runs.samples;
+    }
 
 -- ---- which checkpoint is to be saved is not told
 
@@ -225,16 +233,26 @@ pub banks-saved : (kind : SaveKind) (runs : List RunView) → map bank_of (map (
 banks-saved kind [] = refl
 banks-saved kind (run ∷ runs) = ap (λ banks. bank_of run ∷ banks) (banks-saved kind runs)
 
-samples-saved : (kind : SaveKind) (runs : List RunView) → samples_in (map (saved_as kind) runs) ≡ samples_in runs
+of-saved : {A : Type 0} (none : A) (give : DoneView → ℕ → A) (kind : SaveKind) (ds : List DoneView) (b : ℕ)
+    → of_sample none give (map (done_as kind) ds) b ≡ of_sample none (λ d m. give (done_as kind d) m) ds b
+unfolding of_sample
+of-saved none give kind [] b = refl
+of-saved none give kind (d ∷ ds) b = ap (cond (nat_lt b 64) (give (done_as kind d) b)) (of-saved none give kind ds (b - 64))
+
+samples-saved : (kind : SaveKind) (ds : List DoneView) → samples_in (runs_of (map (done_as kind) ds)) ≡ samples_in (runs_of ds)
 unfolding samples_in
 samples-saved kind [] = refl
-samples-saved kind (run ∷ runs) = ap (λ n. run.orders.samples + n) (samples-saved kind runs)
+samples-saved kind (d ∷ ds) = ap (λ n. d.run.orders.samples + n) (samples-saved kind ds)
 
-report-saved : (kind : SaveKind) (runs : List RunView) → runs_report (map (saved_as kind) runs) ≡ runs_report runs
-unfolding runs_report
+pub report-saved : (kind : SaveKind) (ds : List DoneView) → run_report (map (done_as kind) ds) ≡ run_report ds
+unfolding run_report
 report-saved kind [] = refl
-report-saved kind (run ∷ runs) =
-    ap₂ (λ banks n. banks_report banks (for_samples n run.orders) run.until) (banks-saved kind (run ∷ runs)) (samples-saved kind (run ∷ runs))
-
-pub report-done : (kind : SaveKind) (ds view : List DoneView) → map (done_as kind) ds ≡ view → runs_report (runs_of ds) ≡ runs_report (runs_of view)
-report-done kind ds view is = sym (report-saved kind (runs_of ds)) ∙ sym (ap runs_report (runs-done kind ds)) ∙ ap (λ xs. runs_report (runs_of xs)) is
+report-saved kind (d ∷ ds) =
+    let own : List DoneView = map (done_as kind) (d ∷ ds) in
+    let text : ℕ → (ℕ → ℕ → List Record) → (ℕ → List PlainSlot) → List ℕ = λ n m s.
+    header_line d.run.plan n (floor_before d) (floor_after d) ++ rows_in_order m n d.run.orders.every (floor_before d) (floor_after d) ++ end_line (floor_after d)
+    ++ cond (d.run.orders.spins && (floor_after d == d.run.until)) (all_spins d.run.plan n s) [] in
+    let measured : run_measured own ≡ run_measured (d ∷ ds) = λ i. λ b f. of-saved [] (λ (x : DoneView) m. own_measured x.run m f) kind (d ∷ ds) b i in
+    let slots : run_slots (floor_after d) own ≡ run_slots (floor_after d) (d ∷ ds) =
+    λ i. λ b. of-saved [] (λ (x : DoneView) m. (all_ready x.run.plan (starts x.run m) (floor_after d)).slots) kind (d ∷ ds) b i in
+    ap (λ n. text n (run_measured own) (run_slots (floor_after d) own)) (samples-saved kind (d ∷ ds)) ∙ ap₂ (text (samples_in (runs_of (d ∷ ds)))) measured slots

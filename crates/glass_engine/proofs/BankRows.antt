@@ -1,25 +1,21 @@
 -- The rows of banks that were driven: the bank and the bit of a sample, and a bank's records one epoch after another.
-use Rattle.std.proofs.Common.{arith, ◌≡◌, inl, inr, ℕ, zero, suc, ◌+◌, ◌-◌, ◌*◌, ◌/◌, ◌%◌, ◌<◌, ◌≤◌, Bool, true, false, cond, min, nat_lt, List, [], ◌∷◌, ◌++◌, length, take, drop, get_or, sym, ap, ap₂, ◌∙◌, subst, length-drop}
+use Rattle.std.proofs.Common.{arith, ◌≡◌, inl, inr, ℕ, zero, suc, ◌+◌, ◌-◌, ◌*◌, ◌/◌, ◌%◌, ◌<◌, ◌≤◌, Bool, true, false, cond, min, List, [], ◌∷◌, ◌++◌, length, take, drop, get_or, sym, ap, ap₂, ◌∙◌, subst, length-drop}
 use Rattle.std.proofs.Math.Nat.{mul-le-mul_right}
-use Rattle.std.proofs.lemmas.Bool.{cases_lt, lt-ltb}
-use Rattle.std.proofs.lemmas.Bool.Decides.{nat_tests}
+use Rattle.std.proofs.lemmas.Bool.{cases_lt}
 use Rattle.std.proofs.lemmas.List.{drop-drop}
 use Rattle.std.proofs.lemmas.List.Elements.{All-get_or}
 use Rattle.spin_model.proofs.Tables.{length-table}
 use Rattle.scalar_rule.proofs.RecordedEpochs.{quotient-upto, recorded-more}
 use Rattle.run_plan.specs.declared.run_file.Orders.{Orders}
 use Rattle.scalar_rule.specs.Plan.{slots_of}
-use Rattle.scalar_rule.specs.Records.{is_recorded, records_at, in_order, measured_from}
+use Rattle.scalar_rule.specs.Records.{is_recorded, records_at, in_order}
 use Rattle.scalar_rule.specs.declared.sample.Record.{Record}
-use Rattle.plane_sweep.specs.Uneven.{uneven_part}
-use Rattle.glass_engine.specs.Banks.{Bank, of_sample, banks_measured}
-use Rattle.glass_engine.specs.BankPieces.{banks_in, own_measured, HasRowsFrom, AreRowsFrom, HaveNext, ended_slots}
-use Rattle.glass_engine.specs.BankRuns.{bank_of, runs_of}
-use Rattle.glass_engine.specs.KeptBanks.{HaveSamples}
+use Rattle.glass_engine.specs.Banks.{of_sample}
+use Rattle.glass_engine.specs.BankRuns.{own_measured, run_measured, runs_of, HaveSamples}
+use Rattle.glass_engine.specs.RecordPieces.{HasRowsFrom, AreRowsFrom, HaveNext}
 use Rattle.glass_engine.specs.Runs.{DoneView}
 use Rattle.glass_engine.proofs.BankLaws.{of-first, of-next}
-use Rattle.spin_model.proofs.Joined.{window-first}
-use Rattle.glass_engine.proofs.Pieces.{records_if, count_if, count-front, drop-front, piece-records_at}
+use Rattle.glass_engine.proofs.Pieces.{count_if, split-front, count-front, drop-front, piece-records_at}
 
 -- ---- the bank of a sample, and its bit there
 
@@ -47,45 +43,17 @@ sample-own n (d ∷ ds) b x all below is = elim (cases_lt b 64) [
       omega arith
 ]
 
-pub sample-is : {A : Type 0} (none : A) (give : Bank → ℕ → A) (ds : List DoneView) (b : ℕ) (x : DoneView) → b / 64 < length ds → x ≡ get_or ds (b / 64) x
-    → of_sample none give (banks_in ds) b ≡ give (bank_of x.run) (b % 64)
+pub sample-is : {A B : Type 0} (none : A) (give : B → ℕ → A) (xs : List B) (b : ℕ) (x : B) → b / 64 < length xs → x ≡ get_or xs (b / 64) x → of_sample none give xs b ≡ give x (b % 64)
 sample-is none give [] b x within is = absurd (omega arith)
-sample-is none give (d ∷ ds) b x within is = elim (cases_lt b 64) [
+sample-is none give (y ∷ ys) b x within is = elim (cases_lt b 64) [
   | inl first ↦
       let g : b / 64 ≡ 0 = omega arith in
       let m : b % 64 ≡ b = omega arith in
-      let own : x ≡ d = is ∙ ap (λ k. get_or (d ∷ ds) k x) g in
-      of-first none give (bank_of d.run) (banks_in ds) b first ∙ sym (ap₂ (λ (y : DoneView) k. give (bank_of y.run) k) own m)
+      of-first none give y ys b first ∙ sym (ap₂ give (is ∙ ap (λ k. get_or (y ∷ ys) k x) g) m)
   | inr past ↦
       let g : b / 64 ≡ suc ((b - 64) / 64) = omega arith in
       let m : b % 64 ≡ (b - 64) % 64 = omega arith in
-      let own : x ≡ get_or ds ((b - 64) / 64) x = is ∙ ap (λ k. get_or (d ∷ ds) k x) g in
-      of-next none give (bank_of d.run) (banks_in ds) b past ∙ sample-is none give ds (b - 64) x (omega arith) own ∙ sym (ap (give (bank_of x.run)) m)
-]
-
-pub ended-first : (l : ℕ) (d : DoneView) (ds : List DoneView) (b : ℕ) → b < 64 → ended_slots l (d ∷ ds) b ≡ (uneven_part l b d.ended.stand).slots
-unfolding ended_slots
-ended-first l d ds b below = ap (λ t. cond t (uneven_part l b d.ended.stand).slots (ended_slots l ds (b - 64))) (lt-ltb b 64 below)
-
-pub ended-next : (l : ℕ) (d : DoneView) (ds : List DoneView) (b : ℕ) → 64 ≤ b → ended_slots l (d ∷ ds) b ≡ ended_slots l ds (b - 64)
-unfolding ended_slots
-ended-next l d ds b past =
-    let is : nat_lt b 64 ≡ false = grind (arith, nat_tests) in
-    ap (λ t. cond t (uneven_part l b d.ended.stand).slots (ended_slots l ds (b - 64))) is
-
-pub ended-is : (l : ℕ) (ds : List DoneView) (b : ℕ) (x : DoneView) → b / 64 < length ds → x ≡ get_or ds (b / 64) x → ended_slots l ds b ≡ (uneven_part l (b % 64) x.ended.stand).slots
-ended-is l [] b x within is = absurd (omega arith)
-ended-is l (d ∷ ds) b x within is = elim (cases_lt b 64) [
-  | inl first ↦
-      let g : b / 64 ≡ 0 = omega arith in
-      let m : b % 64 ≡ b = omega arith in
-      let own : x ≡ d = is ∙ ap (λ k. get_or (d ∷ ds) k x) g in
-      ended-first l d ds b first ∙ sym (ap₂ (λ (y : DoneView) k. (uneven_part l k y.ended.stand).slots) own m)
-  | inr past ↦
-      let g : b / 64 ≡ suc ((b - 64) / 64) = omega arith in
-      let m : b % 64 ≡ (b - 64) % 64 = omega arith in
-      let own : x ≡ get_or ds ((b - 64) / 64) x = is ∙ ap (λ k. get_or (d ∷ ds) k x) g in
-      ended-next l d ds b past ∙ ended-is l ds (b - 64) x (omega arith) own ∙ sym (ap (λ k. (uneven_part l k x.ended.stand).slots) m)
+      of-next none give y ys b past ∙ sample-is none give ys (b - 64) x (omega arith) (is ∙ ap (λ k. get_or (y ∷ ys) k x) g) ∙ sym (ap (give x) m)
 ]
 
 -- ---- the records of a bank
@@ -116,7 +84,7 @@ module _ (slots every f to passed : ℕ) (d : DoneView) (rows : HasRowsFrom slot
   pub bank-within : is_recorded every f ≡ true → (m : ℕ) → m < d.run.orders.samples → 1 ≤ slots → (passed * d.run.orders.samples + m) * slots + slots ≤ length d.ended.records
   bank-within recorded m few some =
       let n = d.run.orders.samples in
-      let count = count-front (own_measured d.run) n slots every f to (drop front d.ended.records) sized below rows.records in
+      let count = count-front (own_measured d.run) n slots every f to (drop front d.ended.records) rows.more sized below rows.records in
       let all : count_if n slots every f ≡ n * slots = ap (λ t. cond t (n * slots) 0) recorded in
       let fits = record-within d.ended.records front m n slots few some (omega arith) in
       let at = place-of passed n m slots in
@@ -127,9 +95,9 @@ module _ (slots every f to passed : ℕ) (d : DoneView) (rows : HasRowsFrom slot
   bank-record recorded m few =
       let n = d.run.orders.samples in
       let own = own_measured d.run in
-      let later = in_order own n every (f + 1) to in
+      let later = in_order own n every (f + 1) to ++ rows.more in
       let split : drop front d.ended.records ≡ records_at own n f ++ later =
-      rows.records ∙ window-first (records_if own n every) f to below ∙ ap (λ t. cond t (records_at own n f) [] ++ later) recorded in
+      split-front own n every f to (drop front d.ended.records) rows.more below rows.records ∙ ap (λ t. cond t (records_at own n f) [] ++ later) recorded in
       ap (λ k. take slots (drop k d.ended.records)) (place-of passed n m slots)
       ∙ ap (take slots) (sym (drop-drop (m * slots) front d.ended.records))
       ∙ ap (λ xs. take slots (drop (m * slots) xs)) split
@@ -138,9 +106,10 @@ module _ (slots every f to passed : ℕ) (d : DoneView) (rows : HasRowsFrom slot
   pub bank-next : HasRowsFrom slots every (f + 1) to (passed + cond (is_recorded every f) 1 0) d
   bank-next =
       let n = d.run.orders.samples in
-      let behind = drop-front (own_measured d.run) n slots every f to (drop front d.ended.records) sized below rows.records in
+      let behind = drop-front (own_measured d.run) n slots every f to (drop front d.ended.records) rows.more sized below rows.records in
       record {
         slots_are = rows.slots_are;
+        more = rows.more;
         records = ap (λ k. drop k d.ended.records) (more (is_recorded every f) (n * slots)) ∙ sym (drop-drop (count_if n slots every f) front d.ended.records) ∙ behind;
       }
     where
@@ -204,7 +173,7 @@ module _ (ds : List DoneView) (orders : Orders) (slots f passed : ℕ) (next : H
     next-within =
         bank-within slots orders.every f next.to passed x has next.below recorded (b % 64) (sample-own orders.samples ds b x next.rows.samples small is) next.rows.some_slots
 
-    pub next-record : take slots (drop ((passed * x.run.orders.samples + b % 64) * slots) x.ended.records) ≡ banks_measured (banks_in ds) b f
+    pub next-record : take slots (drop ((passed * x.run.orders.samples + b % 64) * slots) x.ended.records) ≡ run_measured ds b f
     next-record =
         bank-record slots orders.every f next.to passed x has next.below recorded (b % 64) (sample-own orders.samples ds b x next.rows.samples small is)
-        ∙ sym (sample-is [] (λ bank m. measured_from bank.plan bank.start m f) ds b x next-bank is)
+        ∙ sym (sample-is [] (λ (d : DoneView) m. own_measured d.run m f) ds b x next-bank is)

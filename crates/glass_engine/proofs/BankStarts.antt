@@ -11,8 +11,8 @@ use Rattle.plane_sweep.specs.Packed.{StandFits}
 use Rattle.plane_sweep.specs.Uneven.{level_stand}
 use Rattle.plane_sweep.specs.declared.stand.Stand.{Stand}
 use Rattle.plane_sweep.specs.declared.uneven.Place.{Place}
-use Rattle.glass_engine.specs.BankRuns.{bank_run, bank_runs, for_samples, plans_of, AreBankOrders, AreBankStarts}
-use Rattle.glass_engine.specs.KeptBanks.{saved_as, Shared, IsBankRun, HaveSamples, AreBankRuns}
+use Rattle.glass_engine.specs.BankRuns.{bank_run, bank_runs, for_samples, plans_of, HaveSamples, AreBankOrders, AreBankStarts}
+use Rattle.glass_engine.specs.KeptBanks.{saved_as, Shared, IsBankRun, AreBankRuns}
 use Rattle.glass_engine.specs.declared.run.SaveKind.{SaveKind}
 
 -- ---- banks that are left

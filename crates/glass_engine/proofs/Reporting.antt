@@ -1,50 +1,36 @@
 -- The report by its four parts.
-use Rattle.std.proofs.Common.{arith, ◌≡◌, inl, inr, ℕ, suc, ◌+◌, ◌-◌, ◌*◌, ◌/◌, ◌<◌, ◌≤◌, Bool, true, false, cond, not, List, [], ◌∷◌, ◌++◌, length, take, Option, refl, sym, ap, ap₂, ◌∙◌, subst, append-nil, append_assoc}
+use Rattle.std.proofs.Common.{arith, ◌≡◌, inl, inr, ℕ, suc, ◌+◌, ◌*◌, ◌<◌, ◌≤◌, Bool, true, false, cond, not, List, [], ◌∷◌, ◌++◌, length, Option, refl, sym, ap, ap₂, ◌∙◌, subst}
 use Rattle.std.specs.Prelude.{◌==◌, ◌&&◌}
-use Rattle.std.proofs.Math.Nat.{mul-le-mul_right}
 use Rattle.std.proofs.lemmas.Bool.{cases_Bool, and_parts, eqb-true, eq-eqb, true_from_ne_false, true≢false, false≢true}
 use Rattle.std.proofs.lemmas.List.{length-map}
 use Rattle.std.proofs.lemmas.List.Folds.{list_all_at}
 use Rattle.glass_edges.specs.Contents.{appended, AppendsPrefix}
 use Rattle.glass_edges.proofs.Puts.{prefix_past}
-use Rattle.glass_edges.proofs.Putting.{put-two}
 use Rattle.report_text.specs.Lines.{header_line, end_line}
 use Rattle.scalar_rule.specs.Plan.{Plan}
 use Rattle.scalar_rule.specs.Positions.{position_in, done, floor_of}
 use Rattle.scalar_rule.specs.Ragged.{Position, all_ready}
-use Rattle.scalar_rule.specs.Records.{in_order}
 use Rattle.scalar_rule.specs.declared.sample.PlainSlot.{PlainSlot}
 use Rattle.scalar_rule.proofs.Extremes.{least-at, least-some}
-use Rattle.plane_sweep.specs.Uneven.{place_at, position_of, positions_of, uneven_part}
+use Rattle.plane_sweep.specs.Uneven.{place_at, position_of, positions_of}
 use Rattle.exchange_board.specs.declared.origin.Origin.{Origin}
 use Rattle.exchange_board.specs.Answers.{start_place, stages_of}
-use Rattle.exchange_board.specs.Content as board
-use Rattle.exchange_board.specs.Content.{plan_of, slots_in, floor_in, rows_before, row_total, IsLawfulOrigin}
+use Rattle.exchange_board.specs.Content.{slots_in, IsLawfulOrigin}
 use Rattle.exchange_board.specs.Machine.{numbers, begun, AllEnded}
 use Rattle.exchange_board.specs.Stops.{IsStop}
 use Rattle.exchange_board.specs.Views.{RaggedEndedView}
 use Rattle.exchange_board.proofs.Cells.{floor-deep}
 use Rattle.exchange_board.proofs.Origins.{place-short, done-reach}
-use Rattle.scalar_rule.proofs.RecordedEpochs.{quotient-upto}
 use Rattle.exchange_board.proofs.Starting.{begun-at, begun-done}
-use Rattle.glass_engine.specs.Report.{uneven_report, rows_in_order, all_rest, all_spins, sample_spins}
-use Rattle.glass_engine.specs.RecordPieces.{measured, stopped_report, tail_of}
-use Rattle.exchange_board.specs.Answers.{stages_of}
+use Rattle.glass_engine.specs.BankRuns.{own_measured, run_measured, run_slots, floor_before, floor_after, samples_in, run_report}
+use Rattle.glass_engine.specs.Report.{bank_report, uneven_report, rows_in_order, all_rest, all_spins, sample_spins}
+use Rattle.glass_engine.specs.Runs.{DoneView, starts, IsEnd}
+use Rattle.glass_engine.proofs.BankLaws.{of-first}
+use Rattle.glass_engine.proofs.Pieces.{rows-same}
 use Rattle.spin_model.proofs.Joined.{joined-same}
-use Rattle.glass_engine.proofs.WholeRuns.{later, later-lawful, full-ended, rest-at, whole-slots}
+use Rattle.glass_engine.proofs.WholeRuns.{later, later-lawful, full-ended, rest-at}
 
--- ---- what the parts ask for
-
-pub rows-within : (o : Origin) (from to slots : ℕ) → IsLawfulOrigin o → from ≡ floor_in o → to ≤ o.window.until → slots ≡ slots_in o
-    → (to / o.window.every - from / o.window.every) * o.window.samples * slots ≤ row_total o
-rows-within o from to slots l from_is below slots_is =
-    let q = quotient-upto o.window.every to o.window.until (omega (arith, l.base.some_every)) below in
-    let c : from / o.window.every ≡ floor_in o / o.window.every = ap (λ n. n / o.window.every) from_is in
-    let a : to / o.window.every - from / o.window.every ≤ rows_before o o.window.until = omega arith in
-    let b = mul-le-mul_right o.window.samples a in
-    let d = mul-le-mul_right slots b in
-    let e : rows_before o o.window.until * o.window.samples * slots ≡ row_total o = ap (λ n. rows_before o o.window.until * o.window.samples * n) slots_is in
-    omega arith
+-- ---- where a run stopped
 
 pub stop-short : (o : Origin) (d : RaggedEndedView) (t : ℕ) → IsLawfulOrigin o → IsStop o d → t < length d.stand.places → (place_at d.stand.places t).epoch ≤ 1000000000
 stop-short o d t l s h = place-short (later o d.stand) t (later-lawful o d l s) h
@@ -82,7 +68,7 @@ all-rest e (p ∷ ends) each =
     ap₂ (λ a b. a && b) here rest
 
 -- the least completed epoch is until
-floor-ended : (o : Origin) (d : RaggedEndedView) → IsLawfulOrigin o → IsStop o d → floor_of (positions_of d.stand) ≡ o.window.until → AllEnded o.window.until (stages_of d.stand)
+pub floor-ended : (o : Origin) (d : RaggedEndedView) → IsLawfulOrigin o → IsStop o d → floor_of (positions_of d.stand) ≡ o.window.until → AllEnded o.window.until (stages_of d.stand)
 floor-ended o d l s is =
     let x = later o d.stand in
     let lx = later-lawful o d l s in
@@ -126,61 +112,36 @@ spins-where : (printed : Bool) (xs ys : List ℕ) → (printed ≡ true → xs �
 spins-where true xs ys same = same refl
 spins-where false xs ys same = refl
 
--- the report of a stopped run is four texts, of which the last may be empty
-pub report-is : (o : Origin) (plan : Plan) (d : RaggedEndedView) (spins printed : Bool) (from to : ℕ) → plan ≡ plan_of o → IsLawfulOrigin o → IsStop o d
-    → from ≡ floor_in o → to ≡ floor_of (positions_of d.stand) → printed ≡ (spins && (to == o.window.until))
-    → stopped_report o spins (positions_of d.stand)
-    ≡ header_line plan o.window.samples from to ++ rows_in_order (measured o) o.window.samples o.window.every from to ++ end_line to
-    ++ cond printed (all_spins plan o.window.samples (λ b. (uneven_part plan.size b d.stand).slots)) []
-unfolding uneven_report
-report-is o plan d spins printed from to plan_is l s from_is to_is printed_is =
-    let p = plan_of o in
-    let ps = positions_of d.stand in
-    let until = o.window.until in
-    let tells = floor-tells o d l s in
-    let there : (to == until) ≡ all_rest until ps = ap (λ n. n == until) to_is ∙ tells in
-    let prints : printed ≡ (spins && all_rest until ps) = printed_is ∙ ap (λ a. spins && a) there in
-    let ready = all_spins p o.window.samples (λ b. (all_ready p (board.starts o b) until).slots) in
-    let here : Plan → List ℕ = λ q. all_spins q o.window.samples (λ b. (uneven_part q.size b d.stand).slots) in
-    let parts : Plan → ℕ → ℕ → List ℕ → List ℕ = λ q a b xs. header_line q o.window.samples a b ++ rows_in_order (measured o) o.window.samples o.window.every a b ++ end_line b ++ xs in
-    let same : cond (spins && all_rest until ps) ready [] ≡ cond printed (here p) [] =
-    ap (λ a. cond a ready []) (sym prints) ∙ spins-where printed ready (here p) (λ on.
-    let ended : AllEnded until (stages_of d.stand) =
-    floor-ended o d l s (sym to_is ∙ eqb-true to until (and_parts spins (to == until) (sym printed_is ∙ on)).1) in
-    spins-same p o.window.samples _ _ (λ b h. sym (whole-slots o d b s ended (let z = s.fits.few_samples in omega arith)))) in
-    ap₂ (λ a b. parts p a b (cond (spins && all_rest until ps) ready [])) (sym from_is) (sym to_is) ∙ ap (parts p from to) same
-    ∙ ap (λ (q : Plan). parts q from to (cond printed (here q) [])) (sym plan_is)
-
--- and so three, of which the last may have spins
-pub report-parts : (o : Origin) (plan : Plan) (d : RaggedEndedView) (spins : Bool) (from to : ℕ) → plan ≡ plan_of o → IsLawfulOrigin o → IsStop o d
-    → from ≡ floor_in o → to ≡ floor_of (positions_of d.stand)
-    → stopped_report o spins (positions_of d.stand)
-    ≡ header_line plan o.window.samples from to ++ rows_in_order (measured o) o.window.samples o.window.every from to
-    ++ tail_of plan o.window.samples d.stand (spins && (to == o.window.until)) to
-report-parts o plan d spins from to plan_is l s from_is to_is =
-    report-is o plan d spins (spins && (to == o.window.until)) from to plan_is l s from_is to_is refl
-    ∙ append_assoc (header_line plan o.window.samples from to ++ rows_in_order (measured o) o.window.samples o.window.every from to) (end_line to)
-    (cond (spins && (to == o.window.until)) (all_spins plan o.window.samples (λ b. (uneven_part plan.size b d.stand).slots)) [])
-
--- the rows of a stopped run
-pub stop-rows : (o : Origin) (d : RaggedEndedView) (from to slots count : ℕ) → IsStop o d → from ≡ floor_in o → to ≡ floor_of (positions_of d.stand) → slots ≡ slots_in o
-    → count ≡ rows_before o to * o.window.samples * slots → take count d.records ≡ in_order (measured o) o.window.samples o.window.every from to
-stop-rows o d from to slots count s from_is to_is slots_is count_is =
-    ap (λ n. take n d.records) (count_is ∙ ap₂ (λ e n. rows_before o e * o.window.samples * n) to_is slots_is)
-    ∙ s.records ∙ ap₂ (in_order (measured o) o.window.samples o.window.every) (sym from_is) (sym to_is)
+-- the report of one bank
+pub one-report : (d : DoneView) → IsEnd d.run d.ended → run_report (d ∷ []) ≡ bank_report d.run (positions_of d.ended.stand)
+unfolding run_report uneven_report samples_in
+one-report d e =
+    let run = d.run in
+    let p = run.plan in
+    let n = run.orders.samples in
+    let v = run.orders.every in
+    let s = run.orders.spins in
+    let from = floor_before d in
+    let to = floor_after d in
+    let ends = positions_of d.ended.stand in
+    let few : n ≤ 64 = let z = e.stop.fits.few_samples in let y = e.origin.samples_is in omega arith in
+    let text : ℕ → List ℕ = λ k. header_line p k from to ++ rows_in_order (run_measured (d ∷ [])) k v from to ++ end_line to ++ cond (s && (to == run.until)) (all_spins p k (run_slots to (d ∷ []))) [] in
+    let parts : List ℕ → List ℕ → List ℕ = λ rows spins. header_line p n from to ++ rows ++ end_line to ++ spins in
+    let rows = rows-same (run_measured (d ∷ [])) (own_measured run) n v from to (λ b f h. of-first [] (λ (x : DoneView) m. own_measured x.run m f) d [] b (omega arith)) in
+    let tells : (to == run.until) ≡ all_rest run.until ends = subst (λ k. (to == k) ≡ all_rest k ends) e.origin.until_is (floor-tells d.ended.origin d.ended e.lawful e.stop) in
+    let ready = all_spins p n (λ b. (all_ready p (starts run b) run.until).slots) in
+    let spins : cond (s && (to == run.until)) (all_spins p n (run_slots to (d ∷ []))) [] ≡ cond (s && all_rest run.until ends) ready [] =
+    spins-where (s && (to == run.until)) (all_spins p n (run_slots to (d ∷ []))) ready (λ on.
+    spins-same p n (run_slots to (d ∷ [])) _ (λ b h. of-first [] (λ (x : DoneView) m. (all_ready x.run.plan (starts x.run m) to).slots) d [] b (omega arith)
+    ∙ ap (λ k. (all_ready p (starts run b) k).slots) (eqb-true to run.until (and_parts s (to == run.until) on).1)))
+    ∙ ap (λ a. cond (s && a) ready []) tells in
+    ap text (let z : n + 0 ≡ n = omega arith in z) ∙ ap₂ parts rows spins
 
 -- ---- the end, and behind it the spins where they are printed
 
 -- where they are, they are all of it
 spins-printed : (printed : Bool) (xs : List ℕ) → printed ≡ true → cond printed xs [] ≡ xs
 spins-printed printed xs on = ap (λ b. cond b xs []) on
-
-pub put-end : (before now : Option (List ℕ)) (end spins : List ℕ) (printed : Bool) → printed ≡ false → now ≡ appended before end → now ≡ appended before (end ++ cond printed spins [])
-put-end before now end spins printed off whole = whole ∙ ap (appended before) (sym (ap (λ b. end ++ cond b spins []) off ∙ append-nil end))
-
-pub put-spins : (before x now : Option (List ℕ)) (end spins : List ℕ) (printed : Bool) → printed ≡ true → x ≡ appended before end → now ≡ appended x spins
-    → now ≡ appended before (end ++ cond printed spins [])
-put-spins before x now end spins printed on first second = put-two before x now end spins first second ∙ ap (λ xs. appended before (end ++ xs)) (sym (spins-printed printed spins on))
 
 pub failed-spins : (before x now : Option (List ℕ)) (end spins : List ℕ) (printed : Bool) → printed ≡ true → x ≡ appended before end → AppendsPrefix x now spins
     → AppendsPrefix before now (end ++ cond printed spins [])

@@ -1,4 +1,4 @@
--- What holds of runs over banks: their report and their checkpoint are those of the serial dynamics from the states that the
+-- What holds of runs over banks: their report at their end and their checkpoint are those of the serial dynamics from the states that the
 -- packed states stand for, and bank 0 has the samples below 64.
 use Rattle.std.specs.Prelude.{◌≡◌, ℕ, ◌<◌, ◌≤◌, ◌*◌, List, [], ◌∷◌, length, All}
 use Rattle.run_checkpoint.specs.BankEncoding.{BanksFit, BanksStand}
@@ -9,7 +9,8 @@ use Rattle.scalar_rule.specs.Serial.{serial}
 use Rattle.scalar_rule.specs.declared.sample.Sample.{Sample}
 use Rattle.plane_sweep.specs.declared.stand.Stand.{Stand}
 use Rattle.glass_engine.specs.Banks.{Bank, banks_measured, banks_slots, banks_report, banks_checkpoint}
-use Rattle.glass_engine.specs.BankRuns.{bank_runs, runs_report, runs_checkpoint}
+use Rattle.glass_engine.specs.BankRuns.{bank_runs, runs_of, run_report, runs_checkpoint}
+use Rattle.glass_engine.specs.Runs.{DoneView, IsEnd}
 use Rattle.glass_engine.specs.declared.run.SaveKind.{SaveKind}
 
 -- banks of these plans, and the states that their samples start with
@@ -31,8 +32,9 @@ pub record StandForBanks (plans : List Plan) (stands : List Stand) (starts : Lis
 
 abbrev pub BanksReportIsSerial : Type 0
 BanksReportIsSerial = (plans : List Plan) (stands : List Stand) (starts : List (ℕ → Sample)) (orders : Orders) (until : ℕ) (kind : SaveKind)
-    → orders.samples ≤ 64 * length plans → StandForBanks plans stands starts
-    → runs_report (bank_runs plans stands orders until kind) ≡ banks_report (banks_with plans starts) orders until
+    → (ds : List DoneView) → orders.samples ≤ 64 * length plans → StandForBanks plans stands starts
+    → runs_of ds ≡ bank_runs plans stands orders until kind → All (λ (d : DoneView). IsEnd d.run d.ended) ds
+    → run_report ds ≡ banks_report (banks_with plans starts) orders until
 
 abbrev pub BanksCheckpointIsSerial : Type 0
 BanksCheckpointIsSerial = (plans : List Plan) (stands : List Stand) (starts : List (ℕ → Sample)) (orders : Orders) (until : ℕ) (kind : SaveKind)

@@ -18,17 +18,17 @@ pub record Bank : Type 0 where
   pub start : ℕ → Sample
 
 -- what a bank and a bit of it give for sample b; `none` where there is no such bank
-unfoldable pub of_sample : {A : Type 0} → A → (Bank → ℕ → A) → List Bank → ℕ → A
+unfoldable pub of_sample : {A B : Type 0} → A → (B → ℕ → A) → List B → ℕ → A
 of_sample none give [] b = none
 of_sample none give (bank ∷ banks) b = if nat_lt b 64 then give bank b else of_sample none give banks (b - 64)
 
 -- what is measured of sample b at epoch f, slot by slot
 abbrev pub banks_measured : List Bank → ℕ → ℕ → List Record
-banks_measured banks b f = of_sample [] (λ bank m. measured_from bank.plan bank.start m f) banks b
+banks_measured banks b f = of_sample [] (λ (bank : Bank) m. measured_from bank.plan bank.start m f) banks b
 
 -- the slots of sample b at epoch e
 abbrev pub banks_slots : List Bank → ℕ → ℕ → List PlainSlot
-banks_slots banks e b = of_sample [] (λ bank m. (serial bank.plan (bank.start m) e).slots) banks b
+banks_slots banks e b = of_sample [] (λ (bank : Bank) m. (serial bank.plan (bank.start m) e).slots) banks b
 
 -- the one report of a run over banks to epoch e: the header, with the number of all samples; the rows in order of epoch,
 -- sample, slot; the end; where spins are ordered those of epoch e, after its last exchange. The size, the number of slots and

@@ -1,5 +1,5 @@
 -- What the runs of banks keep.
-use Rattle.std.specs.Prelude.{◌≡◌, ℕ, ◌-◌, ◌≤◌, min, List, [], ◌∷◌, length, map, All, Option, Some, None, vec_capacity}
+use Rattle.std.specs.Prelude.{◌≡◌, ℕ, ◌≤◌, List, [], length, map, All, Option, Some, None, vec_capacity}
 use Rattle.spin_model.specs.Limits.{every_take, last_epoch}
 use Rattle.run_checkpoint.specs.Encoding.{flattened}
 use Rattle.run_checkpoint.specs.BankEncoding.{banks_len}
@@ -8,7 +8,7 @@ use Rattle.run_plan.specs.declared.run_file.Orders.{Orders}
 use Rattle.scalar_rule.specs.Plan.{Plan, slots_of}
 use Rattle.plane_sweep.specs.Packed.{StandFits}
 use Rattle.plane_sweep.specs.Uneven.{level_stand}
-use Rattle.glass_engine.specs.BankRuns.{runs_of, plans_of, AreBankOrders}
+use Rattle.glass_engine.specs.BankRuns.{runs_of, plans_of, AreBankOrders, HaveSamples}
 use Rattle.glass_engine.specs.Runs.{RunView, DoneView, IsEnd}
 use Rattle.glass_engine.specs.declared.banks.Banks.TheInside as banks
 use Rattle.glass_engine.specs.declared.banks.BanksDone.TheInside as done
@@ -35,11 +35,6 @@ pub record IsBankRun (shared : Shared) (orders : Orders) (run : RunView) : Type 
   pub every : run.orders.every ≡ orders.every
   pub spins : run.orders.spins ≡ orders.spins
   pub takes : run.takes ≡ every_take
-
--- each bank prints 64 samples, or what is left of them
-unfoldable pub HaveSamples : ℕ → List RunView → Type 0
-HaveSamples samples [] = samples ≡ 0
-HaveSamples samples (run ∷ runs) = (run.orders.samples ≡ min samples 64) × HaveSamples (samples - 64) runs
 
 pub record AreBankRuns (orders : Orders) (runs : List RunView) : Type 0 where
   pub orders_are : AreBankOrders (length runs) orders

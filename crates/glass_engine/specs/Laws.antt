@@ -1,21 +1,22 @@
 -- What holds of runs: one that was not asked to stop ends with every slot at until, and from a level starting state its end
 -- is that of the serial dynamics.
-use Rattle.std.specs.Prelude.{◌≡◌, ℕ}
+use Rattle.std.specs.Prelude.{◌≡◌, ℕ, [], ◌∷◌}
 use Rattle.spin_model.specs.Limits.{every_take}
 use Rattle.scalar_rule.specs.Positions.{uneven_records}
 use Rattle.scalar_rule.specs.Records.{records_until}
 use Rattle.scalar_rule.specs.Serial.{serial}
 use Rattle.scalar_rule.specs.declared.sample.Sample.{Sample}
 use Rattle.plane_sweep.specs.Packed.{part, StandFits, StandsFor}
-use Rattle.plane_sweep.specs.Uneven.{positions_of, level_stand}
+use Rattle.plane_sweep.specs.Uneven.{level_stand}
 use Rattle.plane_sweep.specs.declared.stand.Stand.{Stand}
 use Rattle.plane_sweep.specs.declared.uneven.RaggedStand.{RaggedStand}
 use Rattle.exchange_board.specs.Answers.{stages_of}
 use Rattle.exchange_board.specs.Machine.{AllEnded}
 use Rattle.scalar_rule.specs.Ragged.{all_ready}
 use Rattle.exchange_board.specs.Views.{RaggedEndedView}
+use Rattle.glass_engine.specs.BankRuns.{run_report}
 use Rattle.glass_engine.specs.Runs.{RunView, starts, IsEnd}
-use Rattle.glass_engine.specs.Report.{run_report, report}
+use Rattle.glass_engine.specs.Report.{report}
 
 -- the packed state at an epoch, where every slot is at rest there
 abbrev pub stand_at : ℕ → RaggedStand → Stand
@@ -45,4 +46,4 @@ LevelRunIsSerial = (run : RunView) (stand : Stand) (d : RaggedEndedView) → run
 abbrev pub LevelReportIsSerial : Type 0
 LevelReportIsSerial = (run : RunView) (stand : Stand) (start : ℕ → Sample) (d : RaggedEndedView) → run.takes ≡ every_take → run.base ≡ level_stand stand
     → StandFits run.plan stand → StandsFor run.plan start stand → IsEnd run d
-    → run_report run (positions_of d.stand) ≡ report run.plan start run.orders run.until
+    → run_report (record { run = run; ended = d } ∷ []) ≡ report run.plan start run.orders run.until

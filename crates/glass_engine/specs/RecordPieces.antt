@@ -1,62 +1,73 @@
--- The report in a board's words: its origin gives the states and the window; and the rows of an epoch whose records lie one
--- after another in one list.
-use Rattle.std.specs.Prelude.{◌≡◌, ℕ, ◌*◌, ◌≤◌, Bool, ◌&&◌, ◌==◌, if◌then◌else◌, List, [], ◌++◌, take, drop, flat_map}
-use Rattle.spin_model.specs.Steps.{table}
-use Rattle.scalar_rule.specs.declared.sample.Record.{Record}
-use Rattle.plane_sweep.specs.Uneven.{uneven_part}
-use Rattle.plane_sweep.specs.declared.uneven.RaggedStand.{RaggedStand}
-use Rattle.report_text.specs.Lines.{header_line, end_line}
-use Rattle.scalar_rule.specs.Plan.{Plan}
-use Rattle.scalar_rule.specs.Ragged.{Position}
-use Rattle.exchange_board.specs.declared.origin.Origin.{Origin}
-use Rattle.exchange_board.specs.Content.{plan_of, slots_in, starts, IsLawfulOrigin}
-use Rattle.exchange_board.specs.Stops.{IsStop}
-use Rattle.glass_engine.specs.declared.report.Stopped.{Stopped}
-use Rattle.glass_engine.specs.declared.rows.RunRows.{RunRows}
+-- The rows and the spins of a report, from what banks that were driven hold: their records, epoch by epoch and sample by sample,
+-- and the states that they ended with.
+use Rattle.std.specs.Prelude.{◌≡◌, ℕ, ◌*◌, ◌<◌, ◌≤◌, ◌&&◌, ◌==◌, if◌then◌else◌, List, [], ◌++◌, length, take, drop, All}
+use Rattle.spin_model.specs.Limits.{last_epoch, most_slots}
+use Rattle.run_plan.specs.declared.run_file.Orders.{Orders}
+use Rattle.scalar_rule.specs.Plan.{Plan, slots_of}
+use Rattle.scalar_rule.specs.Ragged.{all_ready}
 use Rattle.scalar_rule.specs.Records.{in_order}
-use Rattle.spin_model.specs.Limits.{last_epoch}
-use Rattle.glass_engine.specs.Report.{sample_rows, uneven_measured, uneven_report, rows_in_order, all_spins}
+use Rattle.scalar_rule.specs.declared.sample.Record.{Record}
+use Rattle.plane_sweep.specs.Packed.{FitsDuo}
+use Rattle.plane_sweep.specs.Uneven.{uneven_part}
+use Rattle.report_text.specs.Lines.{header_line, end_line}
+use Rattle.glass_engine.specs.BankRuns.{own_measured, run_measured, run_slots, runs_of, HaveSamples}
+use Rattle.glass_engine.specs.Report.{rows_in_order, all_spins}
+use Rattle.glass_engine.specs.Runs.{DoneView, starts}
+use Rattle.glass_engine.specs.declared.rows.RunRows.{RunRows}
 
 -- the records of sample b, of so many slots a sample
 abbrev pub piece : List Record → ℕ → ℕ → List Record
 piece records slots b = take slots (drop (b * slots) records)
 
--- the rows of the first samples
-abbrev pub piece_rows : ℕ → ℕ → ℕ → List Record → List ℕ
-piece_rows epoch samples slots records = flat_map (λ b. sample_rows epoch b (piece records slots b)) (table (λ b. b) samples)
+-- ---- rows
 
--- the records of sample b at epoch f, slot by slot
-abbrev pub measured : Origin → ℕ → ℕ → List Record
-measured o b f = uneven_measured (plan_of o) (starts o) o.base.pending o.window.samples o.window.every b f
+-- behind those of so many recorded epochs a bank's records are those of the recorded epochs from f on and below `to`, and more
+pub record HasRowsFrom (slots every f to passed : ℕ) (d : DoneView) : Type 0 where
+  pub slots_are : slots_of d.run.plan ≡ slots
+  pub more : List Record
+  pub records : drop (passed * (d.run.orders.samples * slots)) d.ended.records ≡ in_order (own_measured d.run) d.run.orders.samples every f to ++ more
 
--- what stands behind the rows, where these are the states at the end: the end, and where they are printed the spins
-abbrev pub tail_of : Plan → ℕ → RaggedStand → Bool → ℕ → List ℕ
-tail_of plan samples stand printed to =
-    end_line to ++ (if printed then all_spins plan samples (λ b. (uneven_part plan.size b stand).slots) else [])
+pub record AreRowsFrom (ds : List DoneView) (orders : Orders) (slots f to passed : ℕ) : Type 0 where
+  pub some_every : 1 ≤ orders.every
+  pub some_slots : 1 ≤ slots
+  pub few_slots : slots ≤ most_slots
+  pub from : f ≤ to
+  pub short : to ≤ last_epoch
+  pub counted : passed ≤ f
+  pub each : All (HasRowsFrom slots orders.every f to passed) ds
+  pub samples : HaveSamples orders.samples (runs_of ds)
 
--- the three parts of the report with these rows
-abbrev pub parts_of : Stopped → RunRows → List ℕ
-parts_of s rows =
-    header_line s.plan.now s.origin.now.window.samples rows.from rows.to
-    ++ rows_in_order (measured rows.origin.now) rows.origin.now.window.samples rows.origin.now.window.every rows.from rows.to
-    ++ tail_of s.plan.now s.origin.now.window.samples s.stand.now (s.spins && rows.to == s.origin.now.window.until) rows.to
+-- and epoch f is one of them
+pub record HaveNext (ds : List DoneView) (orders : Orders) (slots f passed : ℕ) : Type 0 where
+  pub to : ℕ
+  pub below : f < to
+  pub rows : AreRowsFrom ds orders slots f to passed
 
--- the report of a run that was opened with this origin
-abbrev pub stopped_report : Origin → Bool → List Position → List ℕ
-stopped_report o spins ends = uneven_report (plan_of o) (starts o) o.base.pending o.window.samples o.window.every spins o.window.until ends
+-- the rows of all banks between two epochs
+abbrev pub AreRunRows : RunRows → Type 0
+AreRunRows rows = AreRowsFrom rows.driven.now rows.orders rows.slots rows.from rows.to 0
 
--- ---- what a report is made from
+-- ---- spins
 
--- the rows of a run whose records are all of those between two epochs
-pub record IsRunRows (rows : RunRows) : Type 0 where
-  pub lawful : IsLawfulOrigin rows.origin.now
-  pub slots : rows.slots ≡ slots_in rows.origin.now
-  pub window : rows.from ≤ rows.to
-  pub short : rows.to ≤ last_epoch
-  pub records : rows.records.now ≡ in_order (measured rows.origin.now) rows.origin.now.window.samples rows.origin.now.window.every rows.from rows.to
+-- the slots that a bank ended with have the shape of a plan, and are those of the rule with every slot at rest at epoch e
+pub record HasSpins (plan : Plan) (e : ℕ) (d : DoneView) : Type 0 where
+  pub count : length d.ended.stand.slots ≡ slots_of plan
+  pub fits : All (FitsDuo plan.size) d.ended.stand.slots
+  pub slots : (m : ℕ) → m < 64 → (all_ready d.run.plan (starts d.run m) e).slots ≡ (uneven_part plan.size m d.ended.stand).slots
 
--- a run that stopped, with its plan
-pub record IsStopped (s : Stopped) : Type 0 where
-  pub plan : s.plan.now ≡ plan_of s.origin.now
-  pub lawful : IsLawfulOrigin s.origin.now
-  pub stop : IsStop s.origin.now (record { origin = s.origin.now; stand = s.stand.now; records = s.records.now })
+pub record HaveSpins (rows : RunRows) : Type 0 where
+  pub each : All (HasSpins rows.plan.now rows.to) rows.driven.now
+  pub samples : HaveSamples rows.orders.samples (runs_of rows.driven.now)
+
+-- ---- the parts of the report
+
+-- what stands behind the rows: the end, and where they are printed the spins
+abbrev pub tail_of : RunRows → List ℕ
+tail_of rows =
+    end_line rows.to ++ (if rows.orders.spins && rows.to == rows.until then all_spins rows.plan.now rows.orders.samples (run_slots rows.to rows.driven.now) else [])
+
+abbrev pub parts_of : RunRows → List ℕ
+parts_of rows =
+    header_line rows.plan.now rows.orders.samples rows.from rows.to
+    ++ rows_in_order (run_measured rows.driven.now) rows.orders.samples rows.orders.every rows.from rows.to
+    ++ tail_of rows

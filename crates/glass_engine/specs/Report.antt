@@ -65,9 +65,9 @@ uneven_report plan states pending samples every spins until ends =
     ++ end_line (floor_of ends)
     ++ (if spins && all_rest until ends then all_spins plan samples (λ b. (all_ready plan (states b) until).slots) else [])
 
--- the report of what a run was opened with
-abbrev pub run_report : RunView → List Position → List ℕ
-run_report run ends = uneven_report run.plan (starts run) run.base.pending run.orders.samples run.orders.every run.orders.spins run.until ends
+-- that of what a run of one bank was opened with
+abbrev pub bank_report : RunView → List Position → List ℕ
+bank_report run ends = uneven_report run.plan (starts run) run.base.pending run.orders.samples run.orders.every run.orders.spins run.until ends
 
 -- of a run from the states `start b` of its samples, which are at one epoch, to epoch e: the header; the rows of what the
 -- serial dynamics measures; the end; where spins are ordered those of the states at epoch e, after its last exchange

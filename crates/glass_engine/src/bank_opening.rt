@@ -119,8 +119,8 @@ fn open_bank(
     )
 }
 
-// The same orders for so many printed samples.
-fn of_samples(orders: &Orders, samples: u32) -> Orders
+/// The same orders for so many printed samples.
+pub(crate) fn of_samples(orders: &Orders, samples: u32) -> Orders
     ensures { result ≡ for_samples samples orders.now }
 {
     Orders { samples, ..*orders }

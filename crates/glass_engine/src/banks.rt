@@ -1,5 +1,8 @@
 //! The runs of several banks of 64 samples, before and after they are driven.
 
+ghost use Rattle.std.specs.Prelude.{◌≡◌};
+ghost use Rattle.glass_engine.specs.BankRuns.{run_report, AreAbreast};
+
 use crate::done::Done;
 use crate::run::Run;
 use run_checkpoint::Room;
@@ -51,4 +54,14 @@ impl Model for BanksDone {
     ghost view = { banks_done_view };
 
     ghost invariant = { KeepsBanksDone };
+}
+
+impl BanksDone {
+    /// The banks, in order, as their one report has them.
+    pub fn driven(&self) -> &[Done]
+        ensures abreast { AreAbreast result.now }
+        ensures report { run_report result.now ≡ run_report self.now }
+    {
+        &self.driven
+    }
 }

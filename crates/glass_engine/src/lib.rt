@@ -3,8 +3,6 @@
 
 mod bank_driving;
 mod bank_opening;
-mod bank_report;
-mod bank_rows;
 mod bank_saving;
 mod banks;
 mod done;
@@ -21,7 +19,6 @@ mod workers;
 
 pub use bank_driving::drive_banks;
 pub use bank_opening::open_banks;
-pub use bank_report::{print_banks, write_banks};
 pub use bank_saving::save_banks;
 pub use banks::{Banks, BanksDone};
 pub use done::Done;
@@ -33,6 +30,6 @@ pub use laws::{
 };
 pub use opening::open;
 pub use placing::save;
-pub use report::{print_report, write_report};
+pub use report::print_report;
 pub use run::{Run, SaveKind};
 pub use summary::write_summary;

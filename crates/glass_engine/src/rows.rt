@@ -1,34 +1,39 @@
-//! The rows of a run, as its report has them.
+//! The rows of a run, in order of epoch, sample and slot over all its banks.
 
-ghost use Rattle.std.specs.Prelude.{◌≡◌, ◌*◌, ◌^◌, ◌<◌, ◌≤◌, ◌++◌, [], if◌then◌else◌, length, IfOk, OnOk, OnErr};
+ghost use Rattle.std.specs.Prelude.{◌≡◌, ◌+◌, ◌*◌, ◌/◌, ◌^◌, ◌<◌, ◌≤◌, ◌++◌, [], if◌then◌else◌, length, take, drop, slice_index_or, true, IfOk, OnOk, OnErr};
 ghost use Rattle.glass_edges.specs.Causes.{HasCause};
 ghost use Rattle.glass_edges.specs.Contents.{AppendsPrefix, PutsFront};
-ghost use Rattle.spin_model.specs.Limits.{most_slots};
-ghost use Rattle.scalar_rule.specs.Records.{is_recorded, recorded_epochs};
-ghost use Rattle.glass_engine.specs.RecordPieces.{piece_rows, measured, IsRunRows};
+ghost use Rattle.spin_model.specs.Limits.{last_epoch, most_slots};
+ghost use Rattle.scalar_rule.specs.Records.{is_recorded};
+ghost use Rattle.glass_engine.specs.BankRuns.{run_measured};
+ghost use Rattle.glass_engine.specs.RecordPieces.{AreRunRows, AreRowsFrom, HaveNext};
 ghost use Rattle.glass_engine.specs.Report as text;
 ghost use Rattle.glass_engine.specs.RowLaws.{rows-empty, rows-joined};
 
-use exchange_board::Origin;
+use crate::done::Done;
 use glass_edges::{Fault, Line, Sink};
 use report_sheets::RowSource;
 use report_text::add_row;
-use scalar_rule::{Record, is_recorded, recorded_epochs};
+use run_plan::Orders;
+use scalar_rule::{Plan, Record, is_recorded, recorded_epochs};
 
-/// The rows of a run between two epochs, whose records are these.
+/// The rows of banks that were driven, between two epochs: the plan of the first bank, the orders of the
+/// whole, the number of slots, and the epoch to which the run was to go.
 #[derive(Clone, Copy)]
 pub(crate) struct RunRows<'a> {
-    pub(crate) origin: &'a Origin,
+    pub(crate) driven: &'a [Done],
+    pub(crate) plan: &'a Plan,
+    pub(crate) orders: Orders,
     pub(crate) slots: usize,
     pub(crate) from: u64,
     pub(crate) to: u64,
-    pub(crate) records: &'a [Record],
+    pub(crate) until: u64,
 }
 
 impl RowSource for RunRows<'_> {
-    ghost ready = { IsRunRows };
+    ghost ready = { AreRunRows };
 
-    ghost text = { λ r. text.rows_in_order (measured r.origin.now) r.origin.now.window.samples r.origin.now.window.every };
+    ghost text = { λ r. text.rows_in_order (run_measured r.driven.now) r.orders.samples r.orders.every };
 
     ghost begin = { λ r. r.from };
 
@@ -43,25 +48,20 @@ impl RowSource for RunRows<'_> {
     }
 
     fn epochs_of(&self, rows: u64) -> u64 {
-        epochs_of(
-            rows,
-            self.origin.window.every,
-            self.origin.window.samples,
-            self.slots,
-        )
+        epochs_of(rows, self.orders.every, self.orders.samples, self.slots)
     }
 
     fn add<O: Sink>(&self, out: &mut O, line: &mut Line, from: u64, to: u64) -> Result<(), Fault> {
         add_rows(out, line, self, from, to)
     }
 
-    ghost empty = { λ r e. rows-empty (measured r.origin.now) r.origin.now.window.samples r.origin.now.window.every e };
+    ghost empty = { λ r e. rows-empty (run_measured r.driven.now) r.orders.samples r.orders.every e };
 
-    ghost joined = { λ r a b c from to. rows-joined (measured r.origin.now) r.origin.now.window.samples r.origin.now.window.every a b c from to };
+    ghost joined = { λ r a b c from to. rows-joined (run_measured r.driven.now) r.orders.samples r.orders.every a b c from to };
 }
 
-/// For how many epochs, at least one, room for so many rows is mostly enough. Speed alone depends on it.
-pub(crate) fn epochs_of(rows: u64, every: u64, samples: u32, slots: usize) -> u64
+// For how many epochs, at least one, room for so many rows is mostly enough. Speed alone depends on it.
+fn epochs_of(rows: u64, every: u64, samples: u32, slots: usize) -> u64
     requires every { 1 ≤ every }
     requires slots { slots ≤ most_slots }
     ensures { 1 ≤ result }
@@ -70,26 +70,14 @@ pub(crate) fn epochs_of(rows: u64, every: u64, samples: u32, slots: usize) -> u6
     every.saturating_mul((rows / each).max(1))
 }
 
-/// Which rows a run has: those of the first samples in every slot, of each so many epochs in the last.
-#[derive(Clone, Copy)]
-struct Shape {
-    samples: u32,
-    every: u64,
-    slots: usize,
-}
-
-// How many rows there are before an epoch.
-fn rows_before(rows: &RunRows, epoch: u64) -> usize
-    requires ready { IsRunRows rows.now }
+// How many epochs before an epoch were recorded.
+fn recorded_before(rows: &RunRows, epoch: u64) -> usize
+    requires ready { AreRunRows rows.now }
     requires from { rows.now.from ≤ epoch }
     requires to { epoch ≤ rows.now.to }
-    ensures value { result ≡ recorded_epochs rows.now.origin.now.window.every rows.now.from epoch
-        * (rows.now.origin.now.window.samples * rows.now.slots) }
-    ensures within { result ≤ length rows.now.records.now }
+    ensures { AreRowsFrom rows.now.driven.now rows.now.orders rows.now.slots epoch rows.now.to result }
 {
-    let window = rows.origin.window;
-    let epochs = recorded_epochs(window.every, rows.from, epoch);
-    epochs as usize * (window.samples as usize * rows.slots)
+    recorded_epochs(rows.orders.every, rows.from, epoch) as usize
 }
 
 // Adds the rows between two epochs behind a text that is still to be put.
@@ -100,90 +88,101 @@ fn add_rows<O: Sink>(
     from: u64,
     to: u64,
 ) -> Result<(), Fault>
-    requires ready { IsRunRows rows.now }
+    requires ready { AreRunRows rows.now }
     requires begin { rows.now.from ≤ from }
     requires window { from ≤ to }
     requires end { to ≤ rows.now.to }
     ensures front { OnOk result (PutsFront (O.taken out.old) (O.taken out.new) (line.old
-        ++ text.rows_in_order (measured rows.now.origin.now) rows.now.origin.now.window.samples
-        rows.now.origin.now.window.every from to) line.new) }
+        ++ text.rows_in_order (run_measured rows.now.driven.now) rows.now.orders.samples rows.now.orders.every
+        from to) line.new) }
     ensures prefix { OnErr result (AppendsPrefix (O.taken out.old) (O.taken out.new) (line.old
-        ++ text.rows_in_order (measured rows.now.origin.now) rows.now.origin.now.window.samples
-        rows.now.origin.now.window.every from to)) }
+        ++ text.rows_in_order (run_measured rows.now.driven.now) rows.now.orders.samples rows.now.orders.every
+        from to)) }
     ensures cause { HasCause (O.faults out.old) (O.faults out.new) result }
 {
-    let shape = Shape {
-        samples: rows.origin.window.samples,
-        every: rows.origin.window.every,
-        slots: rows.slots,
-    };
-    let mut rest = &rows.records[rows_before(rows, from)..];
+    let mut passed = recorded_before(rows, from);
     'epochs: for epoch in from..to {
-        let count = add_recorded(out, line, &shape, epoch, rest)?;
-        rest = &rest[count..];
+        let count = add_recorded(out, line, rows, epoch, passed)?;
+        passed += count;
     }
     Ok(())
 }
 
-// Adds the rows of an epoch if it is recorded, whose records are the first of these, and answers how
-// many they are.
+// Adds the rows of an epoch if it is recorded, before which so many were, and answers how many more
+// there are behind it.
 fn add_recorded<O: Sink>(
     out: &mut O,
     line: &mut Line,
-    shape: &Shape,
+    rows: &RunRows,
     epoch: u64,
-    records: &[Record],
+    passed: usize,
 ) -> Result<usize, Fault>
-    requires samples { shape.now.samples ≤ 64 }
-    requires every { 1 ≤ shape.now.every }
-    requires slots { shape.now.slots ≤ most_slots }
-    requires records { (if is_recorded shape.now.every epoch then shape.now.samples * shape.now.slots else 0)
-        ≤ length records.now }
-    ensures count { IfOk result (λ count. count
-        ≡ (if is_recorded shape.now.every epoch then shape.now.samples * shape.now.slots else 0)) }
-    ensures within { IfOk result (λ count. count ≤ length records.now) }
-    ensures few { IfOk result (λ count. count ≤ 2048) }
-    ensures front { OnOk result (PutsFront (O.taken out.old) (O.taken out.new)
-        (line.old ++ (if is_recorded shape.now.every epoch
-        then piece_rows epoch shape.now.samples shape.now.slots records.now else [])) line.new) }
-    ensures prefix { OnErr result (AppendsPrefix (O.taken out.old) (O.taken out.new)
-        (line.old ++ (if is_recorded shape.now.every epoch
-        then piece_rows epoch shape.now.samples shape.now.slots records.now else []))) }
+    requires { HaveNext rows.now.driven.now rows.now.orders rows.now.slots epoch passed }
+    ensures count { IfOk result (λ count. count ≡ (if is_recorded rows.now.orders.every epoch then 1 else 0)) }
+    ensures front { OnOk result (PutsFront (O.taken out.old) (O.taken out.new) (line.old
+        ++ (if is_recorded rows.now.orders.every epoch
+        then text.epoch_rows (run_measured rows.now.driven.now) rows.now.orders.samples epoch
+        else [])) line.new) }
+    ensures prefix { OnErr result (AppendsPrefix (O.taken out.old) (O.taken out.new) (line.old
+        ++ (if is_recorded rows.now.orders.every epoch
+        then text.epoch_rows (run_measured rows.now.driven.now) rows.now.orders.samples epoch
+        else []))) }
     ensures cause { HasCause (O.faults out.old) (O.faults out.new) result }
 {
-    if !is_recorded(shape.every, epoch) {
+    if !is_recorded(rows.orders.every, epoch) {
         return Ok(0);
     }
-    add_epoch(out, line, shape, epoch, records)?;
-    Ok(shape.samples as usize * shape.slots)
+    add_epoch(out, line, rows, epoch, passed)?;
+    Ok(1)
 }
 
-// Adds the rows of one epoch, whose records are the first of these.
+// Adds the rows of a recorded epoch, before which so many were recorded.
 fn add_epoch<O: Sink>(
     out: &mut O,
     line: &mut Line,
-    shape: &Shape,
+    rows: &RunRows,
     epoch: u64,
-    records: &[Record],
+    passed: usize,
 ) -> Result<(), Fault>
-    requires records { shape.now.samples * shape.now.slots ≤ length records.now }
-    requires slots { shape.now.slots ≤ most_slots }
-    ensures front { OnOk result (PutsFront (O.taken out.old) (O.taken out.new)
-        (line.old ++ piece_rows epoch shape.now.samples shape.now.slots records.now) line.new) }
-    ensures prefix { OnErr result (AppendsPrefix (O.taken out.old) (O.taken out.new)
-        (line.old ++ piece_rows epoch shape.now.samples shape.now.slots records.now)) }
+    requires next { HaveNext rows.now.driven.now rows.now.orders rows.now.slots epoch passed }
+    requires recorded { is_recorded rows.now.orders.every epoch ≡ true }
+    ensures front { OnOk result (PutsFront (O.taken out.old) (O.taken out.new) (line.old
+        ++ text.epoch_rows (run_measured rows.now.driven.now) rows.now.orders.samples epoch) line.new) }
+    ensures prefix { OnErr result (AppendsPrefix (O.taken out.old) (O.taken out.new) (line.old
+        ++ text.epoch_rows (run_measured rows.now.driven.now) rows.now.orders.samples epoch)) }
     ensures cause { HasCause (O.faults out.old) (O.faults out.new) result }
 {
-    let mut rest = records;
-    'samples: for b in 0..shape.samples {
-        add_sample(out, line, epoch, b, &rest[..shape.slots])?;
-        rest = &rest[shape.slots..];
+    'samples: for b in 0..rows.orders.samples {
+        let bank = bank_with(rows.driven, b);
+        let records = sample_records(bank, rows.slots, passed, b as usize % 64);
+        add_sample(out, line, epoch, b, records)?;
     }
     Ok(())
 }
 
-/// Adds the rows of one sample at one epoch.
-pub(crate) fn add_sample<O: Sink>(
+/// The bank that a sample is in.
+pub(crate) fn bank_with(driven: &[Done], sample: u32) -> &Done
+    requires { sample / 64 < length driven.now }
+    ensures { result.now ≡ slice_index_or driven.now (sample / 64) result.now }
+{
+    &driven[sample as usize / 64]
+}
+
+// The records of a bit of a bank in a recorded epoch, before which so many were recorded.
+fn sample_records(bank: &Done, slots: usize, passed: usize, bit: usize) -> &[Record]
+    requires short { passed ≤ last_epoch }
+    requires few_slots { slots ≤ most_slots }
+    requires few_bits { bit < 64 }
+    requires within { (passed * bank.now.run.orders.samples + bit) * slots + slots ≤ length bank.now.ended.records }
+    ensures { result.now ≡ take slots
+        (drop ((passed * bank.now.run.orders.samples + bit) * slots) bank.now.ended.records) }
+{
+    let at = (passed * bank.orders.samples as usize + bit) * slots;
+    &bank.ended.records()[at..at + slots]
+}
+
+// Adds the rows of one sample at one epoch.
+fn add_sample<O: Sink>(
     out: &mut O,
     line: &mut Line,
     epoch: u64,

@@ -7,7 +7,7 @@ use Rattle.glass_edges.specs.Refusals.{unless}
 use Rattle.exchange_board.specs.Views.{RaggedEndedView}
 use Rattle.glass_engine.specs.BankLaws.{banks_with, HaveSlots, BanksReportIsSerial, BanksCheckpointIsSerial}
 use Rattle.glass_engine.specs.Banks.{Bank, banks_checkpoint}
-use Rattle.glass_engine.specs.BankRuns.{bank_run, bank_runs, bank_kind, for_samples, runs_of, runs_report, runs_checkpoint, AreBankOrders}
+use Rattle.glass_engine.specs.BankRuns.{bank_run, bank_runs, bank_kind, for_samples, runs_of, runs_checkpoint, AreBankOrders}
 use Rattle.glass_engine.specs.Laws.{stand_at}
 use Rattle.glass_engine.specs.Runs.{RunView, DoneView, IsEnd}
 use Rattle.glass_engine.specs.declared.run.SaveKind.{SaveKind}
@@ -207,7 +207,7 @@ pub opened-runs : (report : BanksReportIsSerial) (saving : BanksCheckpointIsSeri
 opened-runs report saving planned stands until name opened starts some few slots r o stand =
     let kind = bank_kind (is_named name) in
     record {
-      report = ap runs_report o.runs ∙ report planned.plans stands starts planned.orders until kind few (record { epoch = r.epoch; fit = r.fit; slots = slots; stand = stand });
+      report = λ dones are ends. report planned.plans stands starts planned.orders until kind dones few (record { epoch = r.epoch; fit = r.fit; slots = slots; stand = stand }) (are ∙ o.runs) ends;
       checkpoint = ap runs_checkpoint o.runs ∙ saving planned.plans stands starts planned.orders until kind some (record { epoch = r.epoch; fit = r.fit; slots = slots; stand = stand })
           ∙ saved-states planned.plans starts stands until stand;
       states = λ dones are ends. all-end r.epoch planned.plans stands starts planned.orders until kind dones r.fit stand (are ∙ o.runs) ends;

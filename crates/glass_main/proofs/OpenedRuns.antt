@@ -1,5 +1,5 @@
 -- The report and the checkpoint of a run that is opened as it is to be, and the epoch at which its starting state begins.
-use Rattle.std.proofs.Common.{◌≡◌, ℕ, ◌<◌, ◌≤◌, false, List, length, Option, Some, None, ap, ap₂, sym, ◌∙◌, subst, arith}
+use Rattle.std.proofs.Common.{◌≡◌, ℕ, ◌<◌, ◌≤◌, false, List, [], ◌∷◌, length, Option, Some, None, ap, ap₂, sym, ◌∙◌, subst, arith}
 use Rattle.std.proofs.lemmas.List.{length-map, length-replicate, get_or-replicate, ext_get_or}
 use Rattle.spin_model.specs.Limits.{every_take}
 use Rattle.run_checkpoint.specs.Encoding.{encoding, AreBankStates}
@@ -21,8 +21,10 @@ use Rattle.exchange_board.specs.Answers.{start_place}
 use Rattle.exchange_board.specs.Views.{RaggedEndedView}
 use Rattle.exchange_board.proofs.Cells.{floor-deep}
 use Rattle.glass_engine.specs.Laws.{stand_at, UnstoppedRunIsWhole, LevelReportIsSerial}
-use Rattle.glass_engine.specs.Report.{report, uneven_report, run_report}
+use Rattle.glass_engine.specs.BankRuns.{run_report}
+use Rattle.glass_engine.specs.Report.{report, uneven_report}
 use Rattle.glass_engine.specs.Runs.{RunView, starts, IsEnd}
+use Rattle.glass_engine.proofs.Reporting.{one-report}
 use Rattle.glass_engine.specs.Saves.{checkpoint, written, WholeCheckpointIsTheRules, LevelCheckpointIsSerial}
 use Rattle.glass_engine.specs.declared.run.SaveKind.TheVariants as saves
 use Rattle.glass_engine.proofs.SavedRuns.{fits-at}
@@ -61,7 +63,7 @@ ended-at run d whole takes e =
 
 -- the report of a run that isn't to stop is that of the states that it starts from
 report-of : (whole : UnstoppedRunIsWhole) (law : LevelReportIsSerial) (planned : Planned) (from : Beginning) (e : ℕ) (run : RunView) (d : RaggedEndedView)
-    → IsRunOf None planned from e run → IsEnd run d → run_report run (positions_of d.stand) ≡ run_text planned from e
+    → IsRunOf None planned from e run → IsEnd run d → run_report (record { run = run; ended = d } ∷ []) ≡ run_text planned from e
 report-of whole law planned (Level start) e run d o end =
     let b = o.base in
     let F : Plan → Type 0 = λ p. StandFits p b.stand in
@@ -72,7 +74,8 @@ report-of whole law planned (Level start) e run d o end =
     ∙ ap (λ n. report planned.plan start planned.orders n) o.until
 report-of whole law planned (Uneven stand) e run d o end =
     let text : Plan → RaggedStand → Orders → ℕ → List ℕ = λ p b r n. uneven_report p (λ i. uneven_part p.size i b) b.pending r.samples r.every r.spins n (all_at p n) in
-    ap (λ ps. uneven_report run.plan (starts run) run.base.pending run.orders.samples run.orders.every run.orders.spins run.until ps) (ended-at run d whole o.takes end)
+    one-report (record { run = run; ended = d }) end
+    ∙ ap (λ ps. uneven_report run.plan (starts run) run.base.pending run.orders.samples run.orders.every run.orders.spins run.until ps) (ended-at run d whole o.takes end)
     ∙ ap (λ p. text p run.base run.orders run.until) o.plan
     ∙ ap (λ b. text planned.plan b run.orders run.until) o.base
     ∙ ap (λ r. text planned.plan stand r run.until) o.orders
@@ -117,11 +120,12 @@ begins-upto planned from e run d plan until base end =
 
 -- its report
 pub text-of : (whole : UnstoppedRunIsWhole) (law : LevelReportIsSerial) (stop_after : Option ℕ) (planned : Planned) (from : Beginning) (e : ℕ) (run : RunView) (d : RaggedEndedView)
-    → IsRunOf stop_after planned from e run → IsEnd run d → run_report run (positions_of d.stand) ≡ text_at stop_after planned from e d.stand
+    → IsRunOf stop_after planned from e run → IsEnd run d → run_report (record { run = run; ended = d } ∷ []) ≡ text_at stop_after planned from e d.stand
 text-of whole law None planned from e run d o end = report-of whole law planned from e run d o end
 text-of whole law (Some takes) planned from e run d o end =
     let some = some-slots run d planned o.plan end in
-    stopped-report planned e run (positions_of d.stand) o.plan o.orders o.until
+    one-report (record { run = run; ended = d }) end
+    ∙ stopped-report planned e run (positions_of d.stand) o.plan o.orders o.until
     ∙ base-text planned from e (positions_of d.stand) run.base some (few-samples run d planned o.orders end) (begins-upto planned from e run d o.plan o.until o.base end) o.base
 
 -- its checkpoint

@@ -31,7 +31,7 @@ use Rattle.exchange_board.specs.Views.{RaggedEndedView}
 use Rattle.exchange_board.specs.declared.origin.Origin.{Origin}
 use Rattle.exchange_board.proofs.Origins.{done-reach}
 use Rattle.exchange_board.proofs.Starting.{taken-begun}
-use Rattle.glass_engine.specs.Report.{sample_rows, epoch_rows, rows_in_order, uneven_measured, all_rest, uneven_report, run_report}
+use Rattle.glass_engine.specs.Report.{sample_rows, epoch_rows, rows_in_order, uneven_measured, all_rest, uneven_report, bank_report}
 use Rattle.glass_engine.specs.Runs.{RunView, IsEnd}
 use Rattle.spin_model.proofs.Joined.{joined-same}
 use Rattle.glass_engine.proofs.Reporting.{spins-same}
@@ -137,12 +137,12 @@ base-text planned from until ends base some few upto is =
 
 -- ---- the report of a run that was opened so
 
-as-opened : (run : RunView) (ends : List Position) → run_report run ends ≡ stopped_text (record { plan = run.plan; orders = run.orders }) (Uneven run.base) run.until ends
+as-opened : (run : RunView) (ends : List Position) → bank_report run ends ≡ stopped_text (record { plan = run.plan; orders = run.orders }) (Uneven run.base) run.until ends
 unfolding stopped_text uneven_report
 as-opened run ends = refl
 
 pub stopped-report : (planned : Planned) (until : ℕ) (run : RunView) (ends : List Position) → run.plan ≡ planned.plan → run.orders ≡ planned.orders → run.until ≡ until
-    → run_report run ends ≡ stopped_text planned (Uneven run.base) until ends
+    → bank_report run ends ≡ stopped_text planned (Uneven run.base) until ends
 stopped-report planned until run ends plan orders last =
     let make : Plan → Orders → Planned = λ p o. record { plan = p; orders = o } in
     as-opened run ends

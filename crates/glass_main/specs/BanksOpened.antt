@@ -1,7 +1,7 @@
 -- A run over several banks as it is opened.
 use Rattle.std.specs.Prelude.{◌≡◌, ◌≢◌, ℕ, Bool, true, false, List, map, Option, Some, None, All}
 use Rattle.std.specs.Arc.{arc_value}
-use Rattle.glass_engine.specs.BankRuns.{bank_runs, bank_kind, plans_of, runs_of, runs_report, runs_checkpoint}
+use Rattle.glass_engine.specs.BankRuns.{bank_runs, bank_kind, plans_of, runs_of, run_report, runs_checkpoint}
 use Rattle.glass_engine.specs.Runs.{RunView, DoneView, IsEnd}
 use Rattle.glass_engine.specs.declared.run.SaveKind.TheVariants as saves
 use Rattle.plane_sweep.specs.declared.stand.Stand.{Stand}
@@ -27,7 +27,8 @@ pub record AreReady (name : Option (List ℕ)) (opened : OpenedBanks) : Type 0 w
 
 -- what these runs print and save is what is asked for, and the states at their end fit
 pub record AreRunsOf (planned : PlannedBanks) (starts : List (ℕ → Sample)) (until : ℕ) (runs : List RunView) : Type 0 where
-  pub report : runs_report runs ≡ banks_text planned starts until
+  pub report : (dones : List DoneView) → runs_of dones ≡ runs → All (λ (d : DoneView). IsEnd d.run d.ended) dones
+      → run_report dones ≡ banks_text planned starts until
   pub checkpoint : runs_checkpoint runs ≡ banks_bytes planned starts until
   pub states : (dones : List DoneView) → runs_of dones ≡ runs → All (λ (d : DoneView). IsEnd d.run d.ended) dones
       → AreBanks until planned.plans (banks_at planned.plans starts until)

@@ -18,7 +18,7 @@ ghost use Rattle.glass_main.specs.Statuses.{Printed, Saved, Unsought, Unplaced, 
 use crate::ending::Ending;
 use command_words::RunOrder;
 use glass_edges::{Fault, Gate, Shelf, Sink};
-use glass_engine::{Banks, BanksDone, drive_banks, print_banks, save_banks};
+use glass_engine::{Banks, BanksDone, drive_banks, print_report, save_banks};
 use report_sheets::Sheets;
 use scalar_rule::Plan;
 use std::alloc::Global;
@@ -63,7 +63,7 @@ pub(crate) fn finish_banks<R: Threads + Wait + Sync, H: Shelf, O: Sink, G: Gate 
         mut sheets,
     } = opened;
     let mut done = drive_banks(rt, banks, &plans, order.pieces, gate);
-    match print_banks(rt, &mut sheets, &done, &plans, out) {
+    match print_report(rt, &mut sheets, done.driven(), out) {
         Ok(()) => {}
         Err(_) => return Ending::Unwritten,
     }

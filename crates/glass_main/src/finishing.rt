@@ -23,6 +23,7 @@ use glass_engine::{
 use report_sheets::Sheets;
 use scalar_rule::Plan;
 use std::alloc::Global;
+use std::slice::from_ref;
 use std::sync::{Arc, Wait};
 use std::thread::Threads;
 
@@ -65,7 +66,7 @@ pub(crate) fn finish_run<R: Threads + Wait + Sync, H: Shelf, O: Sink, G: Gate + 
         mut sheets,
     } = opened;
     let mut done = drive(rt, run, &plan, order.pieces, gate);
-    match put_run(rt, &mut sheets, &done, &plan, out) {
+    match put_run(rt, &mut sheets, &done, out) {
         Ok(()) => {}
         Err(_) => return Ending::Unwritten,
     }
@@ -80,10 +81,8 @@ fn put_run<R: Threads + Sync, O: Sink>(
     rt: &R,
     sheets: &mut Sheets,
     done: &Done,
-    plan: &Plan,
     out: &mut O,
 ) -> Result<(), Fault>
-    requires plan { plan.now ≡ done.now.run.plan }
     requires ended { IsEnd done.now.run done.now.ended }
     ensures whole { (stop_after : Option ℕ) (planned : model.Planned) (from : Beginning) (until : ℕ)
         → IsRunOf stop_after planned from until done.now.run
@@ -99,7 +98,7 @@ fn put_run<R: Threads + Sync, O: Sink>(
     // epoch that of the serial dynamics.
     unstopped_run_is_whole();
     level_report_is_serial();
-    print_report(rt, sheets, done, plan, out)
+    print_report(rt, sheets, from_ref(done), out)
 }
 
 // Places the checkpoint of a run at its end, where a name is given.

@@ -1,5 +1,5 @@
 -- The report of a run whose slots begin or end at epochs of their own is a lawful report.
-use Rattle.std.proofs.Common.{arith, ◌≡◌, ℕ, zero, suc, ◌<◌, ◌≤◌, Bool, true, false, cond, not, ◌&&◌, ◌==◌, nat_lt, List, length, refl, sym, subst, pos, All}
+use Rattle.std.proofs.Common.{arith, ◌≡◌, ℕ, zero, suc, ◌<◌, ◌≤◌, Bool, true, false, cond, not, ◌&&◌, ◌==◌, nat_lt, List, [], ◌∷◌, length, refl, sym, subst, pos, All}
 use Rattle.std.specs.Prelude.{slice_index_or}
 use Rattle.std.proofs.lemmas.Bool.{ltb-true, ltb-false}
 use Rattle.std.proofs.lemmas.List.{get_or_past}
@@ -20,8 +20,10 @@ use Rattle.plane_sweep.specs.declared.uneven.RaggedStand.{RaggedStand}
 use Rattle.exchange_board.specs.Content.{plan_of}
 use Rattle.exchange_board.specs.Views.{RaggedEndedView}
 use Rattle.exchange_board.proofs.Settling.{partner-known}
-use Rattle.glass_engine.specs.Report.{uneven_measured, all_rest, uneven_report, run_report}
+use Rattle.glass_engine.specs.BankRuns.{run_report}
+use Rattle.glass_engine.specs.Report.{uneven_measured, all_rest, uneven_report}
 use Rattle.glass_engine.specs.Runs.{RunView, starts, IsEnd}
+use Rattle.glass_engine.proofs.Reporting.{one-report}
 use Rattle.run_laws.specs.LawfulRuns.{IsLawfulText, IsWithin}
 use Rattle.run_laws.proofs.LawfulReports.{composed, record-within, swept-labels, IsMeasured}
 
@@ -149,7 +151,7 @@ least-most f (suc n) =
 abbrev AllPermute : Plan → RaggedStand → Type 0
 AllPermute plan base = (b : ℕ) → b < 64 → PermutesAt (slots_of plan) (λ t. slot_at (uneven_part plan.size b base).slots t)
 
-pub ended-lawful : (run : RunView) (d : RaggedEndedView) → IsEnd run d → All (IsWithin run.plan) run.base.pending → IsLawfulText (run_report run (positions_of d.stand))
+pub ended-lawful : (run : RunView) (d : RaggedEndedView) → IsEnd run d → All (IsWithin run.plan) run.base.pending → IsLawfulText (run_report (record { run = run; ended = d } ∷ []))
 ended-lawful run d end kept =
     let o = end.origin in
     let lawful : IsLawfulPlan run.plan = subst IsLawfulPlan o.plan_is end.lawful.plan in
@@ -158,6 +160,7 @@ ended-lawful run d end kept =
     let few : run.orders.samples ≤ 64 = subst (λ n. n ≤ 64) o.samples_is end.lawful.base.few_samples in
     let rising : floor_of (positions_of run.base) ≤ floor_of (positions_of d.stand) = subst (λ (b : RaggedStand). floor_of (positions_of b) ≤ floor_of (positions_of d.stand)) o.base_is end.stop.from in
     let deep : floor_of (positions_of d.stand) ≤ deepest_of (positions_of d.stand) = least-most (λ t. done (position_in (positions_of d.stand) t)) (length (positions_of d.stand)) in
-    uneven-lawful run.plan (starts run) run.base.pending run.orders.samples run.orders.every run.until run.orders.spins (positions_of d.stand) lawful some (omega (arith, few)) rising
+    subst IsLawfulText (sym (one-report (record { run = run; ended = d }) end))
+    (uneven-lawful run.plan (starts run) run.base.pending run.orders.samples run.orders.every run.until run.orders.spins (positions_of d.stand) lawful some (omega (arith, few)) rising
     (omega (arith, deep, end.stop.reach, end.lawful.until))
-    (λ b less t below. let p = labels b (omega (arith, less, few)) in (p.first.below t below, p.second.below t below)) kept
+    (λ b less t below. let p = labels b (omega (arith, less, few)) in (p.first.below t below, p.second.below t below)) kept)

@@ -1,5 +1,5 @@
 -- The report of a run, as a report that can be read.
-use Rattle.std.specs.Prelude.{◌≡◌, ℕ, ◌*◌, ◌<◌, ◌≤◌, unsigned_abs, List, length, All}
+use Rattle.std.specs.Prelude.{◌≡◌, ℕ, ◌*◌, ◌<◌, ◌≤◌, unsigned_abs, List, [], ◌∷◌, length, All}
 use Rattle.spin_model.specs.Lattice.{volume}
 use Rattle.spin_model.specs.Limits.{last_epoch}
 use Rattle.scalar_rule.specs.Plan.{Plan, IsLawfulPlan, slots_of}
@@ -9,7 +9,7 @@ use Rattle.plane_sweep.specs.Uneven.{positions_of}
 use Rattle.plane_sweep.specs.declared.uneven.RaggedStand.{RaggedStand}
 use Rattle.run_plan.specs.RunFile.{AreLawfulOrders}
 use Rattle.exchange_board.specs.Views.{RaggedEndedView}
-use Rattle.glass_engine.specs.Report.{run_report}
+use Rattle.glass_engine.specs.BankRuns.{run_report}
 use Rattle.glass_engine.specs.Runs.{RunView, IsEnd}
 use Rattle.sample_average.specs.LawfulReport.{Report, Spells}
 use Rattle.glass_main.specs.Beginnings.{Beginning, Uneven, run_text}
@@ -56,7 +56,7 @@ StoppedReportsAreLawful = (planned : Planned) (from : Beginning) (until takes : 
 -- the same of the engine's runs: of any that was driven to its end or stopped, also from slots at epochs of their own, where the
 -- records that its starting state has ahead are within the ranges
 abbrev pub EndedReportsAreLawful : Type 0
-EndedReportsAreLawful = (run : RunView) (d : RaggedEndedView) → IsEnd run d → All (IsWithin run.plan) run.base.pending → IsLawfulText (run_report run (positions_of d.stand))
+EndedReportsAreLawful = (run : RunView) (d : RaggedEndedView) → IsEnd run d → All (IsWithin run.plan) run.base.pending → IsLawfulText (run_report (record { run = run; ended = d } ∷ []))
 
 -- ---- several banks
 

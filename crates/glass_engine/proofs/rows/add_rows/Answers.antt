@@ -1,59 +1,46 @@
-use Rattle.std.proofs.Common.{rules, arith, ◌≡◌, ◌<◌, ◌++◌, drop, ◌∙◌, ap, sym, subst, refl}
-use Rattle.std.proofs.lemmas.List.{take_rest}
-use Rattle.spin_model.proofs.Tables.{length-table}
-use Rattle.glass_edges.specs.Contents.{AppendsPrefix, PutsFront}
-use Rattle.exchange_board.specs.Content.{slots_in}
-use Rattle.glass_engine.specs.RecordPieces.{measured}
-use Rattle.spin_model.proofs.Joined.{window-none, window-at}
-use Rattle.glass_engine.proofs.Pieces.{rows_if, rows-front, rows-more, count-front, drop-front, records-ahead}
+use Rattle.std.proofs.Common.{rules, arith, ◌+◌, ap, sym, subst, refl, ◌∙◌}
 use Rattle.glass_edges.proofs.Puts.{OnErr_of}
+use Rattle.glass_engine.specs.BankRuns.{run_measured}
+use Rattle.glass_engine.specs.RecordPieces.{AreRowsFrom}
+use Rattle.glass_engine.specs.Report.{rows_in_order}
 use Rattle.glass_edges.proofs.Putting.{add-none, add-more, add-failed}
+use Rattle.glass_engine.proofs.BankRows.{rows-next}
+use Rattle.spin_model.proofs.Joined.{window-none, window-at}
+use Rattle.glass_engine.proofs.Pieces.{rows_if, rows-more}
 use Rattle.glass_engine.proofs.rows.add_rows.Goals as goal
 
 pub epochs-init : goal.epochs-init
 epochs-init g c = record {
   text = add-none _ _ _ (window-none _ c.args.from);
-  rest = take_rest c.args.rows.now.records.now c.rows_before.result ∙ ap (λ n. drop n c.args.rows.now.records.now) c.rows_before.ensures.value
-      ∙ (records-ahead (measured c.args.rows.now.origin.now) c.args.rows.now.origin.now.window.samples c.args.rows.now.slots c.args.rows.now.origin.now.window.every c.args.rows.now.from c.args.from c.args.rows.now.to
-      c.args.rows.now.records.now c.requires.ready.lawful.base.some_every (λ k f h. length-table _ (slots_in c.args.rows.now.origin.now) ∙ sym c.requires.ready.slots) c.requires.begin (omega (arith, c.requires.window, c.requires.end))
-      c.requires.ready.records).rest;
-  passed = refl;
+  rows = c.recorded_before-passed.ensures;
+  faultless = refl;
 }
 
-pub add_recorded-requires-clause-records : goal.add_recorded-requires-clause-records
-add_recorded-requires-clause-records g c =
-    let m = measured c.args.rows.now.origin.now in
-    let slots = c.args.rows.now.slots in
-    let are : slots ≡ slots_in c.args.rows.now.origin.now = c.requires.ready.slots in
-    let below : c.epochs.epoch < c.args.rows.now.to = omega (arith, c.epochs-test.true, c.requires.end) in
-    count-front m c.args.rows.now.origin.now.window.samples slots c.args.rows.now.origin.now.window.every c.epochs.epoch c.args.rows.now.to c.epochs.rest.now
-    (λ k within. length-table _ (slots_in c.args.rows.now.origin.now) ∙ sym are) below c.epochs.invariant.rest
+pub add_recorded-requires : goal.add_recorded-requires
+add_recorded-requires g c = record {
+  to = c.args.rows.now.to;
+  below = omega (arith, c.epochs-test.true, c.requires.end);
+  rows = c.epochs.invariant.rows;
+}
 
 pub returns-in_err-count-clause-prefix : goal.returns-in_err-count-clause-prefix
 returns-in_err-count-clause-prefix g c =
-    let m = measured c.args.rows.now.origin.now in
-    let slots = c.args.rows.now.slots in
-    let are : slots ≡ slots_in c.args.rows.now.origin.now = c.requires.ready.slots in
-    let below : c.epochs.epoch < c.args.rows.now.to = omega (arith, c.epochs-test.true, c.requires.end) in
-    let front = rows-front m c.args.rows.now.origin.now.window.samples slots c.args.rows.now.origin.now.window.every c.epochs.epoch c.args.rows.now.to c.epochs.rest.now
-    (λ k within. length-table _ (slots_in c.args.rows.now.origin.now) ∙ sym are) below c.epochs.invariant.rest in
-    let failed = subst (λ xs. AppendsPrefix (g.O.Sink.taken c.epochs.out) (g.O.Sink.taken c.add_recorded.new.out) (c.epochs.line ++ xs)) front c.in_err-count.ensures.prefix in
-    OnErr_of _ (add-failed _ _ _ _ _ _ _ _ _ c.epochs.invariant.text failed
-    (window-at (rows_if m c.args.rows.now.origin.now.window.samples c.args.rows.now.origin.now.window.every) c.args.from c.epochs.epoch c.args.to (search (rules, arith)) c.epochs-test.true))
+    let m = run_measured c.args.rows.now.driven.now in
+    let s = c.args.rows.now.orders.samples in
+    let n = c.args.rows.now.orders.every in
+    let e = c.epochs.epoch in
+    OnErr_of _ (add-failed _ _ _ _ (rows_in_order m s n c.args.from e) (rows_if m s n e) _ (rows_in_order m s n c.args.from c.args.to) _ c.epochs.invariant.text c.in_err-count.ensures.prefix
+    (window-at (rows_if m s n) c.args.from e c.args.to (search (rules, arith)) c.epochs-test.true))
 
 pub epochs-preserved : goal.epochs-preserved
 epochs-preserved g c =
-    let m = measured c.args.rows.now.origin.now in
-    let slots = c.args.rows.now.slots in
-    let are : slots ≡ slots_in c.args.rows.now.origin.now = c.requires.ready.slots in
-    let below : c.epochs.epoch < c.args.rows.now.to = omega (arith, c.epochs-test.true, c.requires.end) in
-    let front = rows-front m c.args.rows.now.origin.now.window.samples slots c.args.rows.now.origin.now.window.every c.epochs.epoch c.args.rows.now.to c.epochs.rest.now
-    (λ k within. length-table _ (slots_in c.args.rows.now.origin.now) ∙ sym are) below c.epochs.invariant.rest in
-    let behind = drop-front m c.args.rows.now.origin.now.window.samples slots c.args.rows.now.origin.now.window.every c.epochs.epoch c.args.rows.now.to c.epochs.rest.now
-    (λ k within. length-table _ (slots_in c.args.rows.now.origin.now) ∙ sym are) below c.epochs.invariant.rest in
+    let m = run_measured c.args.rows.now.driven.now in
+    let s = c.args.rows.now.orders.samples in
+    let n = c.args.rows.now.orders.every in
+    let e = c.epochs.epoch in
+    let next = rows-next c.args.rows.now.driven.now c.args.rows.now.orders c.args.rows.now.slots c.epochs.epoch c.args.rows.now.to c.epochs.passed (omega (arith, c.epochs-test.true, c.requires.end)) c.epochs.invariant.rows in
     record {
-      text = add-more _ _ _ _ _ _ _ _ _ c.epochs.invariant.text (subst (λ xs. PutsFront (g.O.Sink.taken c.epochs.out) (g.O.Sink.taken c.add_recorded.new.out) (c.epochs.line ++ xs) c.add_recorded.new.line) front c.in_ok-count.ensures.front)
-          (rows-more m c.args.rows.now.origin.now.window.samples c.args.rows.now.origin.now.window.every c.args.from c.epochs.epoch (search (rules, arith)));
-      rest = take_rest c.epochs.rest.now c.in_ok-count.count ∙ ap (λ n. drop n c.epochs.rest.now) c.in_ok-count.ensures.count ∙ behind;
-      passed = c.in_ok-count.ensures.cause.passed ∙ c.epochs.invariant.passed;
+      text = add-more _ _ _ _ (rows_in_order m s n c.args.from e) (rows_if m s n e) (rows_in_order m s n c.args.from (e + 1)) _ _ c.epochs.invariant.text c.in_ok-count.ensures.front (rows-more m s n c.args.from e (search (rules, arith)));
+      rows = subst (AreRowsFrom c.args.rows.now.driven.now c.args.rows.now.orders c.args.rows.now.slots (c.epochs.epoch + 1) c.args.rows.now.to) (ap (λ k. c.epochs.passed + k) (sym c.in_ok-count.ensures.count)) next;
+      faultless = c.in_ok-count.ensures.cause.passed ∙ c.epochs.invariant.faultless;
     }

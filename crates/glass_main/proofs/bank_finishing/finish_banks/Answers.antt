@@ -1,7 +1,7 @@
 use Rattle.std.proofs.Common.{◌≢◌, ℕ, List, ap, sym, ◌∙◌, subst}
 use Rattle.std.specs.Prelude.{All}
 use Rattle.glass_edges.specs.Contents.{appended, AppendsPrefix}
-use Rattle.glass_engine.specs.BankRuns.{runs_report, runs_checkpoint}
+use Rattle.glass_engine.specs.BankRuns.{runs_checkpoint}
 use Rattle.glass_engine.specs.Runs.{RunView}
 use Rattle.glass_engine.specs.declared.run.SaveKind.TheVariants as saves
 use Rattle.glass_main.specs.Outside.{Store, store}
@@ -17,14 +17,14 @@ save_run-requires-clause-saved g c = λ named.
 
 pub returns-in-Err-clause-wrote : goal.returns-in-Err-clause-wrote
 returns-in-Err-clause-wrote g c = λ planned starts until are.
-    let same = ap runs_report c.drive_banks-done.ensures.runs ∙ are.report in (
+    let same = c.driven.ensures.report ∙ are.report c.drive_banks-done.result c.drive_banks-done.ensures.runs c.drive_banks-done.ensures.ended in (
       are.states c.drive_banks-done.result c.drive_banks-done.ensures.runs c.drive_banks-done.ensures.ended,
-      subst (AppendsPrefix (g.O.Sink.taken c.args.out.now) (g.O.Sink.taken c.print_banks.new.out)) same c.in-Err.ensures.prefix,
+      subst (AppendsPrefix (g.O.Sink.taken c.args.out.now) (g.O.Sink.taken c.print_report.new.out)) same c.in-Err.ensures.prefix,
     )
 
 pub returns-in-Ok-save_run-clause-wrote : goal.returns-in-Ok-save_run-clause-wrote
 returns-in-Ok-save_run-clause-wrote g c = λ planned starts until are.
-    let text = ap runs_report c.drive_banks-done.ensures.runs ∙ are.report in
+    let text = c.driven.ensures.report ∙ are.report c.drive_banks-done.result c.drive_banks-done.ensures.runs c.drive_banks-done.ensures.ended in
     let bytes = ap runs_checkpoint c.drive_banks-done.ensures.runs ∙ are.checkpoint in
     let held : Store = store g.H.Shelf.holds g.H.Shelf.faults g.H.Shelf.lengths c.args.shelf.now in
     let holds : Store = store g.H.Shelf.holds g.H.Shelf.faults g.H.Shelf.lengths c.save_run.new.shelf in
@@ -35,7 +35,7 @@ returns-in-Ok-save_run-clause-wrote g c = λ planned starts until are.
 
 pub returns-clause-wrote : goal.returns-clause-wrote
 returns-clause-wrote g c = λ planned starts until are.
-    let text = ap runs_report c.drive_banks-done.ensures.runs ∙ are.report in (
+    let text = c.driven.ensures.report ∙ are.report c.drive_banks-done.result c.drive_banks-done.ensures.runs c.drive_banks-done.ensures.ended in (
       are.states c.drive_banks-done.result c.drive_banks-done.ensures.runs c.drive_banks-done.ensures.ended,
       c.in-Ok.ensures.whole ∙ ap (appended (g.O.Sink.taken c.args.out.now)) text,
     )
