@@ -84,52 +84,54 @@ chosen-at m x y i k p q r h =
     rw (at bit_xor y (zip2 bit_and m (zip2 bit_xor x y)) i r masked h, at bit_and m (zip2 bit_xor x y) i p differ h, at bit_xor x y i q r h)
     (is_set-choose (get_or m i 0) (get_or x i 0) (get_or y i 0) k)
 
--- comparison of two words as numbers with a sign
-abbrev below : ℕ → ℕ → Bool
-below a b = int_lt (to_z w64 a) (to_z w64 b)
-
--- ones where a draw compares as below y
-abbrev pub lower : ℕ → List ℕ → ℕ → List ℕ
-lower n d y =
-    sel_l (map (top 63) (zip2 (λ a b. cond (below a b) (2 ^ 64 - 1) 0) (map (λ a. a) d) (replicate n y))) (all n) (none n)
+-- ones where the test of a draw and y holds, and zeros elsewhere
+abbrev pub tested : (ℕ → ℕ → Bool) → ℕ → List ℕ → ℕ → List ℕ
+tested t n d y =
+    sel_l (map (top 63) (zip2 (λ a b. cond (t a b) (2 ^ 64 - 1) 0) (map (λ a. a) d) (replicate n y))) (all n) (none n)
 
 wide-long : (n : ℕ) (d : List ℕ) → length d ≡ n → length (map (λ (a : ℕ). a) d) ≡ n
 wide-long n d p = length-map d (λ (a : ℕ). a) ∙ p
 
-tests-long : (n : ℕ) (d : List ℕ) (y : ℕ) → length d ≡ n → length (zip2 below (map (λ (a : ℕ). a) d) (replicate n y)) ≡ n
-tests-long n d y p =
+tests-long : (t : ℕ → ℕ → Bool) (n : ℕ) (d : List ℕ) (y : ℕ) → length d ≡ n → length (zip2 t (map (λ (a : ℕ). a) d) (replicate n y)) ≡ n
+tests-long t n d y p =
     let e = wide-long n d p in
-    length-zip2 below (map (λ (a : ℕ). a) d) (replicate n y) (e ∙ sym (length-replicate {A = ℕ} n y)) ∙ e
+    length-zip2 t (map (λ (a : ℕ). a) d) (replicate n y) (e ∙ sym (length-replicate {A = ℕ} n y)) ∙ e
 
-pub lower-long : (n : ℕ) (d : List ℕ) (y : ℕ) → length d ≡ n → length (lower n d y) ≡ n
-lower-long n d y p =
+pub tested-long : (t : ℕ → ℕ → Bool) (n : ℕ) (d : List ℕ) (y : ℕ) → length d ≡ n → length (tested t n d y) ≡ n
+tested-long t n d y p =
     let ys : List ℕ = replicate n y in
     let ds : List ℕ = map (λ (a : ℕ). a) d in
-    let e = tests-long n d y p in
-    ap (λ ms. length (sel_l ms (all n) (none n))) (tops_compared w64 below ds ys)
-    ∙ length-sel_l (zip2 below ds ys) (all n) (none n) (e ∙ sym (all-long n)) (e ∙ sym (length-replicate {A = ℕ} n 0)) ∙ e
+    let e = tests-long t n d y p in
+    ap (λ ms. length (sel_l ms (all n) (none n))) (tops_compared w64 t ds ys)
+    ∙ length-sel_l (zip2 t ds ys) (all n) (none n) (e ∙ sym (all-long n)) (e ∙ sym (length-replicate {A = ℕ} n 0)) ∙ e
 
 ones-if : (t : Bool) (k : ℕ) → k < 64 → is_set (cond t (2 ^ 64 - 1) 0) k ≡ t
 ones-if true k h = is_set-ones k h
 ones-if false k h = is_set-zero k
 
+pub tested-at : (t : ℕ → ℕ → Bool) (n : ℕ) (d : List ℕ) (y i k : ℕ) → length d ≡ n → i < n → k < 64
+    → is_set (get_or (tested t n d y) i 0) k ≡ t (get_or d i 0) y
+tested-at t n d y i k p h l =
+    let ys : List ℕ = replicate n y in
+    let ds : List ℕ = map (λ (a : ℕ). a) d in
+    let e = tests-long t n d y p in
+    let same : get_or ds i 0 ≡ get_or d i 0 = get_or-map (λ (a : ℕ). a) d i 0 0 (omega arith) in
+    let test : get_or (zip2 t ds ys) i false ≡ t (get_or ds i 0) y = get_or-zip2 t ds ys i 0 0 false (omega (arith, wide-long n d p)) (omega (arith, length-replicate {A = ℕ} n y)) ∙ ap (t (get_or ds i 0)) (get_or-replicate {A = ℕ} n i y 0 h) in
+    let on : get_or (all n) i 0 ≡ 2 ^ 64 - 1 = get_or-replicate {A = ℕ} n i (2 ^ 64 - 1) 0 h in
+    let off : get_or (none n) i 0 ≡ 0 = get_or-replicate {A = ℕ} n i 0 0 h in
+    ap (λ ms. is_set (get_or (sel_l ms (all n) (none n)) i 0) k) (tops_compared w64 t ds ys)
+    ∙ ap (λ x. is_set x k) (get_or-sel_l (zip2 t ds ys) (all n) (none n) i 0 (omega arith) (omega (arith, all-long n)) (omega (arith, length-replicate {A = ℕ} n 0)))
+    ∙ rw (test, on, off) (ones-if (t (get_or ds i 0) y) k l)
+    ∙ ap (λ a. t a y) same
+
+-- comparison of two words as numbers with a sign
+abbrev pub below : ℕ → ℕ → Bool
+below a b = int_lt (to_z w64 a) (to_z w64 b)
+
 -- a number below 2 ^ 32 is that number with a sign
 below-signed : (a : ℕ) (z : ℤ) → a < 2 ^ 32 → SFits w64 z → below a (of_z w64 z) ≡ int_lt (pos a) z
 below-signed a z h f = rw (to_z_pos w64 a (omega arith), to_z-of_z w64 z f) refl
 
-pub lower-at : (n : ℕ) (d : List ℕ) (z : ℤ) (i k : ℕ) → length d ≡ n → SFits w64 z → i < n → k < 64 → get_or d i 0 < 2 ^ 32
-    → is_set (get_or (lower n d (of_z w64 z)) i 0) k ≡ int_lt (pos (get_or d i 0)) z
-lower-at n d z i k p f h l few =
-    let y = of_z w64 z in
-    let ys : List ℕ = replicate n y in
-    let ds : List ℕ = map (λ (a : ℕ). a) d in
-    let e = tests-long n d y p in
-    let same : get_or ds i 0 ≡ get_or d i 0 = get_or-map (λ (a : ℕ). a) d i 0 0 (omega arith) in
-    let test : get_or (zip2 below ds ys) i false ≡ below (get_or ds i 0) y = get_or-zip2 below ds ys i 0 0 false (omega (arith, wide-long n d p)) (omega (arith, length-replicate {A = ℕ} n y)) ∙ ap (below (get_or ds i 0)) (get_or-replicate {A = ℕ} n i y 0 h) in
-    let on : get_or (all n) i 0 ≡ 2 ^ 64 - 1 = get_or-replicate {A = ℕ} n i (2 ^ 64 - 1) 0 h in
-    let off : get_or (none n) i 0 ≡ 0 = get_or-replicate {A = ℕ} n i 0 0 h in
-    ap (λ ms. is_set (get_or (sel_l ms (all n) (none n)) i 0) k) (tops_compared w64 below ds ys)
-    ∙ ap (λ x. is_set x k) (get_or-sel_l (zip2 below ds ys) (all n) (none n) i 0 (omega arith) (omega (arith, all-long n)) (omega (arith, length-replicate {A = ℕ} n 0)))
-    ∙ rw (test, on, off) (ones-if (below (get_or ds i 0) y) k l)
-    ∙ ap (λ a. below a y) same
-    ∙ below-signed (get_or d i 0) z few f
+pub below-at : (n : ℕ) (d : List ℕ) (z : ℤ) (i k : ℕ) → length d ≡ n → SFits w64 z → i < n → k < 64 → get_or d i 0 < 2 ^ 32
+    → is_set (get_or (tested below n d (of_z w64 z)) i 0) k ≡ int_lt (pos (get_or d i 0)) z
+below-at n d z i k p f h l few = tested-at below n d (of_z w64 z) i k p h l ∙ below-signed (get_or d i 0) z few f

@@ -5,7 +5,9 @@
 pub use lane_rule::{heat_bath_lanes, heat_bath_sites, metropolis_lanes, metropolis_sites};
 pub use laws::{heat_bath_both_ways, metropolis_both_ways};
 pub use ready_rule::ReadyRule;
-pub use vectors::{full_adder_lanes, load};
+pub use vectors::{
+    choose_lanes, differing_lanes, full_adder_lanes, joined_lanes, load, shared_lanes,
+};
 pub use word_rule::{heat_bath, metropolis};
 
 mod lane_rule;

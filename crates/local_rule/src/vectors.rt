@@ -165,9 +165,9 @@ pub fn differing_lanes<const N: usize>(a: Simd<u64, N>, b: Simd<u64, N>) -> Simd
     a ^ b
 }
 
-// Where both are set.
+/// Where both are set.
 #[inline(always)]
-fn shared_lanes<const N: usize>(a: Simd<u64, N>, b: Simd<u64, N>) -> Simd<u64, N>
+pub fn shared_lanes<const N: usize>(a: Simd<u64, N>, b: Simd<u64, N>) -> Simd<u64, N>
     requires { (length a ≡ N) × (length b ≡ N) }
     ensures length { length result ≡ N }
     ensures shared { (i k : ℕ) → i < N → is_set (slice_index result i) k

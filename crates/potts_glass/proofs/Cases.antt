@@ -1,6 +1,5 @@
 -- Colours of two bits, and the thirteen gaps, on truth values.
-use Rattle.std.proofs.Common.{◌≡◌, ℕ, zero, suc, ◌+◌, ◌*◌, ◌-◌, ◌%◌, ◌<◌, ◌≤◌, ◌==◌, ◌||◌, ◌&&◌, not, nat_le, Bool, true, false, if◌then◌else◌, refl, arith}
-use Rattle.std.proofs.lemmas.Bool.{lt-leb, le-leb}
+use Rattle.std.proofs.Common.{◌≡◌, ℕ, zero, suc, ◌+◌, ◌*◌, ◌<◌, ◌==◌, ◌||◌, ◌&&◌, not, Bool, true, false, if◌then◌else◌, refl, arith}
 use Rattle.multispin_word.specs.Planes.{one_if, differs}
 use Rattle.potts_glass.specs.Potts as model
 
@@ -25,25 +24,25 @@ same-bits false false false false = refl
 
 -- the colour that is 1, 2 or 3 on: p and q are the two bits of that number
 pub advanced-bits : (x y p q : Bool) (step : ℕ) → 1 + step ≡ one_if p + 2 * one_if q → step < 3
-    → one_if (differs x p) + 2 * one_if (differs (differs y q) (x && p)) ≡ model.proposed (one_if x + 2 * one_if y) step
+    → one_if (differs x p) + 2 * one_if (differs y (differs q (x && p))) ≡ model.proposed (one_if x + 2 * one_if y) step
 advanced-bits x y false false step e h = absurd (omega arith)
 advanced-bits x y true false step e h = let s : step ≡ 0 = omega arith in rw s (one x y)
   where
-    one : (x y : Bool) → one_if (differs x true) + 2 * one_if (differs (differs y false) (x && true)) ≡ model.proposed (one_if x + 2 * one_if y) 0
+    one : (x y : Bool) → one_if (differs x true) + 2 * one_if (differs y (differs false (x && true))) ≡ model.proposed (one_if x + 2 * one_if y) 0
     one true true = refl
     one true false = refl
     one false true = refl
     one false false = refl
 advanced-bits x y false true step e h = let s : step ≡ 1 = omega arith in rw s (two x y)
   where
-    two : (x y : Bool) → one_if (differs x false) + 2 * one_if (differs (differs y true) (x && false)) ≡ model.proposed (one_if x + 2 * one_if y) 1
+    two : (x y : Bool) → one_if (differs x false) + 2 * one_if (differs y (differs true (x && false))) ≡ model.proposed (one_if x + 2 * one_if y) 1
     two true true = refl
     two true false = refl
     two false true = refl
     two false false = refl
 advanced-bits x y true true step e h = let s : step ≡ 2 = omega arith in rw s (three x y)
   where
-    three : (x y : Bool) → one_if (differs x true) + 2 * one_if (differs (differs y true) (x && true)) ≡ model.proposed (one_if x + 2 * one_if y) 2
+    three : (x y : Bool) → one_if (differs x true) + 2 * one_if (differs y (differs true (x && true))) ≡ model.proposed (one_if x + 2 * one_if y) 2
     three true true = refl
     three true false = refl
     three false true = refl
@@ -56,33 +55,34 @@ step-bits (suc zero) h = refl
 step-bits (suc (suc zero)) h = refl
 step-bits (suc (suc (suc n))) h = absurd (omega arith)
 
--- a gap that costs n + 1
-costly : (t : ℕ → Bool) (p q n : ℕ) → p ≡ q + (n + 1) → t n ≡ (nat_le p q || t (p - q - 1))
-costly t p q n e =
-    let above : nat_le p q ≡ false = lt-leb p q (omega arith) in
-    let index : p - q - 1 ≡ n = omega arith in
-    rw (above, index) refl
+-- the change to it is none to the same colour
+pub moved-bits : (x p q : Bool) (step : ℕ) → 1 + step ≡ one_if p + 2 * one_if q → (p || differs q (x && p)) ≡ true
+moved-bits x true q step e = refl
+moved-bits true false true step e = refl
+moved-bits false false true step e = refl
+moved-bits x false false step e = absurd (omega arith)
 
--- one that is free
-free : (t : ℕ → Bool) (p q : ℕ) → p ≤ q → true ≡ (nat_le p q || t (p - q - 1))
-free t p q h = let below : nat_le p q ≡ true = le-leb p q h in rw below refl
-
--- the case of the gap p - q, of which the four bits are those of its remainder modulo 16
-pub case-of_gap : (t : ℕ → Bool) (x y z w : Bool) (p q : ℕ) → p ≤ 6 → q ≤ 6
-    → one_if x + 2 * one_if y + 4 * one_if z + 8 * one_if w ≡ (p + 16 - q) % 16
-    → (if w then true else
-    (if z then (if y then t 5 else (if x then t 4 else t 3))
-    else (if y then (if x then t 2 else t 1) else (if x then t 0 else true))))
-    ≡ (nat_le p q || t (p - q - 1))
-case-of_gap t x y z true p q h k e = free t p q (above x y z e)
+-- a bit that differs from two bits in turn
+pub differs-twice : (x y z : Bool) → differs x (differs y z) ≡ differs (differs x y) z
+differs-twice true true z = not-twice z
   where
-    above : (x y z : Bool) → one_if x + 2 * one_if y + 4 * one_if z + 8 ≡ (p + 16 - q) % 16 → p ≤ q
-    above x y z f = omega arith
-case-of_gap t false false false false p q h k e = free t p q (omega arith)
-case-of_gap t true false false false p q h k e = costly t p q 0 (omega arith)
-case-of_gap t false true false false p q h k e = costly t p q 1 (omega arith)
-case-of_gap t true true false false p q h k e = costly t p q 2 (omega arith)
-case-of_gap t false false true false p q h k e = costly t p q 3 (omega arith)
-case-of_gap t true false true false p q h k e = costly t p q 4 (omega arith)
-case-of_gap t false true true false p q h k e = costly t p q 5 (omega arith)
-case-of_gap t true true true false p q h k e = absurd (omega arith)
+    not-twice : (z : Bool) → not (not z) ≡ z
+    not-twice true = refl
+    not-twice false = refl
+differs-twice true false z = refl
+differs-twice false y z = refl
+
+-- a bit that is turned in a mask
+pub turned-in : (x d m : Bool) → differs x (d && m) ≡ (if m then differs x d else x)
+turned-in true true true = refl
+turned-in true true false = refl
+turned-in true false true = refl
+turned-in true false false = refl
+turned-in false true true = refl
+turned-in false true false = refl
+turned-in false false true = refl
+turned-in false false false = refl
+
+pub differs-true : (x : Bool) → differs x true ≡ not x
+differs-true true = refl
+differs-true false = refl

@@ -1,4 +1,6 @@
 pub mod Cases
+pub mod Votes
+pub mod SixVotes
 pub mod Colours
 pub mod Sites
 pub mod NeighbourPlaces

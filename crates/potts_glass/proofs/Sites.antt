@@ -1,5 +1,5 @@
 -- The colours of a sample, site by site.
-use Rattle.std.proofs.Common.{inl, inr, ◌≡◌, ℕ, zero, suc, ◌+◌, ◌-◌, ◌*◌, ◌/◌, ◌%◌, ◌<◌, ◌==◌, Bool, List, [], ◌∷◌, ◌++◌, length, get_or, set, subst, refl, sym, ap, ◌∙◌, arith}
+use Rattle.std.proofs.Common.{inl, inr, ◌≡◌, ℕ, zero, suc, ◌+◌, ◌*◌, ◌/◌, ◌%◌, ◌<◌, ◌==◌, Bool, List, [], ◌∷◌, ◌++◌, length, get_or, set, subst, refl, sym, ap, ◌∙◌, arith}
 use Rattle.std.proofs.lemmas.Bool.{cases_lt, cases_eq}
 use Rattle.std.proofs.lemmas.List.{get_or_append_left, get_or_at, get_or-set_same, get_or-set_other, length-set}
 use Rattle.std.proofs.lemmas.Nat.Bits.{bit_at-zero}
@@ -95,6 +95,19 @@ colours-written l sites b i x sized within =
     ])
     ∙ sym (table-of_items (λ j. get_or (set (colours_of l sites b) i (colour_in x b)) j 0) (volume l) 0 (set (colours_of l sites b) i (colour_in x b)) (length-set (colours_of l sites b) i _ ∙ long) (λ k below. refl))
 
+-- those of four sites
+pub colours-written-four : (l : ℕ) (sites : List (List ℕ)) (b i j k m : ℕ) (x y z w : List ℕ) → length sites ≡ volume l → i < volume l → j < volume l → k < volume l → m < volume l
+    → colours_of l (set (set (set (set sites i x) j y) k z) m w) b
+    ≡ set (set (set (set (colours_of l sites b) i (colour_in x b)) j (colour_in y b)) k (colour_in z b)) m (colour_in w b)
+colours-written-four l sites b i j k m x y z w sized one two three four =
+    let first = length-set sites i x ∙ sized in
+    let second = length-set (set sites i x) j y ∙ first in
+    let third = length-set (set (set sites i x) j y) k z ∙ second in
+    colours-written l (set (set (set sites i x) j y) k z) b m w third four
+    ∙ ap (λ s. set s m (colour_in w b)) (colours-written l (set (set sites i x) j y) b k z second three)
+    ∙ ap (λ s. set (set s k (colour_in z b)) m (colour_in w b)) (colours-written l (set sites i x) b j y first two)
+    ∙ ap (λ s. set (set (set s j (colour_in y b)) k (colour_in z b)) m (colour_in w b)) (colours-written l sites b i x sized one)
+
 -- what holds of each of six
 pub each-of_six : (P : ℕ → Type 0) → P 0 → P 1 → P 2 → P 3 → P 4 → P 5 → (k : ℕ) → k < 6 → P k
 each-of_six P p q r s t u zero h = p
@@ -104,3 +117,11 @@ each-of_six P p q r s t u (suc (suc (suc zero))) h = s
 each-of_six P p q r s t u (suc (suc (suc (suc zero)))) h = t
 each-of_six P p q r s t u (suc (suc (suc (suc (suc zero))))) h = u
 each-of_six P p q r s t u (suc (suc (suc (suc (suc (suc n)))))) h = absurd (omega arith)
+
+-- and of each of four
+pub each-of_four : (P : ℕ → Type 0) → P 0 → P 1 → P 2 → P 3 → (k : ℕ) → k < 4 → P k
+each-of_four P p q r s zero h = p
+each-of_four P p q r s (suc zero) h = q
+each-of_four P p q r s (suc (suc zero)) h = r
+each-of_four P p q r s (suc (suc (suc zero))) h = s
+each-of_four P p q r s (suc (suc (suc (suc n)))) h = absurd (omega arith)

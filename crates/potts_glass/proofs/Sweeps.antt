@@ -1,19 +1,20 @@
 -- A half sweep in rows and pairs of sites: of two neighbours in x one has the class.
-use Rattle.std.proofs.Common.{◌≡◌, ◌≢◌, ℕ, zero, suc, ◌+◌, ◌*◌, ◌/◌, ◌%◌, ◌<◌, ◌≤◌, true, false, cond, ◌==◌, if◌then◌else◌, List, [], get_or, set, refl, sym, ap, ◌∙◌, subst, arith, zero-add, add-one}
+use Rattle.std.proofs.Common.{◌≡◌, ◌≢◌, ℕ, zero, suc, ◌+◌, ◌-◌, ◌*◌, ◌/◌, ◌%◌, ◌^◌, ◌<◌, ◌≤◌, nat_lt, true, false, cond, ◌==◌, if◌then◌else◌, List, [], get_or, set, refl, sym, ap, ◌∙◌, subst, arith, zero-add, add-one}
 use Rattle.std.proofs.lemmas.Bool.{eqb-true}
 use Rattle.std.proofs.lemmas.Nat.{div-mul-add, mul-add-lt}
 use Rattle.std.proofs.lemmas.List.{get_or-set_other}
 use Rattle.std.proofs.Math.Nat.{mul_assoc, mul_comm}
 use native.Mathlib.Nat.{mod-lt, suc-mul}
-use Rattle.spin_model.specs.Lattice.{IsLawfulSize, site_at, x_of, y_of, z_of, colour as class, place_in_plane}
+use Rattle.spin_model.specs.Lattice.{IsLawfulSize, volume, site_at, x_of, y_of, z_of, forward, backward, colour as class, place_in_plane}
 use Rattle.spin_model.specs.Steps.{steps}
 use Rattle.spin_model.specs.Stream.{draw, draws}
-use Rattle.spin_model.proofs.Colours.{colour-site_at}
+use Rattle.spin_model.proofs.Colours.{colour-site_at, colour-forward, colour-backward}
 use Rattle.spin_model.proofs.Counts.{count-same}
-use Rattle.spin_model.proofs.Sites.{x_of-site_at, y_of-site_at, site_at-planes}
+use Rattle.spin_model.proofs.Sites.{x_of-site_at, y_of-site_at, site_at-planes, site_at-below}
 use Rattle.spin_model.proofs.Stepping.{steps-same, steps-add, steps-more, cond-same}
 use Rattle.spin_model.proofs.Tables.{get_or-table}
-use Rattle.potts_glass.specs.Potts.{Dynamics, Surroundings, favours, votes, is_made, proposed, new_colour, step_of, around, updated, visit, site_draw, plane_drawn}
+use Rattle.potts_glass.specs.Potts.{Dynamics, Surroundings, favours, votes, is_made, proposed, new_colour, step_of, neighbour, around, updated, visit, site_draw, plane_drawn}
+use Rattle.potts_glass.specs.SitesBeside.{renewed}
 
 -- ---- what a site sees
 
@@ -91,6 +92,72 @@ pair-visits d draw_at c y z k p s lawful chosen row column bit parity =
     by_parity (suc zero) _ parity first second =
         ap (visit d draw_at c (site_at d.size (2 * k + 1) y z)) (visit-not d draw_at c (site_at d.size (2 * k) y z) _ (λ e. omega arith))
     by_parity (suc (suc n)) bit parity first second = absurd (omega arith)
+
+-- ---- several sites of a row at once
+
+-- each of them stands apart from those before it
+apart-in_row : (l x y z n m : ℕ) → m < n → site_at l (x + 2 * n) y z ≢ site_at l (x + 2 * m) y z
+apart-in_row l x y z n m less = λ e. absurd (omega (arith, e, less))
+
+-- the sites beside them keep their colours
+renewed-apart : (d : Dynamics) (draw_at : ℕ → ℕ → ℕ) (x y z n : ℕ) (s : List ℕ) (j : ℕ) → ((m : ℕ) → m < n → j ≢ site_at d.size (x + 2 * m) y z)
+    → get_or (renewed d draw_at x y z n s) j 0 ≡ get_or s j 0
+unfolding renewed
+renewed-apart d draw_at x y z zero s j other = refl
+renewed-apart d draw_at x y z (suc n) s j other =
+    get_or-set_other (renewed d draw_at x y z n s) (site_at d.size (x + 2 * n) y z) j _ 0 (other n (omega arith))
+    ∙ renewed-apart d draw_at x y z n s j (λ m less. other m (omega arith))
+
+-- no neighbour of a site has the site's class
+class-near : (l i k : ℕ) → IsLawfulSize l → i < volume l → class l (neighbour l i k) + class l i ≡ 1
+class-near l i k lawful within = elim (nat_lt k 3) as (λ b. class l (if b then forward l i k else backward l i (k - 3)) + class l i ≡ 1) [
+  | true ↦ colour-forward l i k lawful within
+  | false ↦ colour-backward l i (k - 3) lawful within
+]
+
+-- so the next site of the row gets its new colour as if none had been renewed
+updated-renewed : (d : Dynamics) (draw_at : ℕ → ℕ → ℕ) (c x y z n : ℕ) (s : List ℕ) → IsLawfulSize d.size → x + 2 * n < d.size → y < d.size → z < d.size → (x + y + z) % 2 ≡ c
+    → updated d draw_at (renewed d draw_at x y z n s) (site_at d.size (x + 2 * n) y z) ≡ updated d draw_at s (site_at d.size (x + 2 * n) y z)
+updated-renewed d draw_at c x y z n s lawful column row plane parity =
+    let l = d.size in
+    let j = site_at l (x + 2 * n) y z in
+    let now = renewed d draw_at x y z n s in
+    let of_class : (m : ℕ) → m ≤ n → class l (site_at l (x + 2 * m) y z) ≡ c = λ m most. colour-site_at l (x + 2 * m) y z (omega (arith, most)) row ∙ omega (arith, parity) in
+    let agree : AgreeAround (around l d.bonds now j) (around l d.bonds s j) = record {
+      colours = λ k h. renewed-apart d draw_at x y z n s (neighbour l j k) (λ m less e.
+          absurd (omega (arith, class-near l j k lawful (site_at-below l (x + 2 * n) y z column row plane), of_class n (omega arith), ap (class l) e, of_class m (omega arith))));
+      bonds = λ k h. refl;
+    } in
+    let own : get_or now j 0 ≡ get_or s j 0 = renewed-apart d draw_at x y z n s j (apart-in_row l x y z n) in
+    new_colour-same d.thresholds (step_of (draw_at j 0)) (draw_at j 1) (around l d.bonds now j) (around l d.bonds s j) (get_or now j 0) agree
+    ∙ ap (new_colour d.thresholds (step_of (draw_at j 0)) (draw_at j 1) (around l d.bonds s j)) own
+
+-- n pairs more, at once
+pub renewed-visits : (d : Dynamics) (draw_at : ℕ → ℕ → ℕ) (c y z k n : ℕ) (s : List ℕ) → IsLawfulSize d.size → c < 2 → y < d.size → z < d.size → k + n ≤ d.size / 2
+    → renewed d draw_at (2 * k + (c + y + z) % 2) y z n (steps (visit d draw_at c) (z * (d.size * d.size) + y * d.size) (2 * k) s)
+    ≡ steps (visit d draw_at c) (z * (d.size * d.size) + y * d.size) (2 * (k + n)) s
+unfolding renewed
+renewed-visits d draw_at c y z k zero s lawful chosen row plane within =
+    let none : k ≡ k + 0 = omega arith in
+    ap (λ m. steps (visit d draw_at c) (z * (d.size * d.size) + y * d.size) (2 * m) s) none
+renewed-visits d draw_at c y z k (suc n) s lawful chosen row plane within =
+    let l = d.size in
+    let p = (c + y + z) % 2 in
+    let x = 2 * k + p in
+    let start = z * (l * l) + y * l in
+    let old = steps (visit d draw_at c) start (2 * k) s in
+    let before = renewed-visits d draw_at c y z k n s lawful chosen row plane (omega arith) in
+    let parity : (x + y + z) % 2 ≡ c = omega arith in
+    let column : x + 2 * n < l = omega arith in
+    let place : 2 * (k + n) + p ≡ x + 2 * n = omega arith in
+    let more : k + suc n ≡ k + n + 1 = omega arith in
+    let here : class l (site_at l (x + 2 * n) y z) ≡ c = colour-site_at l (x + 2 * n) y z column row ∙ omega (arith, parity) in
+    ap (set (renewed d draw_at x y z n old) (site_at l (x + 2 * n) y z)) (sym (updated-renewed d draw_at c x y z n old lawful column row plane parity))
+    ∙ sym (visit-here d draw_at c (site_at l (x + 2 * n) y z) (renewed d draw_at x y z n old) here)
+    ∙ ap (visit d draw_at c (site_at l (x + 2 * n) y z)) before
+    ∙ ap (λ u. visit d draw_at c (site_at l u y z) (steps (visit d draw_at c) start (2 * (k + n)) s)) (sym place)
+    ∙ sym (pair-visits d draw_at c y z (k + n) p s lawful chosen row (omega arith) (omega arith) refl)
+    ∙ ap (λ m. steps (visit d draw_at c) start (2 * m) s) (sym more)
 
 -- the number of a pair's draws in its plane
 pair-place : (l c y z k : ℕ) → l % 2 ≡ 0 → y < l → k < l / 2 → place_in_plane l (pair_site l c y z k) ≡ y * (l / 2) + k
@@ -196,3 +263,13 @@ pair-draws l y k lawful row column =
     let even : l ≡ l / 2 * 2 = omega arith in
     let whole : l * l ≡ l * (l / 2) * 2 = ap (λ n. l * n) even ∙ sym (mul_assoc l (l / 2) 2) in
     omega arith
+
+-- the draws of four pairs of a row are among those of its plane
+pub four-draws : (l y k : ℕ) → IsLawfulSize l → y < l → k + 4 ≤ l / 2 → 2 * (y * (l / 2) + k) + 8 ≤ l * l
+four-draws l y k lawful row within =
+    let last = pair-draws l y (k + 3) lawful row (omega arith) in
+    omega arith
+
+-- a step is 0, 1 or 2
+pub step-below : (u : ℕ) → u < 2 ^ 32 → step_of u < 3
+step-below u few = omega arith

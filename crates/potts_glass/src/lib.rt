@@ -2,7 +2,9 @@
 //! of the spin glass.
 #![tactic(auto)]
 
+mod beside;
 mod energy;
+mod fours;
 mod potts;
 mod report;
 mod start;

@@ -6,6 +6,7 @@ ghost use Rattle.spin_model.specs.Lattice.{volume, site_at, z_of, colour as clas
 ghost use Rattle.spin_model.specs.Words.{is_set};
 ghost use Rattle.coupling_set.specs.CouplingWords.{bond_word, bonds_of};
 ghost use Rattle.potts_glass.specs.Potts as model;
+ghost use Rattle.potts_glass.specs.SitesBeside.{HoldsPlane};
 
 use coupling_set::Couplings;
 use lattice_geometry::Lattice;
@@ -85,13 +86,31 @@ fn word_in_plane(
         → z_of lattice.now j ≡ z → place_in_plane lattice.now j ≡ place
         → result ≡ bond_word couplings.now j d }
 {
-    let _ = lattice.size();
-    couplings.plane(class, z, d)[place as usize]
+    plane_of(couplings, lattice, class, z, d)[place as usize]
 }
 
-// A coordinate one step on, around the boundary.
+/// The words of the bonds in direction d from the sites of a class in plane z, in their order.
 #[inline]
-fn next(size: u32, c: u32) -> u32
+pub(crate) fn plane_of<'a>(
+    couplings: &'a Couplings,
+    lattice: &Lattice,
+    class: u32,
+    z: u32,
+    d: u32,
+) -> &'a [u64]
+    requires size { lattice.now ≡ couplings.now.size }
+    requires class { class < 2 }
+    requires plane { z < lattice.now }
+    requires direction { d < 3 }
+    ensures { HoldsPlane couplings.now class z d result.now }
+{
+    let _ = lattice.size();
+    couplings.plane(class, z, d)
+}
+
+/// A coordinate one step on, around the boundary.
+#[inline]
+pub(crate) fn next(size: u32, c: u32) -> u32
     requires size { size ≤ 64 }
     requires c { c < size }
     ensures value { result ≡ next_of size c }
@@ -100,9 +119,9 @@ fn next(size: u32, c: u32) -> u32
     if c + 1 < size { c + 1 } else { 0 }
 }
 
-// And one step back.
+/// And one step back.
 #[inline]
-fn previous(size: u32, c: u32) -> u32
+pub(crate) fn previous(size: u32, c: u32) -> u32
     requires size { size ≤ 64 }
     requires c { c < size }
     ensures value { result ≡ previous_of size c }

@@ -1,13 +1,16 @@
 //! A half sweep in all samples at once: plane by plane, row by row, in place.
 
-ghost use Rattle.std.specs.Prelude.{◌≡◌, ℕ, ◌+◌, ◌*◌, ◌<◌, length, slice_index, slice_set};
+ghost use Rattle.std.specs.Prelude.{◌≡◌, ℕ, ◌+◌, ◌*◌, ◌%◌, ◌<◌, length, slice_index, slice_set};
 ghost use Rattle.spin_model.specs.Lattice.{volume, site_at, place_in_plane};
 ghost use Rattle.spin_model.specs.Steps.{steps};
 ghost use Rattle.coupling_set.specs.CouplingWords.{bonds_of};
 ghost use Rattle.potts_glass.specs.PackedColours.{colours_of};
 ghost use Rattle.potts_glass.specs.Potts as model;
 ghost use Rattle.potts_glass.specs.PottsStates.{dynamics_on};
+ghost use Rattle.potts_glass.specs.SitesBeside.{renewed, AreBonds};
 
+use crate::beside::{steps_of, update_sites};
+use crate::fours::{Bonds, four_draws, lend, near_four, negative_four, put_from, words_from};
 use crate::surroundings::{near, negative};
 use crate::update::{PottsRow, potts_update};
 use coupling_set::Couplings;
@@ -118,13 +121,22 @@ fn sweep_plane(sites: &mut Items<[u64; 2]>, sweep: &Sweep, draws: &[u32], z: u32
         (colours_of sweep.now.lattice.now sites.old b) }
     ensures sites { length sites.new ≡ length sites.old }
 {
+    let bonds = lend(sweep.couplings, sweep.lattice, sweep.class, z);
     'rows: for y in 0..sweep.lattice.size() {
-        sweep_row(sites, sweep, draws, y, z);
+        sweep_row(sites, sweep, &bonds, draws, y, z);
     }
 }
 
 // The sites of the class in row y of plane z: one of each two neighbours in x.
-fn sweep_row(sites: &mut Items<[u64; 2]>, sweep: &Sweep, draws: &[u32], y: u32, z: u32)
+fn sweep_row(
+    sites: &mut Items<[u64; 2]>,
+    sweep: &Sweep,
+    bonds: &Bonds,
+    draws: &[u32],
+    y: u32,
+    z: u32,
+)
+    requires bonds { AreBonds sweep.now.couplings.now sweep.now.class z bonds.now }
     requires size { sweep.now.lattice.now ≡ sweep.now.couplings.now.size }
     requires sites { length sites.old ≡ volume sweep.now.lattice.now }
     requires draws { length draws.now ≡ sweep.now.lattice.now * sweep.now.lattice.now }
@@ -143,7 +155,10 @@ fn sweep_row(sites: &mut Items<[u64; 2]>, sweep: &Sweep, draws: &[u32], y: u32, 
 {
     let half = sweep.lattice.size() / 2;
     let parity = (sweep.class + y + z) % 2;
-    'pairs: for k in 0..half {
+    'fours: for j in 0..half / 4 {
+        update_four(sites, sweep, bonds, draws, (8 * j + parity, y, z));
+    }
+    'pairs: for k in half / 4 * 4..half {
         let first = 2 * (y * half + k) as usize;
         update_site(
             sites,
@@ -153,6 +168,42 @@ fn sweep_row(sites: &mut Items<[u64; 2]>, sweep: &Sweep, draws: &[u32], y: u32, 
             draws[first + 1],
         );
     }
+}
+
+// The new colours of four sites of the row, every second one from these coordinates on.
+#[inline(always)]
+fn update_four(
+    sites: &mut Items<[u64; 2]>,
+    sweep: &Sweep,
+    bonds: &Bonds,
+    draws: &[u32],
+    at: (u32, u32, u32),
+)
+    requires bonds { AreBonds sweep.now.couplings.now sweep.now.class at.2 bonds.now }
+    requires size { sweep.now.lattice.now ≡ sweep.now.couplings.now.size }
+    requires sites { length sites.old ≡ volume sweep.now.lattice.now }
+    requires draws { length draws.now ≡ sweep.now.lattice.now * sweep.now.lattice.now }
+    requires class { (at.0 + at.1 + at.2) % 2 ≡ sweep.now.class }
+    requires x { at.0 + 6 < sweep.now.lattice.now }
+    requires y { at.1 < sweep.now.lattice.now }
+    requires z { at.2 < sweep.now.lattice.now }
+    ensures colours { (b : ℕ) → b < 64 → colours_of sweep.now.lattice.now sites.new b ≡ renewed
+        (dynamics_on sweep.now.lattice.now sweep.now.couplings.now sweep.now.row.now.values b)
+        (λ i m. slice_index draws.now (2 * place_in_plane sweep.now.lattice.now i + m))
+        at.0 at.1 at.2 4
+        (colours_of sweep.now.lattice.now sites.old b) }
+    ensures sites { length sites.new ≡ length sites.old }
+{
+    let (x, y, z) = at;
+    let half = sweep.lattice.size() / 2;
+    let [firsts, seconds] = four_draws(draws, 2 * (y * half + x / 2) as usize);
+    let first = sweep.lattice.site(x, y, z) as usize;
+    let own = words_from(sites, first);
+    let near = near_four(sites, sweep.lattice, at);
+    let negative = negative_four(bonds, sweep.couplings, sweep.class, at);
+    let steps = steps_of(&firsts);
+    let new = update_sites(&steps, &seconds, sweep.row, &own, &near, &negative);
+    put_from(sites, first, &new);
 }
 
 // The new colours of the site at these coordinates.

@@ -1,24 +1,28 @@
--- The difference of the two counts is the gap, and it decides between the new colour and the old one.
-use Rattle.std.proofs.Common.{◌≡◌, if◌then◌else◌, refl, ap, ◌∙◌}
-use Rattle.bit_compare.specs.Counting.{difference_modulo}
-use Rattle.multispin_word.specs.Planes.{number, is_set}
+-- One site is the only lane of its vectors.
+use Rattle.std.proofs.Common.{◌≡◌, [], ◌∷◌, slice_index, slice_index_or, refl, ap, ◌∙◌, arith}
 use Rattle.potts_glass.specs.Potts as model
 use Rattle.potts_glass.specs.PackedColours.{colour_in, seen}
-use Rattle.potts_glass.proofs.Colours.{colour-chosen, votes-most}
+use Rattle.potts_glass.specs.SitesBeside.{bit_in, seen_in, site_in}
+use Rattle.potts_glass.proofs.Sites.{each-of_six}
+use Rattle.potts_glass.proofs.Sweeps.{AgreeAround, new_colour-same}
+use Rattle.multispin_word.specs.Planes.{is_set}
 use Rattle.potts_glass.proofs.update.potts_update.Goals as goal
 
 pub returns : goal.returns
 returns c = λ b h.
-    let around = seen c.args.near.now c.args.negative.now b in
-    let old = colour_in c.args.own b in
-    let new = colour_in c.proposed-new.result b in
+    let near = c.args.near.now in
+    let negative = c.args.negative.now in
+    let rows = c.alone.result ∷ c.alone-2.result ∷ c.alone-3.result ∷ c.alone-4.result ∷ c.alone-5.result ∷ c.alone-6.result ∷ [] in
+    let bonds = (slice_index negative 0 ∷ []) ∷ (slice_index negative 1 ∷ []) ∷ (slice_index negative 2 ∷ []) ∷ (slice_index negative 3 ∷ []) ∷ (slice_index negative 4 ∷ []) ∷ (slice_index negative 5 ∷ []) ∷ [] in
+    let alone = seen_in rows bonds 0 b in
+    let sees = seen near negative b in
+    let values = c.args.row.now.values in
     let step = c.args.step in
-    let proposed : new ≡ model.proposed old step = c.proposed-new.ensures b h in
-    let lost = c.widened.ensures b ∙ c.votes-lost.ensures b h in
-    let won = c.widened-2.ensures b ∙ c.votes-won.ensures b h in
-    let gap : number c.subtract.result.words b ≡ difference_modulo 4 (model.votes around old new) (model.votes around new old) =
-    c.subtract.ensures b h ∙ rw (lost, won) refl in
-    let made = c.made-made.ensures b (model.votes around old new) (model.votes around new old) h (votes-most around old new) (votes-most around new old) gap in
-    colour-chosen (is_set c.made-made.result b) c.choose.result c.choose-2.result c.proposed-new.result c.args.own b (c.choose.ensures b h) (c.choose-2.ensures b h)
-    ∙ ap (λ m. if m then new else old) made
-    ∙ ap (λ n. if model.is_made c.args.row.now.values (model.votes around old n) (model.votes around n old) c.args.draw then n else old) proposed
+    let agree : AgreeAround alone sees = record {
+      colours = each-of_six (λ k. colour_in (site_in (slice_index_or rows k []) 0) b ≡ colour_in (slice_index_or near k []) b)
+          (c.alone.ensures b) (c.alone-2.ensures b) (c.alone-3.ensures b) (c.alone-4.ensures b) (c.alone-5.ensures b) (c.alone-6.ensures b);
+      bonds = each-of_six (λ k. bit_in bonds k 0 b ≡ is_set (slice_index negative k) b) refl refl refl refl refl refl;
+    } in
+    c.update_sites.ensures 0 b step (omega arith) h c.requires (λ k l. (c.broadcast.ensures k l, c.broadcast-2.ensures k l))
+    ∙ ap (model.new_colour values step c.args.draw alone) (c.alone-7.ensures b)
+    ∙ new_colour-same values step c.args.draw alone sees (colour_in c.args.own b) agree
