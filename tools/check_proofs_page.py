@@ -1,5 +1,5 @@
 #!/usr/bin/env python3
-"""Holds docs/proofs.md to the sources.
+"""Holds docs/proofs/source.md to the sources.
 
 Each row of its tables names public calls and clauses, definitions, edits and tests. Each of these must exist in
 crates/, or where edits are named as tried on demand in tests/more_edits/, or where tests are named as cases in
@@ -19,7 +19,7 @@ from typing import Dict, Iterator, List, Set, Tuple
 
 import source_check
 
-PAGE = "docs/proofs.md"
+PAGE = "docs/proofs/source.md"
 # Crates whose calls nobody outside calls.
 WITHOUT_ROWS = re.compile(r"bench_\w+|glass|\w+_tests")
 WORD = re.compile(r"[A-Za-z_][A-Za-z0-9_]*")
@@ -243,7 +243,7 @@ def differences(root: Path) -> List[str]:
 
 def make_small_repository(root: Path) -> None:
     """Makes a repository of two crates, three edits, one of them tried on demand, and a case."""
-    for folder in ("docs", "crates/c/src", "crates/c/specs", "crates/c/must-fail", "crates/d/specs",
+    for folder in ("crates/c/src", "crates/c/specs", "crates/c/must-fail", "crates/d/specs", "docs/proofs",
                    "crates/d/must-fail", "tests/more_edits/c", "tests/cases"):
         (root / folder).mkdir(parents=True)
     (root / "crates/c/src/lib.rt").write_text(
