@@ -22,7 +22,8 @@ from typing import Iterator, List, NamedTuple, Tuple
 
 TOP = Path(__file__).resolve().parent.parent
 PAGES = ("docs/manual/tutorial.md",)
-SKIPPED = ("make", "tools/build", "man -l ../docs/manual/glass.1")
+SKIPPED = ("make", "tools/build", "man -l ../docs/manual/glass.1",
+           "sudo apt-get install python3-numpy python3-scipy python3-matplotlib python3-h5py")
 MARK = "@@ end of block"
 
 
