@@ -11,6 +11,9 @@ the same name below docs/proofs/tried/. A page above 10 KB is cut into several.
 
 In text `crate::call` and the name of a law are links, and so is `crate::call#clause`, which is read as the clause alone.
 
+In a crate's README the lines between `<!-- calls: NAME .. -->` and `<!-- end of calls -->` become a table of these calls,
+each with its link and the first sentence of the comment in front of it, and the pages that have the crate's promises.
+
 --self-test runs the tests of this tool.
 
 Status: 0, or 1 where --check finds a difference or the source names what isn't there, with a line each, 2 for a wrong
@@ -24,10 +27,12 @@ from typing import Dict, Iterator, List, NamedTuple, Optional, Tuple
 
 import source_check
 from check_proofs_page import NAMED, ON_DEMAND, OTHER_TABLES, cells_of, crate_of
+from check_prose import GONE
 from proofs_sources import WORD, Code, Item, Place
 
 SOURCE = "docs/proofs/source.md"
 FOLDER = "docs/proofs/"
+CALLS = re.compile(r"(?<=^<!-- calls: )([^>]*?)( -->\n).*?(?=^<!-- end of calls -->$)", re.MULTILINE | re.DOTALL)
 MOST = 10 * 1024
 PAGE = re.compile(r"^<!-- page (\S+) -->$")
 # Where a page gets a row for each page of the source that begins with a question in bold, and what is such a line.
@@ -182,6 +187,13 @@ def with_prose(line: str, code: Code, page: Page) -> str:
     return "".join(LINK.sub(target, it) if n % 2 else CODE.sub(linked, it) for n, it in enumerate(outside))
 
 
+def in_a_cell(words: str) -> str:
+    """The words of a comment as a cell of a table has them."""
+    for gone in ("gone on with", "want of memory"):
+        words = words.replace(gone, GONE[gone])
+    return words.replace("|", "\\|")
+
+
 def promise_of(row: Row, code: Code, page: Page) -> str:
     """The words of a promise: those of the source, or the comments in front of the row's calls."""
     if row.promise != "=":
@@ -191,7 +203,7 @@ def promise_of(row: Row, code: Code, page: Page) -> str:
         item, crate, owner = called(code, it[1], crate, owner)
         if item and item.words and item.words not in words:
             words.append(item.words)
-    return " ".join(words).replace("|", "\\|")
+    return in_a_cell(" ".join(words))
 
 
 def with_edits(cell: str, crate: str, code: Code, page: Page) -> str:
@@ -263,8 +275,9 @@ class Writer:
 
     def row(self, row: Row) -> None:
         code = self.code
-        if row.crate and row.crate not in self.crates:
-            self.crates.append(row.crate)
+        for crate in [row.crate, *re.findall(r"`(\w+)::", row.calls)]:
+            if crate in code.crates and crate not in self.crates:
+                self.crates.append(crate)
         self.faults += unknown(row, code)
         self.on_page(self.pages, self.stem, self.title, HEAD, lambda page: "| " + " | ".join((
             with_calls(row.calls, row.crate, code, page), promise_of(row, code, page),
@@ -332,6 +345,28 @@ def layers(page: Page, writers: List[Writer]) -> List[str]:
     return ["| question | crates |", "|---|---|", *rows]
 
 
+def readmes(root: Path, code: Code, writers: List[Writer], faults: List[str]) -> Iterator[Tuple[str, str]]:
+    """The READMEs of crates that have a table of calls, with this table as it is to be."""
+    for path in sorted(root.glob("crates/*/README.md")):
+        crate, text = path.parent.name, path.read_text(encoding="utf-8")
+
+        def table(found: "re.Match[str]") -> str:
+            rows = ["| call | what it promises |", "|---|---|"]
+            for name in found[1].split():
+                item = called(code, f"{crate}::{name}", "", "")[0]
+                if item is None:
+                    faults.append(f"{path.relative_to(root)}: there is no call {name}")
+                    continue
+                place = f"{os.path.relpath(item.place.path, path.parent.relative_to(root))}#L{item.place.line}"
+                sentence = in_a_cell(re.split(r"(?<=\.)\s+(?=[A-Z`])", item.words)[0])
+                rows.append(f"| [`{name}`]({place}) | {sentence} |")
+            pages = [f"[{it.title}]({os.path.relpath(it.name, path.parent.relative_to(root))})" for it in writers if crate in it.crates]
+            told = ["", f"All its promises, with clauses and definitions: {', '.join(pages)}."] if pages else []
+            return found[1] + found[2] + "\n".join(rows + told) + "\n"
+        if CALLS.search(text):
+            yield str(path.relative_to(root)), CALLS.sub(table, text)
+
+
 class Unknown(Exception):
     """The source names what isn't there, a line each."""
 
@@ -343,12 +378,13 @@ def made(root: Path) -> Dict[str, str]:
         writers.append(Writer(name, code))
         writers[-1].write(lines)
     faults = [fault for it in writers for fault in it.faults]
+    of_crates = dict(readmes(root, code, writers, faults))
     if faults:
         raise Unknown("\n".join(faults))
     for page in (page for it in writers for page in it.pages if LAYERS in page.lines):
         at = page.lines.index(LAYERS)
         page.lines[at:at + 1] = layers(page, writers)
-    return {page.name: page.text() for it in writers for page in it.written()}
+    return {**{page.name: page.text() for it in writers for page in it.written()}, **of_crates}
 
 
 def stale(root: Path, pages: Dict[str, str]) -> Iterator[str]:
