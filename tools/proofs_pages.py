@@ -42,7 +42,7 @@ LINK = re.compile(r"\]\(([^)\s]+)\)")
 CODE = re.compile(r"`([^`]*)`")
 PROMISES = ("promise", "public call and clause", "definition", "edits", "tests", "what it doesn't say")
 HEAD = "| call and clause | what it promises | definitions | what it doesn't say |\n|---|---|---|---|"
-TRIED = "| call and clause | edits | tests |\n|---|---|---|"
+TRIED = "| promise | call and clause | edits | tests |\n|---|---|---|---|"
 NOUNS = "| the noun | its definition |\n|---|---|"
 MADE = "<!-- made by tools/proofs_pages.py of docs/proofs/source.md: change that file -->"
 
@@ -206,6 +206,12 @@ def promise_of(row: Row, code: Code, page: Page) -> str:
     return in_a_cell(" ".join(words))
 
 
+def begin_of(promise: str) -> str:
+    """The first words of a promise, as another page names it."""
+    text = re.sub(r"\[([^\]]*)\](?:\([^)]*\)|\[\d+\])", r"\1", promise).replace("**", "").replace("`", "")
+    return text if len(text) <= 50 else text[:50].rsplit(" ", 1)[0].rstrip(",;:.") + " .."
+
+
 def with_edits(cell: str, crate: str, code: Code, page: Page) -> str:
     """A cell of edits, each with its link."""
     parts, out = cell.partition(ON_DEMAND), ""
@@ -284,7 +290,7 @@ class Writer:
             with_definitions(row, code, page), with_prose(row.silence, code, page))) + " |")
         if row.edits or row.tests:
             self.on_page(self.tried, self.tried_stem, f"Tried: {self.title}", TRIED, lambda page: "| " + " | ".join((
-                with_calls(row.calls, row.crate, code, page), with_edits(row.edits, row.crate, code, page),
+                begin_of(promise_of(row, code, Page(page.name))), with_calls(row.calls, row.crate, code, page), with_edits(row.edits, row.crate, code, page),
                 with_tests(row.tests, code, page))) + " |")
 
     def noun(self, noun: str, definitions: str) -> None:
@@ -438,7 +444,7 @@ def self_test() -> int:
                            "[1]: ../crates/c/src/lib.rt#L5"],
         "docs/proofs/sums.md": ["| [`c::f`][1]: [done][2] | Adds. | [`sum`][3] | time |", "[Edits and tests](tried/sums.md).",
                                 "[3]: ../../crates/c/specs/Sums.antt#L2"],
-        "docs/proofs/tried/sums.md": ["| [`c::f`][1]: [done][2] | [wrong_sum][3] | [one_and_one][4] |",
+        "docs/proofs/tried/sums.md": ["| Adds. | [`c::f`][1]: [done][2] | [wrong_sum][3] | [one_and_one][4] |",
                                       "[4]: ../../../tests/cases/sums.toml#L2"]}
     with tempfile.TemporaryDirectory() as name:
         root = Path(name)
