@@ -1,7 +1,7 @@
 #!/usr/bin/env python3
 """Holds docs/proofs/source.md to the sources.
 
-Each row of its tables names public calls and clauses, definitions, edits and tests. Each of these must exist in
+The pages below docs/proofs are made of it (tools/proofs_pages.py). Each row of its tables names public calls and clauses, definitions, edits and tests. Each of these must exist in
 crates/, or where edits are named as tried on demand in tests/more_edits/, or where tests are named as cases in
 tests/cases/, and each edit, test, case and public call must be named on the page, an edit, a test and a case with
 the place where it stands. A definition that is named behind a file of specs/
@@ -226,7 +226,8 @@ def differences(root: Path) -> List[str]:
     """Where the page and the sources differ, a line each."""
     page = (root / PAGE).read_text(encoding="utf-8")
     has, named = Sources(root), set(re.findall(r"[A-Za-z0-9_]+", page))
-    found = [f"{cells[PROMISE][:60]}: {it}" for cells in rows_of(page) for it in faults_of_row(cells, has)]
+    found = [f"{(cells[CALLS] if cells[PROMISE] == '=' else cells[PROMISE])[:60]}: {it}"
+             for cells in rows_of(page) for it in faults_of_row(cells, has)]
     for first, cell, crate in others_of(page):
         found += [f"{first[:60]}: {it}" for it in misplaced(cell, crate, False, has)]
     edits = [edits_of(cells, has) for cells in rows_of(page)]
