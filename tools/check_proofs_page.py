@@ -1,12 +1,12 @@
 #!/usr/bin/env python3
 """Holds docs/proofs/source.md to the sources.
 
-The pages below docs/proofs are made of it (tools/proofs_pages.py). Each row of its tables names public calls and clauses, definitions, edits and tests. Each of these must exist in
-crates/, or where edits are named as tried on demand in tests/more_edits/, or where tests are named as cases in
-tests/cases/, and each edit, test, case and public call must be named on the page, an edit, a test and a case with
-the place where it stands. A definition that is named behind a file of specs/
-must stand in that file; so must those of the tables of nouns and of laws. The benchmarks' crates and those of tests
-alone owe no rows for their calls.
+The pages below docs/proofs are made of it (tools/proofs_pages.py). Each row of its tables names public calls and clauses,
+definitions, edits and tests. Each of these must exist in crates/, or where edits are named as tried on demand in
+tests/more_edits/, or where tests are named as cases in tests/cases/. Each edit, test, case and public call must be named
+on the page, an edit, a test and a case with the place where it stands. A definition that is named behind a file of specs/
+must stand in that file; so must those of the tables of nouns and of laws. The benchmarks' crates and those of tests alone
+owe no rows for their calls.
 
 --self-test runs the tests of this tool.
 
