@@ -1,14 +1,16 @@
 #!/usr/bin/env python3
 """Runs the commands of manual pages, and compares what they print with what the pages show.
 
-    python3 tests/pages.py PROGRAM [PAGE ..]        PAGES below where none is named
+    python3 tests/pages.py PROGRAM [PAGE ..]        PAGES below, which are quick, where none is named
     python3 tests/pages.py --self-test
 
 A page is read from its top, and its commands go to one shell. A block that is indented by four blanks is of
 commands; a block between ``` is what the blocks of commands before it print, output and errors together, since the
 last one. Under a heading nothing may be printed that the page doesn't show, and where nothing is shown the last
 command of each block ends with status 0. Blocks that get the program or show a manual page (SKIPPED) are left out.
-The folder is a new one with the program as ./glass, the tools, and copies of the examples.
+An indented block whose first line begins with "$ " has commands behind that mark, and between them what they print.
+The folder is a new one with the program as ./glass, which is also found as glass, the tools, and copies of the examples.
+Commands begin there, or in the folder of it that a line `<!-- commands begin in FOLDER -->` names.
 
 Status: 0 where all is as the pages say, 1 where something is not, with a line a fault, 2 for a wrong word."""
 import os
@@ -21,8 +23,10 @@ from pathlib import Path
 from typing import Iterator, List, NamedTuple, Tuple
 
 TOP = Path(__file__).resolve().parent.parent
-PAGES = ("docs/manual/tutorial.md",)
-SKIPPED = ("make", "tools/build", "man -l ../docs/manual/glass.1")
+PAGES = ("docs/manual/tutorial.md", "docs/manual/long_runs.md", "docs/manual/when_a_run_ends_badly.md")
+BEGIN = re.compile(r"^<!-- commands begin in (\S+) -->$", re.MULTILINE)
+SKIPPED = ("make", "tools/build", "man -l ../docs/manual/glass.1",
+           "sudo apt-get install python3-numpy python3-scipy python3-matplotlib python3-h5py")
 MARK = "@@ end of block"
 
 
@@ -49,9 +53,18 @@ def segments(page: str) -> Iterator[Tuple[str, int, str]]:
         elif line.startswith("    ") and (start == 0 or not lines[start - 1].strip()):
             while at < len(lines) and (lines[at].startswith("    ") or not lines[at].strip()):
                 at += 1
-            yield "commands", start + 1, "\n".join(text[4:] for text in lines[start:at]).strip()
+            block = "\n".join(text[4:] for text in lines[start:at]).strip()
+            yield from dialogue(block, start + 1) if block.startswith("$ ") else [("commands", start + 1, block)]
         elif line.startswith("#"):
             yield "heading", start + 1, line
+
+
+def dialogue(block: str, start: int) -> Iterator[Tuple[str, int, str]]:
+    """The commands and the outputs of a block of both."""
+    for part in re.split(r"^(?=\$ )", block, flags=re.MULTILINE)[1:]:
+        command, _, shown = part.partition("\n")
+        yield "commands", start, command[2:]
+        yield "shown", start, shown.rstrip("\n") + "\n" if shown.strip() else ""
 
 
 def steps(page: str) -> Iterator[Step]:
@@ -71,10 +84,10 @@ def script(found: List[Step]) -> str:
     return "".join(f"{block}\necho \"{MARK} $?\"\n" for step in found for block in step.blocks)
 
 
-def ran(found: List[Step], folder: Path) -> List[str]:
+def ran(found: List[Step], folder: Path, begin: str) -> List[str]:
     """What the blocks of all steps print, each with the line of its status, in one shell."""
-    environment = {**os.environ, "PYTHONUNBUFFERED": "1", "PYTHONDONTWRITEBYTECODE": "1", "LC_ALL": "C.UTF-8"}
-    output = subprocess.run(["bash"], input=script(found), cwd=folder, env=environment, stdout=subprocess.PIPE,
+    environment = {**os.environ, "PATH": f"{folder}{os.pathsep}{os.environ.get('PATH', '')}", "PYTHONUNBUFFERED": "1", "PYTHONDONTWRITEBYTECODE": "1", "LC_ALL": "C.UTF-8"}
+    output = subprocess.run(["bash"], input=script(found), cwd=folder / begin, env=environment, stdout=subprocess.PIPE,
                             stderr=subprocess.STDOUT, universal_newlines=True, check=False).stdout
     return re.findall(rf"(?:.*\n)*?{MARK} \d+\n", output)
 
@@ -82,7 +95,8 @@ def ran(found: List[Step], folder: Path) -> List[str]:
 def faults(name: str, page: str, folder: Path) -> Iterator[str]:
     """What a page's commands do otherwise than it says."""
     found = list(steps(page))
-    printed = iter(ran(found, folder))
+    begin = BEGIN.search(page)
+    printed = iter(ran(found, folder, begin[1] if begin else "."))
     for step in found:
         text = ""
         for block in step.blocks:
@@ -99,7 +113,8 @@ def faults(name: str, page: str, folder: Path) -> Iterator[str]:
 def prepare(folder: Path, program: Path) -> None:
     """Puts the program, the tools and the examples into a folder."""
     shutil.copy(program, folder / "glass")
-    (folder / "tools").symlink_to(TOP / "tools")
+    # A copy, since a tool looks for the program beside its own folder.
+    shutil.copytree(TOP / "tools", folder / "tools", ignore=shutil.ignore_patterns("__pycache__"))
     shutil.copytree(TOP / "examples", folder / "examples")
 
 
@@ -112,6 +127,9 @@ def self_test() -> int:
         "    false\n    echo a >&2; false\n\n```\na\n```\n": [],
         "    cat <<'END'\n    x\n    END\n\n```\nx\n```\n": [],
         "    echo a >&2\n    echo b\n\nText\n\n```\na\nb\n```\n\n    echo c\n\n```\nd\n```\n": [11],
+        "    $ echo a; echo b\n    a\n    b\n    $ echo c\n    d\n": [1],
+        "    $ a=1\n\nText\n\n    $ echo $a >&2; false\n    1\n": [],
+        "<!-- commands begin in / -->\n\n    $ pwd\n    /\n": [],
         "```\nonly shown\n```\n": [], "    echo a\n\n    echo b\n\n```\na\nb\n```\n": [], "    exit 0\n": [1]}
     with tempfile.TemporaryDirectory() as name:
         for page, wanted in cases.items():

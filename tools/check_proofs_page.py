@@ -1,12 +1,12 @@
 #!/usr/bin/env python3
-"""Holds docs/proofs.md to the sources.
+"""Holds docs/proofs/source.md to the sources.
 
-Each row of its tables names public calls and clauses, definitions, edits and tests. Each of these must exist in
-crates/, or where edits are named as tried on demand in tests/more_edits/, or where tests are named as cases in
-tests/cases/, and each edit, test, case and public call must be named on the page, an edit, a test and a case with
-the place where it stands. A definition that is named behind a file of specs/
-must stand in that file; so must those of the tables of nouns and of laws. The benchmarks' crates and those of tests
-alone owe no rows for their calls.
+The pages below docs/proofs are made of it (tools/proofs_pages.py). Each row of its tables names public calls and clauses,
+definitions, edits and tests. Each of these must exist in crates/, or where edits are named as tried on demand in
+tests/more_edits/, or where tests are named as cases in tests/cases/. Each edit, test, case and public call must be named
+on the page, an edit, a test and a case with the place where it stands. A definition that is named behind a file of specs/
+must stand in that file; so must those of the tables of nouns and of laws. The benchmarks' crates and those of tests alone
+owe no rows for their calls.
 
 --self-test runs the tests of this tool.
 
@@ -19,7 +19,7 @@ from typing import Dict, Iterator, List, Set, Tuple
 
 import source_check
 
-PAGE = "docs/proofs.md"
+PAGE = "docs/proofs/source.md"
 # Crates whose calls nobody outside calls.
 WITHOUT_ROWS = re.compile(r"bench_\w+|glass|\w+_tests")
 WORD = re.compile(r"[A-Za-z_][A-Za-z0-9_]*")
@@ -226,7 +226,8 @@ def differences(root: Path) -> List[str]:
     """Where the page and the sources differ, a line each."""
     page = (root / PAGE).read_text(encoding="utf-8")
     has, named = Sources(root), set(re.findall(r"[A-Za-z0-9_]+", page))
-    found = [f"{cells[PROMISE][:60]}: {it}" for cells in rows_of(page) for it in faults_of_row(cells, has)]
+    found = [f"{(cells[CALLS] if cells[PROMISE] == '=' else cells[PROMISE])[:60]}: {it}"
+             for cells in rows_of(page) for it in faults_of_row(cells, has)]
     for first, cell, crate in others_of(page):
         found += [f"{first[:60]}: {it}" for it in misplaced(cell, crate, False, has)]
     edits = [edits_of(cells, has) for cells in rows_of(page)]
@@ -243,7 +244,7 @@ def differences(root: Path) -> List[str]:
 
 def make_small_repository(root: Path) -> None:
     """Makes a repository of two crates, three edits, one of them tried on demand, and a case."""
-    for folder in ("docs", "crates/c/src", "crates/c/specs", "crates/c/must-fail", "crates/d/specs",
+    for folder in ("crates/c/src", "crates/c/specs", "crates/c/must-fail", "crates/d/specs", "docs/proofs",
                    "crates/d/must-fail", "tests/more_edits/c", "tests/cases"):
         (root / folder).mkdir(parents=True)
     (root / "crates/c/src/lib.rt").write_text(

@@ -26,15 +26,19 @@ MOST_IN_DECISION = 60
 DECISIONS = "docs/decisions/"
 # Of 1024 bytes; a folder's number is that of each page in it.
 LONGEST = {"README.md": 7, "CHANGELOG.md": 3, "CONTRIBUTING.md": 5, "bench/README.md": 8, "docs/architecture.md": 12,
-           DECISIONS: 10}
+           DECISIONS: 10, "docs/proofs.md": 15, "docs/proofs/": 10, "docs/proofs/tried/": 10, "docs/proofs/source.md": 1000}
+README_OF_CRATE, LONGEST_README = re.compile(r"crates/\w+/README\.md"), 3
 # What the pages say in the field's words or in plain ones.
 GONE = {"gone on with": "resumed", "want of memory": "lack of memory", "leavings": "what is left",
         "and so is that of": "two sentences"}
 PAGES = ("README.md", "CONTRIBUTING.md", "CHANGELOG.md", "bench/README.md", "docs/architecture.md", "docs/glossary.md",
-         "docs/trust.md", "docs/proofs.md", "docs/architecture/*.md", "docs/decisions/*.md", "docs/manual/*.md",
-         "docs/specification/*.md")
-# A cell there has all clauses, definitions or edits of a promise, so that its tables are lists and no prose.
-WITHOUT_TABLES = ("docs/proofs.md",)
+         "docs/trust.md", "docs/proofs.md", "docs/proofs/*.md", "docs/proofs/tried/*.md", "docs/architecture/*.md",
+         "docs/decisions/*.md", "docs/manual/*.md", "docs/specification/*.md", "crates/*/README.md")
+# A cell there has all clauses, definitions or edits of a promise, or a comment of the code: these tables are lists and no prose.
+WITHOUT_TABLES = ("docs/proofs", "crates/")
+
+# Where a link leads that has a number in the text.
+TARGET = re.compile(r"\[\d+\]: ")
 
 
 class Paragraph(NamedTuple):
@@ -47,7 +51,7 @@ class Paragraph(NamedTuple):
 def plain(text: str) -> str:
     """Text as it is read: a link is its text, code is one word, and marks are left out."""
     text = re.sub(r"`[^`]*`", "Code", text)
-    text = re.sub(r"!?\[([^\]]*)\]\([^)]*\)", r"\1", text)
+    text = re.sub(r"!?\[([^\]]*)\](?:\([^)]*\)|\[\d+\])", r"\1", text)
     return " ".join(re.sub(r"[*_]{1,2}(?=\S)|(?<=\S)[*_]{1,2}", "", text).split())
 
 
@@ -58,13 +62,13 @@ def blocks(page: str) -> Iterator[Paragraph]:
     for number, line in enumerate(page.splitlines() + [""], 1):
         fence = line.lstrip().startswith("```")
         begins = bool(re.match(r"\s*([-*+]|\d+\.)\s", line))
-        ends = fence or is_code or begins or not line.strip() or line.startswith(("#", "|", "<!--"))
+        ends = fence or is_code or begins or not line.strip() or line.startswith(("#", "|", "<!--")) or TARGET.match(line)
         is_indented = line.startswith("    ") and not held
         if (ends or is_indented) and held:
             yield Paragraph(start, " ".join(held))
             held = []
         is_code ^= fence
-        if fence or is_code or is_indented or not line.strip() or line.startswith(("#", "<!--")):
+        if fence or is_code or is_indented or not line.strip() or line.startswith(("#", "<!--")) or TARGET.match(line):
             continue
         if line.startswith("|"):
             yield from (Paragraph(number, cell) for cell in re.split(r"(?<!\\)\|", line)[1:-1])
@@ -88,7 +92,7 @@ def words(text: str) -> int:
 
 def faults(name: str, page: str) -> Iterator[str]:
     """What a page has that is too long, and the words that it should not have."""
-    if name in WITHOUT_TABLES:
+    if name.startswith(WITHOUT_TABLES):
         page = "\n".join("" if line.startswith("|") else line for line in page.splitlines())
     most = MOST_IN_DECISION if name.startswith(DECISIONS) else MOST_IN_PARAGRAPH
     for line, text in paragraphs(page):
@@ -102,7 +106,7 @@ def faults(name: str, page: str) -> Iterator[str]:
 
 def size_faults(name: str, page: str) -> Iterator[str]:
     """Whether a page is longer than pages of its kind may be."""
-    most = LONGEST.get(name, LONGEST.get(name[:name.rfind("/") + 1]))
+    most = LONGEST_README if README_OF_CRATE.fullmatch(name) else LONGEST.get(name, LONGEST.get(name[:name.rfind("/") + 1]))
     size = len(page.encode("utf-8"))
     if most is not None and size > 1024 * most:
         yield f"{name}:1: {size} bytes, and not at most {most} KB"
@@ -120,13 +124,14 @@ def self_test() -> int:
     cases = {
         f"# {long}\n\nShort. Text.\n": [], f"{long}\n": [1], f"a\n\n- {long}.\n": [3], f"| a | {long} |\n": [1],
         f"    {long}\n\n```\n{long}\n```\n": [], f"`{long}` is code.\n": [], f"[{long}](page.md)\n": [1],
-        f"[a](page.md) b\nc\n{long}\n": [1], f"{half} {half}\n": [], f"{half} {half} {half}\n": [1],
+        f"[a](page.md) b\nc\n{long}\n": [1], f"[{long}][1]\n\n[1]: {long}\n": [1], f"{half} {half}\n": [], f"{half} {half} {half}\n": [1],
         f"{half}\n\n{half}\n\n{half}\n": [], f"- {half}\n- {half}\n- {half}\n": [], "It is for want of memory.\n": [1],
         f"{long[:100]}. {long[:100]}.\n": [], "1. First\n   and more.\n2. Second.\n": []}
     named = [("page", page, wanted) for page, wanted in cases.items()]
-    named.append((WITHOUT_TABLES[0], f"| {long} |\n\n{long}\n", [3]))
+    named.append((WITHOUT_TABLES[0] + "/run.md", f"| {long} |\n\n{long}\n", [3]))
     named += [(DECISIONS + "run.md", f"{half}\n\n{half} {half}\n", [3]), (DECISIONS + "run.md", "a\n\n" * 3500, [1]),
-              ("README.md", "a\n\n" * 2389, []), ("README.md", "a\n\n" * 2390, [1]), ("page", "a\n\n" * 9000, [])]
+              ("README.md", "a\n\n" * 2389, []), ("README.md", "a\n\n" * 2390, [1]), ("page", "a\n\n" * 9000, []),
+              ("crates/a/README.md", "a\n\n" * 1025, [1])]
     for name, page, wanted in named:
         found = [int(fault.split(":")[1]) for fault in (*faults(name, page), *size_faults(name, page))]
         if found != wanted:

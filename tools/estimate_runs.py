@@ -30,10 +30,10 @@ def in_errors(estimate: Estimate, slot: int, moment: int) -> float:
     return float(value / error) if error else float("nan")
 
 
-def print_movers(what: str, of: Sequence[Tuple[str, List[Mover]]], samples: int) -> None:
-    """The samples that are farthest, in errors of their own."""
+def print_movers(what: str, of: Sequence[Tuple[str, List[Mover]]], samples: int, shorter: float) -> None:
+    """The samples that are farthest between two parts, one of them so many times shorter, in errors of their own."""
     print(f"{what}, in errors of their own; of {samples} samples the farthest is by chance beyond "
-          f"{greatest_expected(samples):.1f} in one study of two")
+          f"{greatest_expected(samples, shorter):.1f} in one study of two")
     for name, movers in of:
         print(f"  {name}: " + (", ".join(f"{mover.report} sample {mover.sample} ({mover.in_errors:+.1f})" for mover in movers)
                                or "the parts are too short"))
@@ -57,7 +57,7 @@ def equilibration(words: Words, options: argparse.Namespace) -> None:
             print(line)
     worst = [(f"{slots.title(slot)}, {what}", last_movers(reports, slot, moment, options.worst))
              for slot in shown for what, moment in MOMENTS]
-    print_movers("samples that move most from the last part but one to the last", worst, words.run.samples * len(reports))
+    print_movers("samples that move most from the last part but one to the last", worst, words.run.samples * len(reports), 2)
     slots.end(options, lambda: figures.equilibration(bins, [slots.title(slot) for slot in range(len(slots.names))], shown),
               slots.count(words.run.samples))
 
@@ -93,7 +93,7 @@ def bracket(words: Words, options: argparse.Namespace) -> None:
                 for _, moment in MOMENTS))
     worst = [(f"{slots.title(slot)}, {what}", farthest_apart(ordered, random, slot, moment, options.worst))
              for slot in shown for what, moment in MOMENTS]
-    print_movers("samples that are farthest apart in the last part", worst, words.run.samples * len(ordered))
+    print_movers("samples that are farthest apart in the last part", worst, words.run.samples * len(ordered), 1)
     slots.end(options, lambda: figures.bracket(found, [slots.title(slot) for slot in range(len(slots.names))], shown),
               slots.count(words.run.samples))
 

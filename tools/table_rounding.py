@@ -7,7 +7,7 @@
 r is the greatest distance of a threshold, or of an entry for a gap that the lattice can have, from 2^32 times the exact
 probability at the slots' inverse temperatures; it is in draws of 2^32. Without --betas these are the ones that make r least.
 Past its last entry a swap record has the entry 0. A run of k decisions by ideal draws that begins in equilibrium leaves the
-probability of every event within k r / 2^32 of what it is there (docs/proofs.md). make_tables.py --check prints the same.
+probability of every event within k r / 2^32 of what it is there (docs/proofs/chain.md). make_tables.py --check prints the same.
 
 The tables are looked for beside the run file. A warning goes to the error output where k r / 2^32 is above 0.05, and
 where records are too short. Status 0, or 2 for wrong words or what can't be read."""

@@ -3,11 +3,18 @@
 
     python3 compare.py seed_measured        of the runs that were made here
     python3 compare.py measured             of those of docs/manual/validation.md
+    python3 compare.py measured --page ../../docs/manual/validation.md
+
+The last one writes them into that page: each table in the place of the one with its head, each sentence in the place of
+the line that begins as it does up to its first number. tests/analysis holds the page to it.
 """
 from __future__ import annotations
 
+import contextlib
 import csv
+import io
 import math
+import re
 import sys
 from pathlib import Path
 from typing import Dict, List, NamedTuple, Optional, Sequence, Tuple
@@ -195,6 +202,7 @@ def print_exact(folder: Path) -> List[Tuple[float, int]]:
 def print_reference(folder: Path) -> None:
     """Exact energies beside those of the program and those of the independent one with its second generator."""
     head("energy per site", "exact", "program", "error", "in errors", "second generator", "error", "in errors")
+    found: List[float] = []
     for name, known in (("ferromagnet_4", FERROMAGNET), ("glasses_4", exact_glasses())):
         both = [read_runs(folder, which) for which in (name, f"reference_{name}")]
         if None in both:
@@ -207,16 +215,22 @@ def print_reference(folder: Path) -> None:
             print(text)
         chances = [probability(runs.whole, known) for runs in both]
         print(f"| {name}, all: probability | | {chances[0]:.3f} | | | {chances[1]:.3f} | | |")
+        found += chances
+    if found:
+        print(f"\nThe least of these probabilities is {min(found):.3f}.")
 
 
-def published(what: str, known: Known, ours: Estimate, runs: int) -> None:
+def published(what: str, known: Known, ours: Estimate, runs: int) -> float:
+    """Prints a row, and answers its probability."""
     away = distance(ours, known)
     print(f"| {what} | {spelled(known.value, 5)} ± {spelled(known.error, 5)} | {spelled(float(ours.value), 5)} "
           f"| {spelled(float(ours.error), 5)} | {runs} | {away:+.2f} | {chance(away, runs):.2f} |")
+    return chance(away, runs)
 
 
 def print_published(folder: Path) -> None:
     head("what", "published", "measured", "error", "runs", "in errors", "probability")
+    chances: List[float] = []
     sizes = {size: read_runs(folder, f"critical_{size}") for size in (8, 12, 16, 24)}
     energies = {size: deviation(runs.whole[:, 0]) for size, runs in sizes.items() if runs is not None}
     for size, energy in energies.items():
@@ -226,19 +240,21 @@ def print_published(folder: Path) -> None:
     are_known = {size: energy for size, energy in energies.items() if len(sizes[size].whole) >= ENOUGH}  # type: ignore[union-attr]
     if len(are_known) > 2:
         limit, square = at_infinity(list(are_known), list(are_known.values()))
-        published("the same of the infinite lattice, from these", CRITICAL_ENERGY, limit, ENOUGH)
+        chances.append(published("the same of the infinite lattice, from these", CRITICAL_ENERGY, limit, ENOUGH))
         print(f"| chi-square of that fit, with {len(are_known) - 3} degrees of freedom | | {square:.2f} | | | | |")
     for size in (4, 6, 8, 12):
         found = read_runs(folder, f"binder_{size}")
         if found is not None:
-            published(f"Binder ratio at T = 1.1019, size {size}", BINDER, jackknife(found.whole, binder), len(found.whole))
+            chances.append(published(f"Binder ratio at T = 1.1019, size {size}", BINDER, jackknife(found.whole, binder), len(found.whole)))
     for size, known in GROUND.items():
         found = read_runs(folder, f"ground_{size}")
         if found is not None:
-            published(f"mean ground-state energy per site, size {size}", known, Estimate(*(part[0] for part in deviation(found.whole))),
-                      len(found.whole))
+            energy = Estimate(*(part[0] for part in deviation(found.whole)))
+            chances.append(published(f"mean ground-state energy per site, size {size}", known, energy, len(found.whole)))
             print(f"| samples of size {size} whose least energy one replica alone has seen | | {spelled(found.whole[:, 1].mean(), 5)} "
                   "| | | | |")
+    if chances:
+        print(f"\nOf the {len(chances)} numbers with a published one beside them the least probability is {min(chances):.2f}.")
 
 
 def print_runs(folder: Path) -> None:
@@ -256,18 +272,45 @@ def print_runs(folder: Path) -> None:
         all_runs, rate = (f"{part.runs}", f"{minutes * part.runs / number:.0f}") if is_own else ("", "")
         print(f"| {name} | {number} | {all_runs} | {samples} | {epochs} | {skip} | {minutes:.2f} | {rate} | {spelled(halves(runs), 2)} |")
     print(f"| all | | | | | | {total:.1f} | {whole:.0f} | |")
+    print(f"\nAll that ran took {total:.1f} processor minutes.")
 
 
-def main(words: List[str]) -> int:
-    folder = here / words[0] if len(words) == 1 else None
-    if folder is None or not folder.is_dir():
-        raise Refusal("the folder of kept values is needed: seed_measured, once study has run, or measured")
+def print_all(folder: Path) -> None:
     found = print_exact(folder)
     total, degrees, chance = chi_square(found)
-    print(f"\nchi-square of all exact numbers: {total:.1f} with {degrees} degrees of freedom, probability {chance:.3f}")
+    print(f"\nChi-square of all exact numbers: {total:.1f} with {degrees} degrees of freedom, probability {chance:.3f}.")
     print_reference(folder)
     print_published(folder)
     print_runs(folder)
+
+
+def placed(page: str, printed: str) -> str:
+    """A page with the tables and the sentences that were printed, in the places of its own."""
+    lines = page.splitlines()
+    for block in printed.strip().split("\n\n"):
+        own = block.splitlines()
+        begin = own[0] if own[0].startswith("|") else re.split(r"[-\d]", own[0])[0]
+        at = [n for n, line in enumerate(lines) if line == begin or (begin != own[0] and line.startswith(begin))]
+        if len(at) != 1:
+            raise Refusal(f"the page has {len(at)} places for: {begin}")
+        end = at[0] + 1
+        while own[0].startswith("|") and end < len(lines) and lines[end].startswith("|"):
+            end += 1
+        lines[at[0]:end] = own
+    return "\n".join(lines) + "\n"
+
+
+def main(words: List[str]) -> int:
+    folder = here / words[0] if words else None
+    if folder is None or not folder.is_dir() or len(words) not in (1, 3) or words[1:2] not in ([], ["--page"]):
+        raise Refusal("the folder of kept values is needed: seed_measured, once study has run, or measured; --page PAGE writes them")
+    printed = io.StringIO()
+    with contextlib.redirect_stdout(printed):
+        print_all(folder)
+    print(printed.getvalue(), end="")
+    if len(words) == 3:
+        page = Path(words[2])
+        page.write_text(placed(page.read_text(encoding="utf-8"), printed.getvalue()), encoding="utf-8")
     return 0
 
 

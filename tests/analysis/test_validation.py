@@ -145,3 +145,18 @@ def test_runs_that_are_kept_are_not_made_again(tmp_path, monkeypatch):
     kept = compare.read_runs(tmp_path, part.name)
     assert (kept.seconds, kept.whole.tolist(), kept.first.tolist(), kept.last.tolist()) == (4.0, [[0], [2]], [[1], [1]], [[2], [2]])
     assert compare.read_runs(tmp_path, "critical_8") is None
+
+
+def test_the_page_has_what_is_printed(capsys):
+    page = FOLDER.parent.parent / "docs" / "manual" / "validation.md"
+    assert compare.main(["measured"]) == 0
+    text = page.read_text(encoding="utf-8")
+    assert compare.placed(text, capsys.readouterr().out) == text
+
+
+def test_a_page_gets_tables_and_sentences_in_their_places():
+    page = "# P\n\n| a | b |\n|---|---|\n| 1 | 2 |\n\nSum: 3.0 of 1.\n\nText.\n"
+    assert compare.placed(page, "\n| a | b |\n|---|---|\n| 5 | 6 |\n| 7 | 8 |\n\nSum: 26.0 of 2.\n") == (
+        "# P\n\n| a | b |\n|---|---|\n| 5 | 6 |\n| 7 | 8 |\n\nSum: 26.0 of 2.\n\nText.\n")
+    with pytest.raises(compare.Refusal):
+        compare.placed(page, "Total: 4.")

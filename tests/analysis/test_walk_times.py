@@ -3,11 +3,13 @@ import math
 
 import numpy as np
 import pytest
+from scipy import fft
+from scipy.signal import lfilter
 from make_tables import Refusal
 from test_estimates import records_with
 
 from glass_analysis import autocorrelation_time, walk_times
-from glass_analysis.walk_times import walk_correlations
+from glass_analysis.walk_times import integrated_time, walk_correlations
 
 SLOTS = 12
 
@@ -82,6 +84,36 @@ def test_times_that_are_spread_log_normally():
     settled = found.is_settled.all(axis=1)
     ratio = np.log(found.integrated[settled].mean(axis=1) / [integrated(time) for time in true[settled]])
     assert abs(np.median(ratio)) < 0.05 and ratio.std() < 0.25
+
+
+def autoregressive(time, epochs, random):
+    """The autocorrelation by lag, mean over 6 series x(t + 1) = a x(t) + noise of known mean 0 and variance 1."""
+    memory = math.exp(-1 / time)
+    noise = random.normal(0, math.sqrt(1 - memory ** 2), (epochs, 6))
+    noise[0] /= math.sqrt(1 - memory ** 2)
+    power = (abs(fft.rfft(lfilter([1], [1, -memory], noise, axis=0), 2 * epochs, axis=0)) ** 2).mean(axis=1)
+    return fft.irfft(power, 2 * epochs)[:epochs] / np.arange(epochs, 0, -1)
+
+
+@pytest.mark.parametrize("time, lengths, error, deviation", [(6, 25, 0.5, 1.5), (30, 25, 0.5, 1.5), (6, 100, 0.22, 1.3), (30, 100, 0.22, 1.3)])
+def test_times_of_autoregressive_series(time, lengths, error, deviation):
+    """The median is right to within 5 %; the error of a time is too small where the run is short, by at most so many deviations."""
+    random, true = np.random.default_rng(8), integrated(time)
+    found = np.array([integrated_time(autoregressive(time, lengths * time, random), 12) for _ in range(2000 if time < 30 else 500)])
+    away = (found[:, 0] - true) / found[:, 1]
+    assert abs(np.median(found[:, 0]) / true - 1) < 0.05 and 0.8 < away.std() < deviation
+    assert math.sqrt(np.mean((found[:, 0] / true - 1) ** 2)) < error
+
+
+def test_autoregressive_times_that_are_spread_log_normally():
+    """Of settled samples the times are right in the median, and spread no more than their errors and the limit explain."""
+    random, epochs = np.random.default_rng(9), 2000
+    true = np.maximum(np.exp(random.normal(3, 0.8, 400)), 3)
+    found = np.array([integrated_time(autoregressive(time, epochs, random), 12) for time in true])
+    settled = epochs >= 12 * found[:, 0]
+    ratio = np.log(found[:, 0] / [integrated(time) for time in true])[settled]
+    assert settled[true < epochs / 50].all() and settled.mean() > 0.95
+    assert abs(np.median(ratio)) < 0.03 and ratio.std() < 0.3
 
 
 def test_walks_that_are_gone_within_a_record_have_an_integrated_time_alone():

@@ -125,14 +125,16 @@ def last_movers(reports: Sequence[Parts], slot: int, moment: int, count: int = 1
                          count)
 
 
-def greatest_expected(samples: int) -> float:
+def greatest_expected(samples: int, shorter: float) -> float:
     """How far the farthest of so many samples is by chance alone, in errors from pieces of two parts: it is beyond this
     in one study of two.
 
-    Student's distribution, with the degrees of freedom of two parts of which one is half as long, so that its mean has
-    twice the variance (B. L. Welch, Biometrika 34, 28 (1947)).
+    One part is so many times as long as the other, whose mean has that many times the variance: 2 for parts that double,
+    1 for parts of two runs. Student's distribution, with the degrees of freedom of both variances
+    (B. L. Welch, Biometrika 34, 28 (1947)).
     """
-    return float(stats.t.isf((1 - 0.5 ** (1 / samples)) / 2, (1 + 2) ** 2 / (1 ** 2 + 2 ** 2) * (PIECES - 1)))
+    freedom = (1 + shorter) ** 2 / (1 + shorter ** 2) * (PIECES - 1)
+    return float(stats.t.isf((1 - 0.5 ** (1 / samples)) / 2, freedom))
 
 
 class Meeting(NamedTuple):

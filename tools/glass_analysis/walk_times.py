@@ -6,7 +6,7 @@ shows by its long time (R. Alvarez Banos et al., J. Stat. Mech. P06026 (2010)).
 """
 from __future__ import annotations
 
-from typing import NamedTuple
+from typing import NamedTuple, Tuple
 
 import numpy as np
 from scipy import fft
@@ -63,28 +63,33 @@ def walk_correlations(records: Records) -> Numbers:
 
 
 def walk_times(records: Records) -> WalkTimes:
-    """The times of each sample and replica, summed up to a window of WINDOW times, or to where the noise begins.
+    """The times of each sample and replica."""
+    correlations = walk_correlations(records)
+    length, shape = len(correlations), correlations.shape[1:]
+    integrated, error, exponential = (np.full(shape, np.nan) for _ in range(3))
+    for sample, replica in np.ndindex(shape):
+        line = correlations[:, sample, replica]
+        integrated[sample, replica], error[sample, replica] = integrated_time(line, records.slots)
+        exponential[sample, replica] = exponential_time(line, integrated[sample, replica], records.slots)
+    longest = np.where(np.isnan(exponential), integrated, exponential)
+    return WalkTimes(integrated, error, exponential, np.isfinite(integrated) & (length >= LENGTHS * longest))
+
+
+def integrated_time(line: Numbers, slots: int) -> Tuple[float, float]:
+    """The time and its error from an autocorrelation by lag, which is the mean over so many slots; nan where it doesn't
+    fall within the run. It is summed up to a window of WINDOW times, or to where the noise begins.
 
     The error is that of N. Madras and A. Sokal, J. Stat. Phys. 50, 109 (1988); each exchange moves two labels, so half
     of the labels are taken as independent.
     """
-    correlations = walk_correlations(records)
-    length = len(correlations)
-    shape = correlations.shape[1:]
-    integrated, error, exponential = (np.full(shape, np.nan) for _ in range(3))
-    for sample, replica in np.ndindex(shape):
-        line = correlations[:, sample, replica]
-        times = np.cumsum(line) - 0.5
-        enough = np.flatnonzero((np.arange(length) >= WINDOW * times) | (line < noise_of(times, length, records.slots)))
-        if len(enough):
-            window = int(enough[0])
-            # What an exponential decay has behind the window.
-            value = times[window] / (1 - max(line[window], 0))
-            integrated[sample, replica] = value
-            error[sample, replica] = value * np.sqrt(2 * (2 * window + 1) / (length * records.slots / 2))
-        exponential[sample, replica] = exponential_time(line, integrated[sample, replica], records.slots)
-    longest = np.where(np.isnan(exponential), integrated, exponential)
-    return WalkTimes(integrated, error, exponential, np.isfinite(integrated) & (length >= LENGTHS * longest))
+    length, times = len(line), np.cumsum(line) - 0.5
+    enough = np.flatnonzero((np.arange(length) >= WINDOW * times) | (line < noise_of(times, length, slots)))
+    if not len(enough):
+        return float("nan"), float("nan")
+    window = int(enough[0])
+    # What an exponential decay has behind the window.
+    value = float(times[window] / (1 - max(line[window], 0)))
+    return value, value * float(np.sqrt(2 * (2 * window + 1) / (length * slots / 2)))
 
 
 def noise_of(times: Numbers, length: int, slots: int) -> Numbers:

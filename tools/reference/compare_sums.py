@@ -2,7 +2,7 @@
 """The sums of `measure`: known values, sums that the program on a grid makes in another way, and the laws that tie the
 text to itself, to the rows and to the checkpoints of runs.
 
-    python3 tools/reference/compare_sums.py     some ten seconds
+    python3 tools/reference/compare_sums.py     six seconds
 
 Status 1 at the first difference, which is told."""
 import os

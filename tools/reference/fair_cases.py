@@ -4,7 +4,7 @@
     python3 tools/reference/fair_cases.py --self-test
 
 Size 2 has 8 sites, 24 bonds and 256 configurations, and a draw is one of 8 in place of 2^32: two slots of a replica, or two
-replicas of a slot, are 65536 states. Weights are whole numbers, so every comparison is exact. A minute."""
+replicas of a slot, are 65536 states. Weights are whole numbers, so every comparison is exact. Half a minute."""
 import random as rng
 import sys
 from collections import Counter
@@ -240,7 +240,8 @@ def main(words):
     if words != ["--self-test"]:
         print("fair_cases: --self-test is the one word; the head of the file says more", file=sys.stderr)
         return 2
-    # The energies of 256 configurations are asked for many times.
+    # The energies and the updates of 256 configurations are asked for many times.
+    listed.updated_by = lru_cache(maxsize=None)(listed.updated_by)
     listed.unsatisfied = lru_cache(maxsize=None)(listed.unsatisfied)
     fair.unsatisfied = lru_cache(maxsize=None)(fair.unsatisfied)
     checks = Checks("fair_cases")

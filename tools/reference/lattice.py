@@ -36,6 +36,7 @@ def previous(l, x):
     return monus(x + l, 1) % l
 
 
+@lru_cache(maxsize=None)
 def forward(l, i, d):
     x, y, z = x_of(l, i), y_of(l, i), z_of(l, i)
     if d == 0:
@@ -45,6 +46,7 @@ def forward(l, i, d):
     return site_at(l, x, y, next_(l, z))
 
 
+@lru_cache(maxsize=None)
 def backward(l, i, d):
     x, y, z = x_of(l, i), y_of(l, i), z_of(l, i)
     if d == 0:

@@ -4,7 +4,8 @@ from collections import namedtuple
 
 from reference.chance import outcomes, sum_lists
 from reference.decisions import sites_of
-from reference.lattice import backward, bond, bond_count, forward
+from reference.lattice import bond_count, forward
+from reference.sums import neighbours
 from reference.words import count_below
 
 # The thresholds for the gaps 1 to 6, in draws; `bonds` says of a bond's number whether J is -1.
@@ -18,9 +19,7 @@ def proposed(c, u, number):
 
 def signs(l, bonds, i):
     """The six neighbours of a site, each with J of the bond to it."""
-    ahead = [(forward(l, i, d), bond(i, d)) for d in range(3)]
-    behind = [(backward(l, i, d), bond(backward(l, i, d), d)) for d in range(3)]
-    return [(site, -1 if bonds(n) else 1) for site, n in ahead + behind]
+    return [(site, -1 if bonds(n) else 1) for site, n in neighbours(l, i)]
 
 
 def gap(d, colours, i, new):
