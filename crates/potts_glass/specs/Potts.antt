@@ -22,7 +22,7 @@ favours around c other k = if around.negative k then around.colour k == other el
 abbrev pub votes : Surroundings → ℕ → ℕ → ℕ
 votes around c other = count_below (favours around c other) 6
 
--- the step that a draw u gives: 0, 1 or 2 with equal probability
+-- the step that a draw u gives: 0, 1 or 2. Of the 2^32 draws 1431655766 give 0, and 1431655765 each give 1 and 2
 abbrev pub step_of : ℕ → ℕ
 step_of u = 3 * u / 2 ^ 32
 
