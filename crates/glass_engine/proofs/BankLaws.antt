@@ -5,7 +5,7 @@ use Rattle.std.proofs.lemmas.Bool.{cases_lt, lt-ltb}
 use Rattle.std.proofs.lemmas.Bool.Decides.{nat_tests}
 use Rattle.report_text.specs.Lines.{header_line, end_line}
 use Rattle.run_checkpoint.specs.BankEncoding.{banks_header, banks_bytes, banks_encoding, BanksFit, BanksStand}
-use Rattle.run_checkpoint.specs.Encoding.{encoding, sealed}
+use Rattle.run_checkpoint.specs.Encoding.{encoding}
 use Rattle.run_checkpoint.proofs.LevelClauses.{encoding-same}
 use Rattle.run_plan.specs.declared.run_file.Orders.{Orders}
 use Rattle.scalar_rule.specs.Epoch.{epoch_records}
@@ -23,6 +23,7 @@ use Rattle.glass_engine.specs.declared.run.SaveKind.{SaveKind}
 use Rattle.glass_engine.proofs.BankStarts.{level-flattened}
 use Rattle.glass_engine.proofs.Pieces.{rows-same}
 use Rattle.glass_engine.proofs.Reporting.{spins-same}
+use Rattle.run_checkpoint.specs.Kinds.{sealed}
 
 -- ---- one sample of banks
 
