@@ -1,6 +1,7 @@
-"""The bytes of checkpoints: run_checkpoint/specs/Encoding.antt, UnevenEncoding.antt and Lengths.antt.
+"""The bytes of checkpoints: run_checkpoint/specs/Kinds.antt, Encoding.antt and Lengths.antt.
 
 `states` is a function from a sample's number to its state, as in the definitions."""
+from collections import namedtuple
 from hashlib import sha256
 
 from reference.words import big_bytes, monus, slice_index_or, table, words_32, words_64
@@ -45,21 +46,8 @@ def contents(l, n, slots, pairs):
             + b"".join(pair_bytes(pair_at(pairs, k)) for k in range(n - 1)))
 
 
-level_kind = b"GLASSCK1"
-
-
-def header(plan, epoch):
-    return (level_kind + sha256(canonical(plan)).digest() + big_bytes(8, epoch) + big_bytes(4, plan.size)
-            + big_bytes(4, slots_of(plan)))
-
-
 def sealed(stored):
     return stored + sha256(stored).digest()
-
-
-def encoding(plan, states):
-    return sealed(header(plan, states(0).epoch)
-                  + contents(plan.size, slots_of(plan), lambda b: states(b).slots, states(0).pairs))
 
 
 def position_bytes(p):
@@ -75,18 +63,55 @@ def record_bytes(r):
             + bytes([r.first_replica, r.second_replica]))
 
 
+Level = namedtuple("Level", "epoch")
+Uneven = namedtuple("Uneven", "samples every positions pending")
+Standing = (Level, Uneven)
+PlainBank = namedtuple("PlainBank", "standing slots pairs")
+level_kind = b"GLASSCK1"
 uneven_kind = b"GLASSCK2"
 
 
-def uneven_header(plan, samples, every, count):
-    return (uneven_kind + sha256(canonical(plan)).digest() + big_bytes(4, plan.size) + big_bytes(4, slots_of(plan))
-            + big_bytes(4, samples) + big_bytes(8, every) + big_bytes(4, count))
+def letters(standing):
+    return level_kind if isinstance(standing, Level) else uneven_kind
+
+
+def shape(plan):
+    return big_bytes(4, plan.size) + big_bytes(4, slots_of(plan))
+
+
+def front(plan, standing):
+    if isinstance(standing, Level):
+        return big_bytes(8, standing.epoch) + shape(plan)
+    return (shape(plan) + big_bytes(4, standing.samples) + big_bytes(8, standing.every) + big_bytes(4, len(standing.pending))
+            + b"".join(map(position_bytes, standing.positions)))
+
+
+def kept(standing):
+    return b"" if isinstance(standing, Level) else b"".join(map(record_bytes, standing.pending))
+
+
+def header(plan, standing):
+    return letters(standing) + sha256(canonical(plan)).digest() + front(plan, standing)
+
+
+def bank_encoding(plan, bank):
+    return sealed(header(plan, bank.standing) + contents(plan.size, slots_of(plan), bank.slots, bank.pairs) + kept(bank.standing))
+
+
+def level_bank(states):
+    return PlainBank(Level(states(0).epoch), lambda b: states(b).slots, states(0).pairs)
+
+
+def uneven_bank(samples, every, states, pending):
+    return PlainBank(Uneven(samples, every, states(0).positions, pending), lambda b: states(b).slots, states(0).pairs)
+
+
+def encoding(plan, states):
+    return bank_encoding(plan, level_bank(states))
 
 
 def uneven_encoding(plan, samples, every, states, pending):
-    return sealed(uneven_header(plan, samples, every, len(pending)) + b"".join(map(position_bytes, states(0).positions))
-                  + contents(plan.size, slots_of(plan), lambda b: states(b).slots, states(0).pairs)
-                  + b"".join(map(record_bytes, pending)))
+    return bank_encoding(plan, uneven_bank(samples, every, states, pending))
 
 
 generator_len = 244
@@ -121,3 +146,8 @@ longest_checkpoint = 44 + 4 * longest_encoding
 
 def uneven_len(l, n, count):
     return 64 + position_len * n + contents_len(l, n) + record_len * count + 32
+
+
+def standing_len(plan, standing):
+    n = slots_of(plan)
+    return encoding_len(plan.size, n) if isinstance(standing, Level) else uneven_len(plan.size, n, len(standing.pending))

@@ -2,13 +2,16 @@
 //! the buffer of its checkpoint, and then does one piece of work with them.
 
 ghost use Rattle.std.specs.Prelude.{◌≡◌, ◌≤◌, [], IfOk};
+ghost use Rattle.plane_sweep.specs.Packed.{StandFits};
+ghost use Rattle.run_checkpoint.specs.Encoding.{FitsKind};
 ghost use Rattle.run_checkpoint.specs.Lengths.{encoding_len};
+ghost use Rattle.run_checkpoint.specs.declared.kinds.Kind.TheVariants as kinds;
 ghost use Rattle.scalar_rule.specs.Plan.{slots_of};
 
 use crate::plans::greatest_plan;
 use anyhow::{Error, Result};
-use plane_sweep::Stand;
-use run_checkpoint::{Room, decode, encode, length};
+use plane_sweep::{RaggedStand, Stand};
+use run_checkpoint::{Kind, Room, decode, encode, length};
 use run_plan::digest;
 use scalar_rule::{Plan, Start};
 use sha2::{Digest, Sha256};
@@ -52,6 +55,16 @@ fn room_for(rt: &HostRuntime, plan: &Plan) -> Result<Room>
     Ok(Room::reserve(rt.alloc(), len)?)
 }
 
+// The state as one that is written at one epoch.
+fn level_of(rt: &HostRuntime, plan: &Plan, stand: Stand) -> Result<RaggedStand>
+    requires { StandFits plan.now stand }
+    ensures { IfOk result (FitsKind kinds.Level plan.now) }
+{
+    // A plan has a slot.
+    let _ = plan.slots();
+    Ok(RaggedStand::level(rt.alloc(), stand)?)
+}
+
 // What is done with the bytes of a checkpoint.
 fn measure_bytes(rt: &HostRuntime, plan: &Plan, bytes: &[u8], work: Work) -> Result<()> {
     match work {
@@ -65,8 +78,9 @@ fn measure_bytes(rt: &HostRuntime, plan: &Plan, bytes: &[u8], work: Work) -> Res
         }
         Work::Again => {
             let stand = decode(rt.alloc(), plan, 0, bytes)?;
+            let level = level_of(rt, plan, stand)?;
             let mut room = room_for(rt, plan)?;
-            encode(&stand, plan, &mut room);
+            encode(&Kind::Level, &level, plan, &mut room);
             if room.bytes() != bytes {
                 return Err(Error::msg("other bytes are written again"));
             }
@@ -81,6 +95,7 @@ fn measure_bytes(rt: &HostRuntime, plan: &Plan, bytes: &[u8], work: Work) -> Res
 pub fn measure(rt: &HostRuntime, size: u32, work: Work) -> Result<()> {
     let plan = greatest_plan(rt.alloc(), size)?;
     let stand = Stand::opening(rt.alloc(), &plan, Start::Random)?;
+    let level = level_of(rt, &plan, stand)?;
     let mut room = room_for(rt, &plan)?;
     match work {
         Work::Opening => Ok(()),
@@ -89,8 +104,8 @@ pub fn measure(rt: &HostRuntime, size: u32, work: Work) -> Result<()> {
             Ok(())
         }
         _ => {
-            encode(&stand, &plan, &mut room);
-            drop(stand);
+            encode(&Kind::Level, &level, &plan, &mut room);
+            drop(level);
             measure_bytes(rt, &plan, room.bytes(), work)
         }
     }

@@ -4,7 +4,7 @@ use Rattle.std.proofs.Common.{arith, ◌≡◌, ℕ, ◌-◌, ◌<◌, ◌≤◌
 use Rattle.std.proofs.lemmas.Bool.{lt-ltb}
 use Rattle.std.proofs.lemmas.Bool.Decides.{nat_tests}
 use Rattle.run_checkpoint.specs.BankEncoding.{banks_header, banks_bytes, banks_encoding, BanksFit, BanksStand}
-use Rattle.run_checkpoint.specs.Encoding.{encoding, sealed}
+use Rattle.run_checkpoint.specs.Encoding.{encoding}
 use Rattle.run_checkpoint.proofs.LevelClauses.{encoding-same}
 use Rattle.run_plan.specs.declared.run_file.Orders.{Orders}
 use Rattle.scalar_rule.specs.Plan.{Plan, slots_of}
@@ -18,6 +18,7 @@ use Rattle.glass_engine.specs.BankLaws.{banks_with, HaveSlots, StandForBanks, Is
 use Rattle.glass_engine.specs.BankRuns.{bank_runs, bank_of, for_samples, runs_checkpoint}
 use Rattle.glass_engine.specs.declared.run.SaveKind.{SaveKind}
 use Rattle.glass_engine.proofs.BankStarts.{level-flattened}
+use Rattle.run_checkpoint.specs.Kinds.{sealed}
 
 -- ---- one sample of banks
 

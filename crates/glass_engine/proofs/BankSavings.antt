@@ -5,7 +5,10 @@ use Rattle.std.proofs.Math.Nat.{mul-le-mul_right}
 use native.Mathlib.Nat.{mul_comm}
 use Rattle.std.proofs.lemmas.List.Elements.{All-head, All-tail, All-get_or}
 use Rattle.run_checkpoint.specs.BankEncoding.{banks_header, banks_bytes, banks_encoding, HaveShape, HaveOneShape, bank_len}
-use Rattle.run_checkpoint.specs.Encoding.{encoding, sealed, flattened}
+use Rattle.run_checkpoint.specs.Encoding.{encoding, flattened, FitsKind}
+use Rattle.run_checkpoint.specs.Kinds.{sealed}
+use Rattle.run_checkpoint.specs.declared.kinds.Kind.TheVariants as kinds
+use Rattle.run_checkpoint.proofs.UnevenForm.{kind-length}
 use Rattle.run_checkpoint.specs.Lengths.{encoding_len}
 use Rattle.run_checkpoint.proofs.BankSteps.{next-item, no-item, plan-len}
 use Rattle.run_checkpoint.proofs.LevelClauses.{encoding-same}
@@ -27,7 +30,7 @@ use Rattle.glass_engine.specs.declared.run.SaveKind.TheVariants as saves
 use Rattle.glass_engine.proofs.BankDrives.{same-count, bank-plan, runs-done}
 use Rattle.glass_engine.proofs.BankReports.{IsBankEnd, bank-ends, banks-saved, serial-end}
 use Rattle.glass_engine.proofs.SavedRuns.{ended-level, ended-flattened}
-use Rattle.glass_engine.proofs.Savings.{flattened-fits, level-length}
+use Rattle.glass_engine.proofs.Savings.{flattened-fits}
 
 -- ---- bank by bank
 
@@ -55,8 +58,8 @@ module _ {X : Type 0} (f : X → Plan) (plans : List X) (ds : List DoneView) (sa
     pub level-at : All EndsLevel ds → EndsLevel d
     level-at all = subst EndsLevel (sym d_is) (All-get_or EndsLevel ds k d within all)
 
-    pub fits-at : All EndsLevel ds → StandFits (f p) (flattened d.ended.stand)
-    fits-at all = subst (λ (q : Plan). StandFits q (flattened d.ended.stand)) (sym own) (level-at all).fits
+    pub fits-at : All EndsLevel ds → FitsKind kinds.Level (f p) d.ended.stand
+    fits-at all = ((level-at all).level, subst (λ (q : Plan). StandFits q (flattened d.ended.stand)) (sym own) (level-at all).fits)
 
     pub bytes-step : (old new whole : List ℕ) (stand : RaggedStand) → stand ≡ d.ended.stand → new ≡ old ++ encoding (f p) (λ b. part (f p).size b (flattened stand))
         → old ++ banks_bytes (drop k (map f plans)) (drop k (ends_in ds)) ≡ whole → new ++ banks_bytes (drop (k + 1) (map f plans)) (drop (k + 1) (ends_in ds)) ≡ whole
@@ -74,8 +77,7 @@ module _ {X : Type 0} (f : X → Plan) (plans : List X) (ds : List DoneView) (sa
         → new ≡ old ++ encoding (f p) (λ b. part (f p).size b (flattened stand)) → length new ≡ length old + bank_len (map f plans)
     long-step all shape old new stand stand_is put =
         let lawful = subst IsLawfulPlan (sym own) (level-at all).lawful in
-        let fits : StandFits (f p) (flattened stand) = subst (λ (s : RaggedStand). StandFits (f p) (flattened s)) (sym stand_is) (fits-at all) in
-        let one = level-length (f p) (flattened stand) lawful fits in
+        let one = kind-length kinds.Level (f p) stand lawful (subst (FitsKind kinds.Level (f p)) (sym stand_is) (fits-at all)) in
         let len = len-at shape in
         ap length put ∙ length-append old _ ∙ omega arith
 

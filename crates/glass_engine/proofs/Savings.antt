@@ -4,18 +4,14 @@ use Rattle.std.proofs.lemmas.List.{length-map}
 use Rattle.scalar_rule.specs.Plan.{Plan, slots_of, IsLawfulPlan}
 use Rattle.scalar_rule.specs.Ragged.{Position}
 use Rattle.scalar_rule.proofs.InStep.{pending-few}
-use Rattle.plane_sweep.specs.Packed.{part, StandFits}
-use Rattle.plane_sweep.specs.Uneven.{place_at, position_of, positions_of, uneven_part, level_stand, RaggedStandFits}
-use Rattle.plane_sweep.specs.declared.stand.Stand.{Stand}
+use Rattle.plane_sweep.specs.Packed.{StandFits}
+use Rattle.plane_sweep.specs.Uneven.{place_at, position_of, positions_of, level_stand, RaggedStandFits}
 use Rattle.plane_sweep.specs.declared.uneven.RaggedStand.{RaggedStand}
 use Rattle.plane_sweep.proofs.LevelStands.{position-at}
 use Rattle.exchange_board.specs.Content.{plan_of}
-use Rattle.run_checkpoint.specs.Encoding.{encoding, flattened}
-use Rattle.run_checkpoint.specs.Lengths.{encoding_len, uneven_len}
-use Rattle.run_checkpoint.specs.UnevenEncoding.{uneven_encoding}
-use Rattle.run_checkpoint.proofs.Forms.{length-sealed}
-use Rattle.run_checkpoint.proofs.LevelForm.{packed_body, encoding-packed, length-packed}
-use Rattle.run_checkpoint.proofs.UnevenForm.{uneven_body, uneven-packed, length-uneven, uneven-long}
+use Rattle.run_checkpoint.specs.Encoding.{flattened}
+use Rattle.run_checkpoint.specs.Lengths.{uneven_len}
+use Rattle.run_checkpoint.proofs.UnevenForm.{uneven-long}
 use Rattle.glass_engine.specs.KeptRun.{done_view, KeepsDone}
 use Rattle.glass_engine.specs.KeptSaving.{kind_of, EndsAs}
 use Rattle.glass_engine.specs.declared.done.Done.TheInside as done
@@ -26,15 +22,6 @@ use Rattle.glass_engine.proofs.SavedRuns.{fits-at, ended-level, ended-flattened}
 use Rattle.glass_engine.proofs.WholeRuns.{unstopped-whole}
 
 -- ---- lengths
-
-pub level-length : (plan : Plan) (stand : Stand) → IsLawfulPlan plan → StandFits plan stand → length (encoding plan (λ b. part plan.size b stand)) ≡ encoding_len plan.size (slots_of plan)
-level-length plan stand lawful fits =
-    ap length (encoding-packed plan stand lawful fits) ∙ (length-sealed (packed_body plan stand) ∙ length-packed plan stand fits)
-
-pub uneven-length : (plan : Plan) (samples every : ℕ) (stand : RaggedStand) → IsLawfulPlan plan → RaggedStandFits plan samples every stand
-    → length (uneven_encoding plan samples every (λ b. uneven_part plan.size b stand) stand.pending) ≡ uneven_len plan.size (slots_of plan) (length stand.pending)
-uneven-length plan samples every stand lawful fits =
-    ap length (uneven-packed plan samples every stand lawful fits) ∙ (length-sealed (uneven_body plan samples every stand) ∙ length-uneven plan samples every stand fits)
 
 -- the longest checkpoint has room for the records of any state that fits
 pub uneven-room : (plan : Plan) (samples every : ℕ) (stand : RaggedStand) → RaggedStandFits plan samples every stand

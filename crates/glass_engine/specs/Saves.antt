@@ -10,8 +10,7 @@ use Rattle.plane_sweep.specs.Uneven.{uneven_part, level_stand}
 use Rattle.plane_sweep.specs.declared.stand.Stand.{Stand}
 use Rattle.plane_sweep.specs.declared.uneven.RaggedStand.{RaggedStand}
 use Rattle.exchange_board.specs.Views.{RaggedEndedView}
-use Rattle.run_checkpoint.specs.Encoding.{encoding, flattened}
-use Rattle.run_checkpoint.specs.UnevenEncoding.{uneven_encoding}
+use Rattle.run_checkpoint.specs.Encoding.{encoding, flattened, uneven_encoding}
 use Rattle.glass_engine.specs.Runs.{RunView, starts, IsEnd}
 use Rattle.glass_engine.specs.declared.run.SaveKind.{SaveKind}
 use Rattle.glass_engine.specs.declared.run.SaveKind.TheVariants as saves

@@ -13,7 +13,7 @@ ghost use Rattle.glass_engine.specs.declared.run.SaveKind.TheVariants as saves;
 use crate::banks::BanksDone;
 use crate::done::Done;
 use glass_edges::{Fault, Shelf};
-use run_checkpoint::{Room, begin_banks, encode_level, end_banks};
+use run_checkpoint::{Kind, Room, begin_banks, encode, end_banks};
 use scalar_rule::Plan;
 use std::alloc::Global;
 use std::sync::Arc;
@@ -86,7 +86,12 @@ fn encode_banks(driven: &[Done], plans: &[Arc<Plan, Global>], room: &mut Room)
 {
     begin_banks(driven.len() as u32, room);
     'banks: for bank in 0..driven.len() {
-        encode_level(driven[bank].ended().stand(), &plans[bank], room);
+        encode(
+            &Kind::Level,
+            driven[bank].ended().stand(),
+            &plans[bank],
+            room,
+        );
     }
     end_banks(room);
 }

@@ -7,7 +7,7 @@ ghost use Rattle.glass_engine.specs.KeptSaving as model;
 use crate::run::SaveKind;
 use glass_edges::NoMemory;
 use plane_sweep::RaggedStand;
-use run_checkpoint::{Room, encode_level, encode_ragged, length, length_ragged};
+use run_checkpoint::{Kind, Room, encode, length, length_ragged};
 use scalar_rule::Plan;
 use std::alloc::Global;
 
@@ -62,8 +62,8 @@ impl Saving {
         let _ = plan.lattice();
         match self {
             Saving::Never => {}
-            Saving::Level(room) => encode_level(stand, plan, room),
-            Saving::Ragged(room) => encode_ragged(stand, plan, samples, every, room),
+            Saving::Level(room) => encode(&Kind::Level, stand, plan, room),
+            Saving::Ragged(room) => encode(&Kind::Uneven { samples, every }, stand, plan, room),
         }
     }
 

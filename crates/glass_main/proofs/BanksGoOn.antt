@@ -9,7 +9,7 @@ use Rattle.glass_engine.proofs.Reporting.{spins-same}
 use Rattle.plane_sweep.specs.Packed.{part}
 use Rattle.report_text.specs.Lines.{header_line, end_line}
 use Rattle.run_checkpoint.specs.BankEncoding.{banks_header, banks_encoding, banks_bytes as encodings, AreBanks}
-use Rattle.run_checkpoint.specs.Encoding.{sealed}
+use Rattle.run_checkpoint.specs.Kinds.{sealed}
 use Rattle.run_checkpoint.specs.Laws.{AreSameBanks}
 use Rattle.run_checkpoint.proofs.LevelClauses.{encoding-same}
 use Rattle.run_plan.specs.declared.run_file.Orders.{Orders}

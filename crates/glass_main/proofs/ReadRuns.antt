@@ -5,10 +5,10 @@ use Rattle.plane_sweep.specs.Packed.{part, StandFits}
 use Rattle.plane_sweep.specs.declared.stand.Stand.{Stand}
 use Rattle.run_checkpoint.specs.BankDecoding.{banks_refusal, banks_in, banks_decoded}
 use Rattle.run_checkpoint.specs.BankEncoding.{bank_len, banks_encoding, banks_parts, AreBanks, BanksFit, BanksStand}
-use Rattle.run_checkpoint.specs.Encoding.{level_kind, encoding, sealed, AreBankStates}
+use Rattle.run_checkpoint.specs.Encoding.{encoding, AreBankStates}
+use Rattle.run_checkpoint.specs.Kinds.{level_kind, sealed, uneven_kind}
 use Rattle.run_checkpoint.specs.Laws.{AreSameBanks}
 use Rattle.run_checkpoint.specs.UnevenDecoding.{is_uneven, any_refusal}
-use Rattle.run_checkpoint.specs.UnevenEncoding.{uneven_kind}
 use Rattle.run_checkpoint.proofs.BankClauses.{none-encoded, states-read}
 use Rattle.run_checkpoint.proofs.LevelClauses.{packed-none, states-packed, states-epoch}
 use Rattle.run_checkpoint.proofs.LevelForm.{packed_body, form-long, form-again, stand-again}

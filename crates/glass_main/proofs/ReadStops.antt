@@ -7,11 +7,11 @@ use Rattle.plane_sweep.specs.Packed.{part}
 use Rattle.plane_sweep.specs.Uneven.{positions_of, uneven_part, RaggedStandFits, level_stand}
 use Rattle.plane_sweep.specs.declared.stand.Stand.{Stand}
 use Rattle.plane_sweep.specs.declared.uneven.RaggedStand.{RaggedStand}
-use Rattle.run_checkpoint.specs.Encoding.{level_kind, AreBankStates}
+use Rattle.run_checkpoint.specs.Encoding.{AreBankStates}
 use Rattle.run_checkpoint.specs.Decoding.{level_refusal, IsEncoded}
+use Rattle.run_checkpoint.specs.Kinds.{level_kind, uneven_kind}
 use Rattle.run_checkpoint.specs.Reading.{stand_in}
 use Rattle.run_checkpoint.specs.UnevenDecoding.{is_uneven, uneven_in, uneven_refusal, any_in, any_refusal, any_decoded, IsAnyEncoded}
-use Rattle.run_checkpoint.specs.UnevenEncoding.{uneven_kind}
 use Rattle.run_checkpoint.specs.declared.refused.CheckpointRefused.{CheckpointRefused}
 use Rattle.run_checkpoint.specs.declared.refused.CheckpointRefused.TheVariants as checkpoint
 use Rattle.run_checkpoint.proofs.LevelClauses.{states-packed, none-is}

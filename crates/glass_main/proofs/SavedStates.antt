@@ -8,11 +8,11 @@ use Rattle.scalar_rule.specs.declared.sample.Sample.{Sample}
 use Rattle.plane_sweep.specs.Packed.{StandsFor}
 use Rattle.plane_sweep.specs.declared.stand.Stand.{Stand}
 use Rattle.run_checkpoint.specs.Decoding.{level_form, level_refusal, decoded, IsEncoded}
-use Rattle.run_checkpoint.specs.Encoding.{encoding, level_kind, AreBankStates}
+use Rattle.run_checkpoint.specs.Encoding.{encoding, AreBankStates}
+use Rattle.run_checkpoint.specs.Kinds.{level_kind, uneven_kind}
 use Rattle.run_checkpoint.specs.Reading.{stand_in}
 use Rattle.run_checkpoint.specs.Tests.{short, other_kind}
 use Rattle.run_checkpoint.specs.UnevenDecoding.{is_uneven, any_refusal}
-use Rattle.run_checkpoint.specs.UnevenEncoding.{uneven_kind}
 use Rattle.run_checkpoint.specs.declared.refused.CheckpointRefused.{CheckpointRefused}
 use Rattle.run_checkpoint.specs.declared.refused.CheckpointRefused.TheVariants as checkpoint
 use Rattle.run_checkpoint.proofs.LevelClauses.{none-is, is-only, level-tells}

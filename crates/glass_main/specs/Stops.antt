@@ -10,8 +10,7 @@ use Rattle.scalar_rule.specs.Serial.{serial}
 use Rattle.scalar_rule.specs.declared.sample.Record.{Record}
 use Rattle.plane_sweep.specs.Uneven.{positions_of, uneven_part, RaggedStandFits}
 use Rattle.plane_sweep.specs.declared.uneven.RaggedStand.{RaggedStand}
-use Rattle.run_checkpoint.specs.Encoding.{AreBankStates}
-use Rattle.run_checkpoint.specs.UnevenEncoding.{uneven_encoding}
+use Rattle.run_checkpoint.specs.Encoding.{AreBankStates, uneven_encoding}
 use Rattle.glass_engine.specs.Report.{rows_in_order, uneven_measured, all_rest, all_spins}
 use Rattle.glass_main.specs.Beginnings.{Beginning, Level, Uneven, begins_at, run_text, state_at, run_checkpoint}
 use Rattle.glass_main.specs.declared.planned.Planned.{Planned}

@@ -13,7 +13,7 @@ use Rattle.scalar_rule.specs.declared.sample.Sample.{Sample}
 use Rattle.plane_sweep.specs.declared.stand.Stand.{Stand}
 use Rattle.run_checkpoint.specs.BankDecoding.{other_banks, banks_refused, epochs_refused, first_epoch, banks_form, banks_refusal, banks_in, banks_decoded, AreEncoded}
 use Rattle.run_checkpoint.specs.BankEncoding.{banks_kind, banks_header, banks_bytes, banks_encoding, bank_len, banks_len, banks_parts, HaveOneShape, AreBanks, BanksStand, BanksFit}
-use Rattle.run_checkpoint.specs.Encoding.{sealed}
+use Rattle.run_checkpoint.specs.Kinds.{sealed}
 use Rattle.run_checkpoint.specs.Lengths.{encoding_len}
 use Rattle.run_checkpoint.specs.Reading.{piece, number_at, body_of, digest_of}
 use Rattle.run_checkpoint.specs.Tests.{short, other_kind, other_length, damaged}

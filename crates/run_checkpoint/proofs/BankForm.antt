@@ -12,7 +12,7 @@ use Rattle.plane_sweep.specs.declared.stand.Stand.{Stand}
 use Rattle.run_checkpoint.specs.BankDecoding.{banks_refused, other_epoch, epochs_refused, banks_in, first_epoch}
 use Rattle.run_checkpoint.specs.BankEncoding.{banks_bytes, banks_parts, AreBanks, BanksStand, BanksFit}
 use Rattle.run_checkpoint.specs.Decoding.{level_refusal}
-use Rattle.run_checkpoint.specs.Encoding.{sealed}
+use Rattle.run_checkpoint.specs.Kinds.{sealed}
 use Rattle.run_checkpoint.specs.Lengths.{encoding_len}
 use Rattle.run_checkpoint.specs.Reading.{piece, number_at, stand_in}
 use Rattle.run_checkpoint.specs.declared.refused.CheckpointRefused.TheVariants as refused

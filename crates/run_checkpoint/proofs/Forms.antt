@@ -3,7 +3,7 @@ use Rattle.std.proofs.Common.{◌≡◌, ℕ, ◌+◌, ◌-◌, ◌≤◌, List,
 use Rattle.std.proofs.lemmas.List.{take_at, drop_at, take-append-drop, length-append, drop-drop}
 use Rattle.sha2.specs.Sha256.{sha256}
 use Rattle.sha2.proofs.Facts256.{length-sha256}
-use Rattle.run_checkpoint.specs.Encoding.{sealed}
+use Rattle.run_checkpoint.specs.Kinds.{sealed}
 use Rattle.run_checkpoint.specs.Reading.{piece, body_of, digest_of}
 
 -- the next part stands at its place

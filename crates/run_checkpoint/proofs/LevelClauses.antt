@@ -1,5 +1,5 @@
 -- The clauses of the reader of a checkpoint at one epoch.
-use Rattle.std.proofs.Common.{◌≡◌, ℕ, ◌*◌, ◌<◌, ◌≤◌, List, ◌++◌, length, map, drop, None, Result, Ok, Err, refl, sym, ap, subst, ◌∙◌, arith, inl, inr}
+use Rattle.std.proofs.Common.{◌≡◌, ℕ, ◌*◌, ◌<◌, ◌≤◌, List, length, map, drop, None, Result, Ok, Err, refl, sym, ap, subst, ◌∙◌, arith, inl, inr}
 use Rattle.std.specs.Prelude.{IfOk, IfErr}
 use Rattle.std.proofs.lemmas.List.{length-drop}
 use Rattle.byteorder.specs.Numbers.{big_from-lt}
@@ -11,15 +11,16 @@ use Rattle.scalar_rule.specs.declared.sample.Sample.{Sample}
 use Rattle.plane_sweep.specs.Packed.{part, part_slot, StandFits, StandsFor, PermutesAt}
 use Rattle.plane_sweep.specs.declared.stand.Stand.{Stand}
 use Rattle.run_checkpoint.specs.Decoding.{level_form, level_refusal, decoded, IsEncoded}
-use Rattle.run_checkpoint.specs.Encoding.{header, sealed, contents, encoding, AreBankStates}
+use Rattle.run_checkpoint.specs.Encoding.{level_bank, encoding, AreBankStates}
+use Rattle.run_checkpoint.specs.Kinds.{Level, sealed}
 use Rattle.run_checkpoint.specs.Lengths.{slot_len, contents_len}
 use Rattle.run_checkpoint.specs.Reading.{parts_in, stand_in}
 use Rattle.run_checkpoint.specs.Tests.{wrong_label}
 use Rattle.run_checkpoint.specs.declared.refused.CheckpointRefused.{CheckpointRefused}
 use Rattle.run_checkpoint.specs.declared.refused.CheckpointRefused.TheVariants as refused
+use Rattle.run_checkpoint.proofs.PackedParts.{bank-same}
 use Rattle.run_checkpoint.proofs.LabelTests.{right-labels, labels-right}
 use Rattle.run_checkpoint.proofs.LevelForm.{HasForm, form-long, form-is, form-right, form-tells, packed_body, encoding-packed, form-again, stand-again, stand-back}
-use Rattle.run_checkpoint.proofs.PackedParts.{contents-same}
 use Rattle.run_checkpoint.proofs.Tested.{Tells, tells-or, tells-label, tells-late, late-is, in-time, memory-or}
 use Rattle.run_checkpoint.proofs.WrittenAgain.{slots-fit, slots-count, pairs-count, pairs-fit}
 use Rattle.glass_edges.proofs.FirstRefusals.{or-later, or-none, unless-ok}
@@ -83,12 +84,10 @@ decoded-packed plan until stand lawful fits le = rw (← packed-none plan until 
 
 -- states that agree in the 64 samples have one encoding
 pub encoding-same : (plan : Plan) (s t : ℕ → Sample) → ((b : ℕ) → b < 64 → s b ≡ t b) → encoding plan s ≡ encoding plan t
-unfolding encoding
+unfolding level_bank
 encoding-same plan s t same =
     let first : s 0 ≡ t 0 = same 0 (omega arith) in
-    let parts = contents-same plan.size (slots_of plan) (λ b. (s b).slots) (λ b. (t b).slots) (s 0).pairs (t 0).pairs (λ b small. ap (λ (x : Sample). x.slots) (same b small)) (ap (λ (x : Sample). x.pairs) first) in
-    ap (λ e. sealed (header plan e ++ contents plan.size (slots_of plan) (λ b. (s b).slots) (s 0).pairs)) (ap (λ (x : Sample). x.epoch) first)
-    ∙ ap (λ x. sealed (header plan (t 0).epoch ++ x)) parts
+    bank-same plan (level_bank s) (level_bank t) (ap (λ (x : Sample). Level x.epoch) first) (λ b small. ap (λ (x : Sample). x.slots) (same b small)) (ap (λ (x : Sample). x.pairs) first)
 
 pub states-packed : (plan : Plan) (states : ℕ → Sample) (are : AreBankStates plan states) → IsLawfulPlan plan → encoding plan states ≡ sealed (packed_body plan are.stand)
 states-packed plan states are lawful =

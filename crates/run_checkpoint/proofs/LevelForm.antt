@@ -1,6 +1,6 @@
 -- The form of a checkpoint at one epoch: its tests together, and both directions.
-use Rattle.std.proofs.Common.{◌≡◌, ℕ, ◌+◌, ◌≤◌, List, ◌++◌, length, take, drop, None, refl, sym, ap, ◌∙◌, arith, append_assoc}
-use Rattle.std.proofs.lemmas.List.{length-append, length-drop, take-append-drop}
+use Rattle.std.proofs.Common.{◌≡◌, ℕ, ◌+◌, ◌≤◌, List, [], ◌++◌, length, take, drop, None, refl, sym, ap, ◌∙◌, arith, append_assoc}
+use Rattle.std.proofs.lemmas.List.{append-nil, length-drop, take-append-drop}
 use Rattle.sha2.specs.Sha256.{sha256}
 use Rattle.sha2.proofs.Facts256.{length-sha256}
 use Rattle.byteorder.specs.Endian.{big_bytes, big_number}
@@ -12,14 +12,16 @@ use Rattle.plane_sweep.specs.declared.stand.Stand.{Stand}
 use Rattle.plane_sweep.specs.declared.replica.Duo.{Duo}
 use Rattle.plane_sweep.specs.declared.stand.PairWheels.{PairWheels}
 use Rattle.run_checkpoint.specs.Decoding.{level_form}
-use Rattle.run_checkpoint.specs.Encoding.{level_kind, header, sealed, encoding}
+use Rattle.run_checkpoint.specs.Encoding.{level_bank, encoding}
+use Rattle.run_checkpoint.specs.Kinds.{Level, level_kind, header, shape, sealed}
 use Rattle.run_checkpoint.specs.Lengths.{contents_len, encoding_len}
 use Rattle.run_checkpoint.specs.PackedBytes.{packed_contents}
 use Rattle.run_checkpoint.specs.Reading.{piece, number_at, body_of, digest_of, slots_in, pairs_in, stand_in}
 use Rattle.run_checkpoint.specs.Tests.{short, other_kind, other_shape, other_length, damaged, other_plan}
+use Rattle.run_checkpoint.proofs.PackedParts.{packed_bank, bank-packed}
+use Rattle.run_checkpoint.proofs.UnevenParts.{length-bank}
 use Rattle.run_checkpoint.proofs.Forms.{next-part, cut, tail-at, sealed-digest, sealed-back, length-sealed}
-use Rattle.run_checkpoint.proofs.PackedParts.{contents-packed}
-use Rattle.run_checkpoint.proofs.PartLengths.{length-contents, length-header}
+use Rattle.run_checkpoint.proofs.PartLengths.{length-contents}
 use Rattle.run_checkpoint.proofs.ReadAgain.{slots-again, pairs-again}
 use Rattle.run_checkpoint.proofs.Tested.{Tells, tells-or, tells-short, tells-kind, tells-shape, tells-length, tells-digest, tells-plan, long-enough, kind-right, kind-is, shape-right, shape-is, length-right, length-is, digest-right, digest-is, plan-right, plan-is}
 use Rattle.run_checkpoint.proofs.WrittenAgain.{contents-back}
@@ -70,31 +72,23 @@ form-tells plan bytes =
 
 -- the encoding by the packed state
 abbrev pub packed_body : Plan → Stand → List ℕ
-packed_body plan stand = header plan stand.epoch ++ packed_contents stand.slots stand.pairs
+packed_body plan stand = packed_bank plan (Level stand.epoch) stand.slots stand.pairs
 
 pub encoding-packed : (plan : Plan) (stand : Stand) → IsLawfulPlan plan → StandFits plan stand → encoding plan (λ b. part plan.size b stand) ≡ sealed (packed_body plan stand)
-unfolding encoding part
-encoding-packed plan stand lawful fits =
-    ap (λ x. sealed (header plan stand.epoch ++ x))
-    (contents-packed plan.size (slots_of plan) stand.slots stand.pairs lawful.size fits.slots fits.pairs fits.each_slot)
+unfolding level_bank part
+encoding-packed plan stand lawful fits = bank-packed plan (Level stand.epoch) stand.slots stand.pairs lawful fits.slots fits.pairs fits.each_slot
 
-regroup : (m d e z t b h : List ℕ) → ((m ++ (d ++ (e ++ (z ++ t)))) ++ b) ++ h ≡ m ++ (d ++ (e ++ (z ++ (t ++ (b ++ h)))))
-regroup m d e z t b h = simp append_assoc
+regroup : (m d e z t b h : List ℕ) → ((m ++ (d ++ (e ++ (z ++ t)))) ++ (b ++ [])) ++ h ≡ m ++ (d ++ (e ++ (z ++ (t ++ (b ++ h)))))
+regroup m d e z t b h = simp (append_assoc, append-nil)
 
 flat : (plan : Plan) (stand : Stand) → sealed (packed_body plan stand)
     ≡ level_kind ++ (sha256 (canonical plan) ++ (big_bytes 8 stand.epoch ++ (big_bytes 4 plan.size ++ (big_bytes 4 (slots_of plan) ++ (packed_contents stand.slots stand.pairs ++ sha256 (packed_body plan stand))))))
-unfolding sealed header
+unfolding sealed header shape
 flat plan stand = regroup level_kind (sha256 (canonical plan)) (big_bytes 8 stand.epoch) (big_bytes 4 plan.size) (big_bytes 4 (slots_of plan)) (packed_contents stand.slots stand.pairs) (sha256 (packed_body plan stand))
 
 pub length-packed : (plan : Plan) (stand : Stand) → StandFits plan stand → length (packed_body plan stand) + 32 ≡ encoding_len plan.size (slots_of plan)
 length-packed plan stand fits =
-    omega (
-      arith,
-      length-append (header plan stand.epoch) (packed_contents stand.slots stand.pairs),
-      length-header plan stand.epoch,
-      length-contents plan.size (slots_of plan) stand.slots stand.pairs fits.slots fits.pairs fits.each_slot fits.each_pair,
-      form-long plan.size (slots_of plan),
-    )
+    length-bank plan (Level stand.epoch) stand.slots stand.pairs tt (length-contents plan.size (slots_of plan) stand.slots stand.pairs fits.slots fits.pairs fits.each_slot fits.each_pair)
 
 -- the parts of the header, and what is behind each
 record InParts (plan : Plan) (stand : Stand) (bytes : List ℕ) : Type 0 where
@@ -147,20 +141,17 @@ joined : (a p b q c r d s e t f m1 m2 m3 m4 m5 : List ℕ) → a ≡ p ++ m1 →
     → p ≡ b → q ≡ c → r ≡ d → s ≡ e → t ≡ f → a ≡ b ++ (c ++ (d ++ (e ++ (f ++ m5))))
 joined a p b q c r d s e t f m1 m2 m3 m4 m5 e1 e2 e3 e4 e5 i1 i2 i3 i4 i5 = cc
 
-front : (m d e z t b rest : List ℕ) → m ++ (d ++ (e ++ (z ++ (t ++ (b ++ rest))))) ≡ ((m ++ (d ++ (e ++ (z ++ t)))) ++ b) ++ rest
-front m d e z t b rest = simp append_assoc
-
 pub number-back : (n place : ℕ) (bytes : List ℕ) → IsBytes bytes → place + 4 ≤ length bytes → number_at 4 place bytes ≡ n → piece place 4 bytes ≡ big_bytes 4 n
 number-back n place bytes are long is =
     sym (word-back (drop place bytes) (bytes-drop place bytes are) (omega (arith, length-drop place bytes))) ∙ ap (big_bytes 4) is
 
 level-sealed : (plan : Plan) (bytes : List ℕ) (epoch : ℕ) (slots : List Duo) (pairs : List PairWheels) (h : List ℕ) → 32 ≤ length bytes
     → bytes ≡ level_kind ++ (sha256 (canonical plan) ++ (big_bytes 8 epoch ++ (big_bytes 4 plan.size ++ (big_bytes 4 (slots_of plan) ++ (packed_contents slots pairs ++ h)))))
-    → length h ≡ 32 → digest_of bytes ≡ sha256 (body_of bytes) → bytes ≡ sealed (header plan epoch ++ packed_contents slots pairs)
-unfolding header
+    → length h ≡ 32 → digest_of bytes ≡ sha256 (body_of bytes) → bytes ≡ sealed (packed_bank plan (Level epoch) slots pairs)
+unfolding header shape
 level-sealed plan bytes epoch slots pairs h long whole sized digest =
-    let body = (level_kind ++ (sha256 (canonical plan) ++ (big_bytes 8 epoch ++ (big_bytes 4 plan.size ++ big_bytes 4 (slots_of plan))))) ++ packed_contents slots pairs in
-    let grouped : bytes ≡ body ++ h = whole ∙ front level_kind (sha256 (canonical plan)) (big_bytes 8 epoch) (big_bytes 4 plan.size) (big_bytes 4 (slots_of plan)) (packed_contents slots pairs) h in
+    let body = (level_kind ++ (sha256 (canonical plan) ++ (big_bytes 8 epoch ++ (big_bytes 4 plan.size ++ big_bytes 4 (slots_of plan))))) ++ (packed_contents slots pairs ++ []) in
+    let grouped : bytes ≡ body ++ h = whole ∙ sym (regroup level_kind (sha256 (canonical plan)) (big_bytes 8 epoch) (big_bytes 4 plan.size) (big_bytes 4 (slots_of plan)) (packed_contents slots pairs) h) in
     sealed-back bytes body long digest (ap body_of grouped ∙ (tail-at body h sized).1)
 
 pub stand-back : (plan : Plan) (bytes : List ℕ) → IsBytes bytes → HasForm plan bytes → bytes ≡ sealed (packed_body plan (stand_in plan bytes))

@@ -9,10 +9,10 @@ pub mod ReadAgain
 pub mod WrittenAgain
 pub mod Tested
 pub mod Forms
+pub mod UnevenParts
 pub mod LevelForm
 pub mod LevelClauses
 pub mod UnevenPlaces
-pub mod UnevenParts
 pub mod UnevenForm
 pub mod UnevenClauses
 pub mod BankSteps

@@ -11,12 +11,12 @@ use Rattle.scalar_rule.specs.declared.sample.Sample.{Sample}
 use Rattle.plane_sweep.specs.Uneven.{uneven_part}
 use Rattle.plane_sweep.specs.declared.uneven.RaggedStand.{RaggedStand}
 use Rattle.run_checkpoint.specs.BankEncoding.{banks_header, banks_bytes, banks_encoding, AreBanks}
-use Rattle.run_checkpoint.specs.Encoding.{encoding, sealed, AreBankStates}
+use Rattle.run_checkpoint.specs.Encoding.{encoding, AreBankStates, uneven_encoding, AreUnevenStates}
+use Rattle.run_checkpoint.specs.Kinds.{sealed}
 use Rattle.run_checkpoint.specs.Laws.{AreSameBanks}
 use Rattle.run_checkpoint.specs.Lengths.{encoding_len}
 use Rattle.run_checkpoint.specs.Reading.{body_of}
 use Rattle.run_checkpoint.specs.UnevenDecoding.{uneven_in}
-use Rattle.run_checkpoint.specs.UnevenEncoding.{uneven_encoding, AreUnevenStates}
 use Rattle.run_checkpoint.proofs.Forms.{tail-at, length-sealed}
 use Rattle.run_checkpoint.proofs.LevelClauses.{one-encoding, states-packed}
 use Rattle.run_checkpoint.proofs.LevelForm.{packed_body, length-packed}

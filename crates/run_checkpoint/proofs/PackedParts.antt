@@ -12,6 +12,7 @@ use Rattle.spin_model.specs.Words.{is_set, words_32, words_64}
 use Rattle.spin_model.specs.Lattice.{IsLawfulSize, volume, half_plane, z_of, place_in_plane}
 use Rattle.spin_model.specs.Steps.{table}
 use Rattle.spin_model.proofs.Tables.{get_or-table, table-of_items, table-same}
+use Rattle.scalar_rule.specs.Plan.{Plan, slots_of, pairs_of, IsLawfulPlan}
 use Rattle.scalar_rule.specs.Epoch.{slot_at, pair_at}
 use Rattle.scalar_rule.specs.Neighbours.{spin}
 use Rattle.scalar_rule.specs.declared.plain_copy.PlainCopy.{PlainCopy}
@@ -27,7 +28,7 @@ use Rattle.plane_sweep.specs.declared.stand.PairWheels.{PairWheels}
 use Rattle.plane_sweep.proofs.Empties.{no_plane, no_duo, no_wheels}
 use Rattle.plane_sweep.proofs.PlaneNeighbours.{site_of-at}
 use Rattle.plane_sweep.proofs.PlaneSites.{site_of-below}
-use Rattle.run_checkpoint.specs.Encoding.{spin_word, plane_bytes, replica_bytes, slot_bytes, pair_bytes, contents}
+use Rattle.run_checkpoint.specs.Kinds.{spin_word, plane_bytes, replica_bytes, slot_bytes, pair_bytes, contents, sealed, Standing, kept, PlainBank, header, bank_encoding}
 use Rattle.run_checkpoint.specs.PackedBytes.{packed_plane, packed_replica, packed_slot, packed_pair, packed_contents}
 use Rattle.glass_edges.proofs.NumberBytes.{join}
 
@@ -143,3 +144,22 @@ contents-packed l n slots pairs lawful sized paired fit =
     ∙ slot-packed l (get_or slots t no_duo) lawful (fit t no_duo (omega (arith, sized)))))
     (flat-items _ packed_pair pairs (n - 1) no_wheels paired (λ k below.
     ap pair_bytes (get_or-map part_pair pairs k no_wheels _ (omega (arith, paired))) ∙ pair-packed (get_or pairs k no_wheels)))
+
+-- ---- a bank
+
+-- all but the digest
+abbrev pub packed_bank : Plan → Standing → List Duo → List PairWheels → List ℕ
+packed_bank plan standing slots pairs = header plan standing ++ (packed_contents slots pairs ++ kept standing)
+
+pub bank-packed : (plan : Plan) (standing : Standing) (slots : List Duo) (pairs : List PairWheels) → IsLawfulPlan plan → length slots ≡ slots_of plan → length pairs ≡ pairs_of plan → All (FitsDuo plan.size) slots
+    → (let bank : PlainBank = record { standing = standing; slots = λ b. map (part_slot plan.size b) slots; pairs = map part_pair pairs } in bank_encoding plan bank ≡ sealed (packed_bank plan standing slots pairs))
+unfolding bank_encoding
+bank-packed plan standing slots pairs lawful sized paired fit =
+    ap (λ x. sealed (header plan standing ++ (x ++ kept standing))) (contents-packed plan.size (slots_of plan) slots pairs lawful.size sized paired fit)
+
+-- banks that agree in the 64 samples have one encoding
+pub bank-same : (plan : Plan) (s t : PlainBank) → s.standing ≡ t.standing → ((b : ℕ) → b < 64 → s.slots b ≡ t.slots b) → s.pairs ≡ t.pairs → bank_encoding plan s ≡ bank_encoding plan t
+unfolding bank_encoding
+bank-same plan s t standing slots pairs =
+    ap (λ k. sealed (header plan k ++ (contents plan.size (slots_of plan) s.slots s.pairs ++ kept k))) standing
+    ∙ ap (λ x. sealed (header plan t.standing ++ (x ++ kept t.standing))) (contents-same plan.size (slots_of plan) s.slots t.slots s.pairs t.pairs slots pairs)

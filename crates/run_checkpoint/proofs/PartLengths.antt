@@ -1,22 +1,18 @@
 -- How many bytes the packed parts take.
-use Rattle.std.proofs.Common.{◌≡◌, ℕ, ◌+◌, ◌-◌, ◌*◌, ◌≤◌, List, [], ◌∷◌, ◌++◌, All, length, sym, ap, ◌∙◌, arith, length-append}
+use Rattle.std.proofs.Common.{◌≡◌, ℕ, ◌-◌, ◌*◌, ◌≤◌, List, [], ◌∷◌, All, length, sym, ap, ◌∙◌, arith, length-append}
 use Rattle.std.specs.List.{flat_map}
 use Rattle.std.proofs.lemmas.List.Concat.{flat_map-cons}
 use Rattle.std.proofs.lemmas.List.Elements.{All-head, All-tail}
-use Rattle.sha2.proofs.Facts256.{length-sha256}
 use Rattle.byteorder.specs.Endian.{big_bytes}
 use native.Mathlib.Nat.{mul-suc, mul-zero}
-use Rattle.scalar_rule.specs.Plan.{Plan, slots_of}
-use Rattle.run_plan.specs.CanonicalPlan.{canonical}
 use Rattle.plane_sweep.specs.Packed.{FitsPlane, FitsReplica, FitsDuo, ArePairGenerators}
 use Rattle.plane_sweep.specs.declared.replica.Plane.{Plane}
 use Rattle.plane_sweep.specs.declared.replica.Replica.{Replica}
 use Rattle.plane_sweep.specs.declared.replica.Duo.{Duo}
 use Rattle.plane_sweep.specs.declared.stand.PairWheels.{PairWheels}
-use Rattle.run_checkpoint.specs.Encoding.{header, level_kind}
 use Rattle.run_checkpoint.specs.Lengths.{plane_len, replica_len, slot_len, contents_len}
 use Rattle.run_checkpoint.specs.PackedBytes.{packed_plane, packed_replica, packed_slot, packed_pair, packed_contents, IsShort, HasShortPlanes}
-use Rattle.spin_model.proofs.WordBytes.{length-big_bytes, length-words}
+use Rattle.spin_model.proofs.WordBytes.{length-words}
 use Rattle.plane_sweep.proofs.SixWords.{half_plane-few}
 
 -- so many items of one length
@@ -64,15 +60,6 @@ unfolding packed_contents contents_len
 length-contents l n slots pairs sized paired fit lead =
     length-append (flat_map packed_slot slots) (flat_map packed_pair pairs)
     ∙ omega (arith, length-slots l slots fit, length-pairs pairs lead, ap (λ k. slot_len l * k) sized, paired)
-
-five-long : (a b c d e : List ℕ) → length (a ++ (b ++ (c ++ (d ++ e)))) ≡ length a + (length b + (length c + (length d + length e)))
-five-long a b c d e = simp length-append
-
-pub length-header : (plan : Plan) (epoch : ℕ) → length (header plan epoch) ≡ 56
-unfolding header
-length-header plan epoch =
-    five-long level_kind _ (big_bytes 8 epoch) (big_bytes 4 plan.size) (big_bytes 4 (slots_of plan))
-    ∙ omega (arith, length-sha256 (canonical plan), length-big_bytes 8 epoch, length-big_bytes 4 plan.size, length-big_bytes 4 (slots_of plan))
 
 -- ---- planes are short
 

@@ -4,7 +4,7 @@ use Rattle.std.specs.List.{flat_map}
 use Rattle.std.proofs.lemmas.List.{append-nil, drop_at, take_more, take_all, flat_map_more}
 use Rattle.std.proofs.lemmas.List.Folds.{length-flat_map-take}
 use Rattle.sha2.specs.Sha256.{sha256}
-use Rattle.run_checkpoint.specs.Encoding.{sealed}
+use Rattle.run_checkpoint.specs.Kinds.{sealed}
 use Rattle.run_checkpoint.specs.Rooms.{RoomView, Puts}
 
 -- ---- two pieces

@@ -1,7 +1,6 @@
 -- The clauses of the reader of checkpoints of either kind.
-use Rattle.std.proofs.Common.{◌≡◌, ◌⊎◌, ℕ, ◌*◌, ◌<◌, ◌≤◌, ◌^◌, Bool, true, false, ◌&&◌, cond, List, [], ◌++◌, length, map, take, drop, Some, None, Result, Ok, Err, refl, sym, ap, subst, ◌∙◌, arith, inl, inr}
+use Rattle.std.proofs.Common.{◌≡◌, ◌⊎◌, ℕ, ◌*◌, ◌<◌, ◌≤◌, ◌^◌, Bool, true, false, ◌&&◌, cond, List, [], length, map, take, drop, Some, None, Result, Ok, Err, refl, sym, ap, subst, ◌∙◌, arith, inl, inr}
 use Rattle.std.specs.Prelude.{IfOk, IfErr, ◌==◌}
-use Rattle.std.specs.List.{flat_map}
 use Rattle.std.specs.Str.{bytes_eq}
 use Rattle.std.proofs.lemmas.Bool.{eqb-true, and_parts, eq-eqb}
 use Rattle.std.proofs.lemmas.List.{length-drop, length-map}
@@ -22,18 +21,18 @@ use Rattle.plane_sweep.specs.declared.uneven.Place.{Place}
 use Rattle.plane_sweep.specs.declared.uneven.RaggedStand.{RaggedStand}
 use Rattle.plane_sweep.proofs.LevelStands.{level-part, level-fits}
 use Rattle.run_checkpoint.specs.Decoding.{level_refusal}
-use Rattle.run_checkpoint.specs.Encoding.{level_kind, contents, sealed, encoding, AreBankStates}
+use Rattle.run_checkpoint.specs.Encoding.{encoding, AreBankStates, uneven_bank, uneven_encoding, AreUnevenStates}
+use Rattle.run_checkpoint.specs.Kinds.{Uneven, level_kind, uneven_kind, sealed}
 use Rattle.run_checkpoint.specs.Lengths.{slot_len}
 use Rattle.run_checkpoint.specs.Reading.{number_at, parts_in, stand_in}
 use Rattle.run_checkpoint.specs.Tests.{short, wrong_label}
 use Rattle.run_checkpoint.specs.UnevenDecoding.{epoch_in, phase_in, places_in, count_in, slots_place, records_place, uneven_in, is_wrong_place, wrong_place_at, wrong_place, HasRightPlaces, other_orders, other_count, uneven_form, uneven_refusal, is_uneven, any_refusal, any_in, any_decoded, IsUnevenEncoded, IsAnyEncoded}
-use Rattle.run_checkpoint.specs.UnevenEncoding.{uneven_kind, uneven_header, uneven_encoding, position_bytes, record_bytes, AreUnevenStates}
 use Rattle.run_checkpoint.specs.declared.refused.CheckpointRefused.{CheckpointRefused}
 use Rattle.run_checkpoint.specs.declared.refused.CheckpointRefused.TheVariants as refused
+use Rattle.run_checkpoint.proofs.PackedParts.{bank-same}
 use Rattle.run_checkpoint.proofs.LabelTests.{right-labels, labels-right}
 use Rattle.run_checkpoint.proofs.LevelClauses.{none-is, packed-none, level-tells, states-packed, states-epoch, slots-first}
 use Rattle.run_checkpoint.proofs.LevelForm.{packed_body, stand-again, form-again as level_form-again, form-long}
-use Rattle.run_checkpoint.proofs.PackedParts.{contents-same}
 use Rattle.run_checkpoint.proofs.Tested.{Tells, tells-or, tells-if, tells-first, tells-label, tells-late, tells-short, late-is, in-time, long-enough, memory-or}
 use Rattle.run_checkpoint.proofs.UnevenForm.{HasUnevenForm, uneven-long, form-is, form-right, form-tells, uneven_body, uneven-packed, count-again, uneven_form-again, orders-again, uneven-again, uneven-back, phases-again}
 use Rattle.run_checkpoint.proofs.UnevenParts.{records-count, records-fit}
@@ -278,14 +277,11 @@ any-level plan samples every until bytes r states lawful are le is given =
     (subst (GivesAfterTests refused.NoMemory (λ s. s) r) read given)
 
 uneven-same : (plan : Plan) (samples every : ℕ) (s t : ℕ → UnevenState) (pending : List Record) → ((b : ℕ) → b < 64 → s b ≡ t b) → uneven_encoding plan samples every s pending ≡ uneven_encoding plan samples every t pending
-unfolding uneven_encoding
+unfolding uneven_bank
 uneven-same plan samples every s t pending same =
     let first : s 0 ≡ t 0 = same 0 (omega arith) in
-    let parts = contents-same plan.size (slots_of plan) (λ b. (s b).slots) (λ b. (t b).slots) (s 0).pairs (t 0).pairs (λ b small. ap (λ (x : UnevenState). x.slots) (same b small)) (ap (λ (x : UnevenState). x.pairs) first) in
-    let head = uneven_header plan samples every (length pending) in
-    let tail = flat_map record_bytes pending in
-    ap (λ ps. sealed (head ++ (flat_map position_bytes ps ++ (contents plan.size (slots_of plan) (λ b. (s b).slots) (s 0).pairs ++ tail)))) (ap (λ (x : UnevenState). x.positions) first)
-    ∙ ap (λ x. sealed (head ++ (flat_map position_bytes (t 0).positions ++ (x ++ tail)))) parts
+    bank-same plan (uneven_bank samples every s pending) (uneven_bank samples every t pending)
+    (ap (λ (x : UnevenState). Uneven samples every x.positions pending) first) (λ b small. ap (λ (x : UnevenState). x.slots) (same b small)) (ap (λ (x : UnevenState). x.pairs) first)
 
 pub uneven_states-packed : (plan : Plan) (samples every : ℕ) (states : ℕ → UnevenState) (pending : List Record) (are : AreUnevenStates plan samples every states pending) → IsLawfulPlan plan
     → uneven_encoding plan samples every states pending ≡ sealed (uneven_body plan samples every are.stand)

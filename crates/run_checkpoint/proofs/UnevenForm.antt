@@ -2,7 +2,7 @@
 use Rattle.std.proofs.Common.{◌≡◌, ◌⊎◌, ℕ, ◌+◌, ◌*◌, ◌<◌, ◌≤◌, ◌^◌, false, List, ◌++◌, map, length, take, drop, get_or, replicate, None, refl, sym, ap, subst, ◌∙◌, arith, append_assoc}
 use Rattle.std.specs.List.{flat_map}
 use Rattle.std.proofs.Math.Nat.{mul-le-mul_right}
-use Rattle.std.proofs.lemmas.List.{get_or-replicate, get_or_read, get_or-map, length-append, length-map, length-replicate, length-drop, take-append-drop}
+use Rattle.std.proofs.lemmas.List.{get_or-replicate, get_or-map, length-append, length-map, length-drop, take-append-drop}
 use Rattle.sha2.specs.Sha256.{sha256}
 use Rattle.sha2.proofs.Facts256.{length-sha256}
 use Rattle.byteorder.specs.Endian.{big_bytes, big_number}
@@ -15,42 +15,32 @@ use Rattle.scalar_rule.proofs.InStep.{pending-few}
 use Rattle.run_plan.specs.CanonicalPlan.{canonical}
 use Rattle.plane_sweep.specs.Packed.{StandFits}
 use Rattle.plane_sweep.specs.Uneven.{place_at, position_of, positions_of, uneven_part, level_stand, RaggedStandFits}
+use Rattle.plane_sweep.proofs.LevelStands.{level-fits}
 use Rattle.plane_sweep.specs.declared.replica.Duo.{Duo}
 use Rattle.plane_sweep.specs.declared.stand.PairWheels.{PairWheels}
 use Rattle.plane_sweep.specs.declared.stand.Stand.{Stand}
 use Rattle.plane_sweep.specs.declared.uneven.Place.{Place}
 use Rattle.plane_sweep.specs.declared.uneven.RaggedStand.{RaggedStand}
-use Rattle.run_checkpoint.specs.Encoding.{flattened, sealed}
-use Rattle.run_checkpoint.specs.Lengths.{contents_len, uneven_len}
+use Rattle.run_checkpoint.specs.Encoding.{flattened, uneven_bank, uneven_encoding, standing_of, bank_of, FitsKind}
+use Rattle.run_checkpoint.specs.Kinds.{Uneven, uneven_kind, header, kept, shape, sealed, position_bytes, record_bytes, bank_encoding}
+use Rattle.run_checkpoint.specs.Lengths.{slot_len, replica_len, contents_len, encoding_len, uneven_len, standing_len}
 use Rattle.run_checkpoint.specs.PackedBytes.{packed_contents}
 use Rattle.run_checkpoint.specs.Reading.{piece, number_at, body_of, digest_of, slots_in, pairs_in}
 use Rattle.run_checkpoint.specs.Tests.{short, other_kind, other_shape, other_length, damaged, other_plan}
 use Rattle.run_checkpoint.specs.UnevenDecoding.{places_in, records_in, count_in, phase_in, slots_place, records_place, uneven_in, uneven_form}
-use Rattle.run_checkpoint.specs.UnevenEncoding.{uneven_kind, uneven_header, uneven_encoding, position_bytes, record_bytes}
+use Rattle.run_checkpoint.specs.declared.kinds.Kind.{Kind}
+use Rattle.run_checkpoint.specs.declared.kinds.Kind.TheVariants as kinds
+use Rattle.run_checkpoint.proofs.PackedParts.{packed_bank, bank-packed}
 use Rattle.run_checkpoint.proofs.Forms.{next-part, cut, tail-at, sealed-digest, sealed-back, length-sealed}
-use Rattle.run_checkpoint.proofs.PackedParts.{contents-packed}
 use Rattle.run_checkpoint.proofs.PartLengths.{length-contents}
 use Rattle.run_checkpoint.proofs.ReadAgain.{slots-again, pairs-again}
 use Rattle.run_checkpoint.proofs.Tested.{Tells, tells-or, tells-short, tells-kind, tells-shape, tells-length, tells-digest, tells-plan, long-enough, kind-right, kind-is, shape-right, shape-is, length-right, length-is, digest-right, digest-is, plan-right, plan-is}
-use Rattle.run_checkpoint.proofs.UnevenParts.{phase-stored, length-positions, length-records, places-again, records-again, places-back, records-back}
+use Rattle.run_checkpoint.proofs.UnevenParts.{phase-stored, length-positions, length-records, places-again, records-again, places-back, records-back, AreSized, length-bank}
 use Rattle.run_checkpoint.proofs.WrittenAgain.{contents-back}
 use Rattle.glass_edges.proofs.FirstRefusals.{or-later, or-none}
 use Rattle.glass_edges.proofs.NumberBytes.{IsBytes, bytes-drop, long_word-back}
-use Rattle.run_checkpoint.proofs.LevelForm.{number-back}
+use Rattle.run_checkpoint.proofs.LevelForm.{number-back, encoding-packed}
 use Rattle.spin_model.proofs.WordBytes.{length-big_bytes}
-
--- ---- a state at one epoch
-
-pub level-some : (plan : Plan) (ragged : RaggedStand) → IsLawfulPlan plan → ragged ≡ level_stand (flattened ragged) → StandFits plan (flattened ragged) → 0 < length ragged.places
-level-some plan ragged lawful level fits =
-    let one : Place = record { epoch = (place_at ragged.places 0).epoch; arrived = false } in
-    let sized : length ragged.places ≡ length ragged.slots = ap (λ (r : RaggedStand). length r.places) level ∙ length-replicate (length ragged.slots) one in
-    omega (arith, sized, fits.slots, lawful.rules.some)
-
--- the epoch that was read at slot 0
-pub level-epoch : (plan : Plan) (ragged : RaggedStand) (place : Place) → IsLawfulPlan plan → ragged ≡ level_stand (flattened ragged) → StandFits plan (flattened ragged) → place ≡ get_or ragged.places 0 place
-    → place.epoch ≡ (place_at ragged.places 0).epoch
-level-epoch plan ragged place lawful level fits read = ap (λ (p : Place). p.epoch) (get_or_read ragged.places 0 place (level-some plan ragged lawful level fits) read _)
 
 -- ---- the tests of the form
 
@@ -95,42 +85,19 @@ form-tells plan bytes =
 -- ---- the encoding by the packed state
 
 abbrev pub uneven_body : Plan → ℕ → ℕ → RaggedStand → List ℕ
-uneven_body plan samples every stand =
-    uneven_header plan samples every (length stand.pending)
-    ++ (flat_map position_bytes (positions_of stand) ++ (packed_contents stand.slots stand.pairs ++ flat_map record_bytes stand.pending))
+uneven_body plan samples every stand = packed_bank plan (Uneven samples every (positions_of stand) stand.pending) stand.slots stand.pairs
 
 pub uneven-packed : (plan : Plan) (samples every : ℕ) (stand : RaggedStand) → IsLawfulPlan plan → RaggedStandFits plan samples every stand
     → uneven_encoding plan samples every (λ b. uneven_part plan.size b stand) stand.pending ≡ sealed (uneven_body plan samples every stand)
-unfolding uneven_encoding
+unfolding uneven_bank
 uneven-packed plan samples every stand lawful fits =
-    ap (λ x. sealed (uneven_header plan samples every (length stand.pending) ++ (flat_map position_bytes (positions_of stand) ++ (x ++ flat_map record_bytes stand.pending))))
-    (contents-packed plan.size (slots_of plan) stand.slots stand.pairs lawful.size fits.slots fits.pairs fits.each_slot)
-
-seven-long : (a b c d e f g : List ℕ) → length (a ++ (b ++ (c ++ (d ++ (e ++ (f ++ g)))))) ≡ length a + (length b + (length c + (length d + (length e + (length f + length g)))))
-seven-long a b c d e f g = simp length-append
-
-pub length-uneven_header : (plan : Plan) (samples every count : ℕ) → length (uneven_header plan samples every count) ≡ 64
-unfolding uneven_header
-length-uneven_header plan samples every count =
-    seven-long uneven_kind _ (big_bytes 4 plan.size) (big_bytes 4 (slots_of plan)) (big_bytes 4 samples) (big_bytes 8 every) (big_bytes 4 count)
-    ∙ omega (arith, length-sha256 (canonical plan), length-big_bytes 4 plan.size, length-big_bytes 4 (slots_of plan), length-big_bytes 4 samples, length-big_bytes 8 every, length-big_bytes 4 count)
-
-four-long : (a b c d : List ℕ) → length (a ++ (b ++ (c ++ d))) ≡ length a + (length b + (length c + length d))
-four-long a b c d = simp length-append
+    bank-packed plan (Uneven samples every (positions_of stand) stand.pending) stand.slots stand.pairs lawful fits.slots fits.pairs fits.each_slot
 
 pub length-uneven : (plan : Plan) (samples every : ℕ) (stand : RaggedStand) → RaggedStandFits plan samples every stand
     → length (uneven_body plan samples every stand) + 32 ≡ uneven_len plan.size (slots_of plan) (length stand.pending)
 length-uneven plan samples every stand fits =
-    omega (
-      arith,
-      four-long (uneven_header plan samples every (length stand.pending)) (flat_map position_bytes (positions_of stand)) (packed_contents stand.slots stand.pairs) (flat_map record_bytes stand.pending),
-      length-uneven_header plan samples every (length stand.pending),
-      length-positions stand.places,
-      fits.places,
-      length-contents plan.size (slots_of plan) stand.slots stand.pairs fits.slots fits.pairs fits.each_slot fits.each_pair,
-      length-records stand.pending,
-      uneven-long plan.size (slots_of plan) (length stand.pending),
-    )
+    length-bank plan (Uneven samples every (positions_of stand) stand.pending) stand.slots stand.pairs (length-map stand.places position_of ∙ fits.places)
+    (length-contents plan.size (slots_of plan) stand.slots stand.pairs fits.slots fits.pairs fits.each_slot fits.each_pair)
 
 pub few-records : (plan : Plan) (samples every : ℕ) (stand : RaggedStand) → IsLawfulPlan plan → RaggedStandFits plan samples every stand → length stand.pending ≤ 65536
 few-records plan samples every stand lawful fits =
@@ -143,13 +110,13 @@ few-records plan samples every stand lawful fits =
 
 -- ---- what is encoded is read
 
-regroup : (m d z t s v c p b r h : List ℕ) → ((m ++ (d ++ (z ++ (t ++ (s ++ (v ++ c)))))) ++ (p ++ (b ++ r))) ++ h ≡ m ++ (d ++ (z ++ (t ++ (s ++ (v ++ (c ++ (p ++ (b ++ (r ++ h)))))))))
+regroup : (m d z t s v c p b r h : List ℕ) → ((m ++ (d ++ ((z ++ t) ++ (s ++ (v ++ (c ++ p)))))) ++ (b ++ r)) ++ h ≡ m ++ (d ++ (z ++ (t ++ (s ++ (v ++ (c ++ (p ++ (b ++ (r ++ h)))))))))
 regroup m d z t s v c p b r h = simp append_assoc
 
 flat : (plan : Plan) (samples every : ℕ) (stand : RaggedStand) → sealed (uneven_body plan samples every stand)
     ≡ uneven_kind ++ (sha256 (canonical plan) ++ (big_bytes 4 plan.size ++ (big_bytes 4 (slots_of plan) ++ (big_bytes 4 samples ++ (big_bytes 8 every ++ (big_bytes 4 (length stand.pending)
     ++ (flat_map position_bytes (positions_of stand) ++ (packed_contents stand.slots stand.pairs ++ (flat_map record_bytes stand.pending ++ sha256 (uneven_body plan samples every stand))))))))))
-unfolding sealed uneven_header
+unfolding sealed header shape
 flat plan samples every stand =
     regroup uneven_kind (sha256 (canonical plan)) (big_bytes 4 plan.size) (big_bytes 4 (slots_of plan)) (big_bytes 4 samples) (big_bytes 8 every) (big_bytes 4 (length stand.pending))
     (flat_map position_bytes (positions_of stand)) (packed_contents stand.slots stand.pairs) (flat_map record_bytes stand.pending) (sha256 (uneven_body plan samples every stand))
@@ -241,13 +208,16 @@ joined a p b q c r d s e t f u g v h m1 m2 m3 m4 m5 m6 m7 e1 e2 e3 e4 e5 e6 e7 i
 three : (a p b q c r d m1 m2 m3 : List ℕ) → a ≡ p ++ m1 → m1 ≡ q ++ m2 → m2 ≡ r ++ m3 → p ≡ b → q ≡ c → r ≡ d → a ≡ b ++ (c ++ (d ++ m3))
 three a p b q c r d m1 m2 m3 e1 e2 e3 i1 i2 i3 = cc
 
-uneven-sealed : (plan : Plan) (samples every count : ℕ) (bytes p b r h : List ℕ) → 32 ≤ length bytes
-    → bytes ≡ uneven_kind ++ (sha256 (canonical plan) ++ (big_bytes 4 plan.size ++ (big_bytes 4 (slots_of plan) ++ (big_bytes 4 samples ++ (big_bytes 8 every ++ (big_bytes 4 count ++ (p ++ (b ++ (r ++ h)))))))))
-    → length h ≡ 32 → digest_of bytes ≡ sha256 (body_of bytes) → bytes ≡ sealed (uneven_header plan samples every count ++ (p ++ (b ++ r)))
-unfolding uneven_header
-uneven-sealed plan samples every count bytes p b r h long whole sized digest =
-    let body = (uneven_kind ++ (sha256 (canonical plan) ++ (big_bytes 4 plan.size ++ (big_bytes 4 (slots_of plan) ++ (big_bytes 4 samples ++ (big_bytes 8 every ++ big_bytes 4 count)))))) ++ (p ++ (b ++ r)) in
-    let grouped : bytes ≡ body ++ h = whole ∙ sym (regroup uneven_kind (sha256 (canonical plan)) (big_bytes 4 plan.size) (big_bytes 4 (slots_of plan)) (big_bytes 4 samples) (big_bytes 8 every) (big_bytes 4 count) p b r h) in
+uneven-sealed : (plan : Plan) (samples every : ℕ) (ps : List Position) (rs : List Record) (slots : List Duo) (pairs : List PairWheels) (bytes h : List ℕ) → 32 ≤ length bytes
+    → bytes ≡ uneven_kind ++ (sha256 (canonical plan) ++ (big_bytes 4 plan.size ++ (big_bytes 4 (slots_of plan) ++ (big_bytes 4 samples ++ (big_bytes 8 every ++ (big_bytes 4 (length rs)
+    ++ (flat_map position_bytes ps ++ (packed_contents slots pairs ++ (flat_map record_bytes rs ++ h)))))))))
+    → length h ≡ 32 → digest_of bytes ≡ sha256 (body_of bytes) → bytes ≡ sealed (packed_bank plan (Uneven samples every ps rs) slots pairs)
+unfolding header shape
+uneven-sealed plan samples every ps rs slots pairs bytes h long whole sized digest =
+    let body = packed_bank plan (Uneven samples every ps rs) slots pairs in
+    let grouped : bytes ≡ body ++ h =
+    whole ∙ sym (regroup uneven_kind (sha256 (canonical plan)) (big_bytes 4 plan.size) (big_bytes 4 (slots_of plan)) (big_bytes 4 samples) (big_bytes 8 every) (big_bytes 4 (length rs))
+    (flat_map position_bytes ps) (packed_contents slots pairs) (flat_map record_bytes rs) h) in
     sealed-back bytes body long digest (ap body_of grouped ∙ (tail-at body h sized).1)
 
 pub uneven-back : (plan : Plan) (samples every : ℕ) (bytes : List ℕ) → IsBytes bytes → HasUnevenForm plan bytes
@@ -264,12 +234,16 @@ uneven-back plan samples every bytes are has phases printed recorded counted =
     let slots = contents-back plan.size n (drop (64 + 9 * n) bytes) (at (64 + 9 * n)) (omega (arith, long, length-drop (64 + 9 * n) bytes)) in
     let records = records-back count (drop (64 + 9 * n + c) bytes) (at (64 + 9 * n + c)) (omega (arith, long, length-drop (64 + 9 * n + c) bytes)) in
     let last = 64 + 9 * n + c + 14 * count in
-    let p = flat_map position_bytes (map position_of (places_in n (drop 64 bytes))) in
-    let b = packed_contents (slots_in plan.size n (drop (64 + 9 * n) bytes)) (pairs_in plan.size n (drop (64 + 9 * n) bytes)) in
-    let r = flat_map record_bytes (records_in count (drop (64 + 9 * n + c) bytes)) in
+    let s = slots_in plan.size n (drop (64 + 9 * n) bytes) in
+    let q = pairs_in plan.size n (drop (64 + 9 * n) bytes) in
+    let ps = map position_of (places_in n (drop 64 bytes)) in
+    let rs = records_in count (drop (64 + 9 * n + c) bytes) in
+    let p = flat_map position_bytes ps in
+    let b = packed_contents s q in
+    let r = flat_map record_bytes rs in
     let every_back : piece 52 8 bytes ≡ big_bytes 8 every = sym (long_word-back (drop 52 bytes) (at 52) (omega (arith, long, length-drop 52 bytes))) ∙ ap (big_bytes 8) recorded in
     let front = joined bytes (take 8 bytes) uneven_kind (piece 8 32 bytes) (sha256 (canonical plan)) (piece 40 4 bytes) (big_bytes 4 plan.size) (piece 44 4 bytes) (big_bytes 4 n)
-    (piece 48 4 bytes) (big_bytes 4 samples) (piece 52 8 bytes) (big_bytes 8 every) (piece 60 4 bytes) (big_bytes 4 count)
+    (piece 48 4 bytes) (big_bytes 4 samples) (piece 52 8 bytes) (big_bytes 8 every) (piece 60 4 bytes) (big_bytes 4 (length rs))
     (drop 8 bytes) (drop 40 bytes) (drop 44 bytes) (drop 48 bytes) (drop 52 bytes) (drop 60 bytes) (drop 64 bytes)
     (sym (take-append-drop 8 bytes)) (cut bytes 8 32) (cut bytes 40 4) (cut bytes 44 4) (cut bytes 48 4) (cut bytes 52 8) (cut bytes 60 4)
     has.kind has.own_plan
@@ -277,19 +251,12 @@ uneven-back plan samples every bytes are has phases printed recorded counted =
     (number-back n 44 bytes are (omega (arith, long)) has.slots)
     (number-back samples 48 bytes are (omega (arith, long)) printed)
     every_back
-    (number-back count 60 bytes are (omega (arith, long)) refl) in
+    (number-back (length rs) 60 bytes are (omega (arith, long)) (sym counted)) in
     let back = three (drop 64 bytes) (piece 64 (9 * n) bytes) p (piece (64 + 9 * n) c bytes) b (piece (64 + 9 * n + c) (14 * count) bytes) r
     (drop (64 + 9 * n) bytes) (drop (64 + 9 * n + c) bytes) (drop last bytes)
     (cut bytes 64 (9 * n)) (cut bytes (64 + 9 * n) c) (cut bytes (64 + 9 * n + c) (14 * count)) (sym places) (sym slots) (sym records) in
-    let whole = front ∙ ap (λ x. uneven_kind ++ (sha256 (canonical plan) ++ (big_bytes 4 plan.size ++ (big_bytes 4 n ++ (big_bytes 4 samples ++ (big_bytes 8 every ++ (big_bytes 4 count ++ x))))))) back in
-    uneven-sealed plan samples every count bytes p b r (drop last bytes) (omega (arith, long)) whole (omega (arith, long, length-drop last bytes)) has.digest
-    ∙ ap (λ k. sealed (uneven_header plan samples every k ++ (p ++ (b ++ r)))) (sym counted)
-
--- the length by the parts of the body
-pub uneven-lengths : (plan : Plan) (samples every : ℕ) (stand : RaggedStand) → RaggedStandFits plan samples every stand
-    → uneven_len plan.size (slots_of plan) (length stand.pending) ≡ 96 + 9 * slots_of plan + length (packed_contents stand.slots stand.pairs) + 14 * length stand.pending
-uneven-lengths plan samples every stand fits =
-    omega (arith, uneven-long plan.size (slots_of plan) (length stand.pending), length-contents plan.size (slots_of plan) stand.slots stand.pairs fits.slots fits.pairs fits.each_slot fits.each_pair)
+    let whole = front ∙ ap (λ x. uneven_kind ++ (sha256 (canonical plan) ++ (big_bytes 4 plan.size ++ (big_bytes 4 n ++ (big_bytes 4 samples ++ (big_bytes 8 every ++ (big_bytes 4 (length rs) ++ x))))))) back in
+    uneven-sealed plan samples every ps rs s q bytes (drop last bytes) (omega (arith, long)) whole (omega (arith, long, length-drop last bytes)) has.digest
 
 -- the phases that are stored
 pub phases-again : (plan : Plan) (samples every : ℕ) (stand : RaggedStand) → RaggedStandFits plan samples every stand → (t : ℕ) → t < slots_of plan
@@ -305,3 +272,59 @@ flattened-level plan stand lawful fits =
     let at : place_at (replicate (length stand.slots) one) 0 ≡ one = get_or-replicate (length stand.slots) 0 one _ (omega (arith, fits.slots, lawful.rules.some)) in
     let made : ℕ → Stand = λ e. record { epoch = e; slots = stand.slots; pairs = stand.pairs } in
     ap made (ap (λ (p : Place). p.epoch) at)
+
+-- ---- a packed state that fits a kind: its bytes, how many they are, and what writing them asks of it
+
+-- it fits some printed samples and recorded epochs
+pub record FitsSome (plan : Plan) (stand : RaggedStand) : Type 0 where
+  pub samples : ℕ
+  pub every : ℕ
+  pub fits : RaggedStandFits plan samples every stand
+
+pub kind-fits : (kind : Kind) (plan : Plan) (stand : RaggedStand) → FitsKind kind plan stand → FitsSome plan stand
+kind-fits kinds.Level plan stand fits =
+    record { samples = 1; every = 1; fits = subst (RaggedStandFits plan 1 1) (sym fits.0) (level-fits plan 1 1 (flattened stand) fits.1 (omega arith) (omega arith) (omega arith)) }
+kind-fits (kinds.Uneven samples every) plan stand fits = record { samples = samples; every = every; fits = fits }
+
+pub kind-packed : (kind : Kind) (plan : Plan) (stand : RaggedStand) → IsLawfulPlan plan → FitsKind kind plan stand
+    → bank_encoding plan (bank_of kind plan stand) ≡ sealed (packed_bank plan (standing_of kind stand) stand.slots stand.pairs)
+kind-packed kinds.Level plan stand lawful fits = encoding-packed plan (flattened stand) lawful fits.1
+kind-packed (kinds.Uneven samples every) plan stand lawful fits = uneven-packed plan samples every stand lawful fits
+
+pub kind-kept : (kind : Kind) (plan : Plan) (stand : RaggedStand) → FitsKind kind plan stand → flat_map record_bytes stand.pending ≡ kept (standing_of kind stand)
+kind-kept kinds.Level plan stand fits = ap (λ (s : RaggedStand). flat_map record_bytes s.pending) fits.0
+kind-kept (kinds.Uneven samples every) plan stand fits = refl
+
+kind-sized : (kind : Kind) (plan : Plan) (stand : RaggedStand) → FitsKind kind plan stand → AreSized plan (standing_of kind stand)
+kind-sized kinds.Level plan stand fits = tt
+kind-sized (kinds.Uneven samples every) plan stand fits = length-map stand.places position_of ∙ fits.places
+
+pub kind-body : (kind : Kind) (plan : Plan) (stand : RaggedStand) → FitsKind kind plan stand
+    → length (packed_bank plan (standing_of kind stand) stand.slots stand.pairs) + 32 ≡ standing_len plan (standing_of kind stand)
+kind-body kind plan stand fits =
+    let f = (kind-fits kind plan stand fits).fits in
+    length-bank plan (standing_of kind stand) stand.slots stand.pairs (kind-sized kind plan stand fits)
+    (length-contents plan.size (slots_of plan) stand.slots stand.pairs f.slots f.pairs f.each_slot f.each_pair)
+
+-- the parts of the whole
+pub kind-long : (kind : Kind) (plan : Plan) (stand : RaggedStand) → FitsKind kind plan stand
+    → length (header plan (standing_of kind stand)) + (length (packed_contents stand.slots stand.pairs) + 14 * length stand.pending) + 32 ≡ standing_len plan (standing_of kind stand)
+kind-long kind plan stand fits =
+    let h = header plan (standing_of kind stand) in
+    let contents = packed_contents stand.slots stand.pairs in
+    let tail = kept (standing_of kind stand) in
+    omega (arith, kind-body kind plan stand fits, length-append h (contents ++ tail), length-append contents tail, ap length (kind-kept kind plan stand fits), length-records stand.pending)
+
+pub kind-length : (kind : Kind) (plan : Plan) (stand : RaggedStand) → IsLawfulPlan plan → FitsKind kind plan stand → length (bank_encoding plan (bank_of kind plan stand)) ≡ standing_len plan (standing_of kind stand)
+kind-length kind plan stand lawful fits =
+    ap length (kind-packed kind plan stand lawful fits) ∙ length-sealed (packed_bank plan (standing_of kind stand) stand.slots stand.pairs) ∙ kind-body kind plan stand fits
+
+nine : (l : ℕ) → 9 ≤ slot_len l
+unfolding slot_len replica_len
+nine l = omega arith
+
+-- the header fits, with a position for each slot
+pub kind-room : (kind : Kind) (plan : Plan) (stand : RaggedStand) → FitsKind kind plan stand → 64 + 9 * slots_of plan ≤ standing_len plan (standing_of kind stand)
+unfolding encoding_len uneven_len contents_len
+kind-room kinds.Level plan stand fits = let many = mul-le-mul_right (slots_of plan) (nine plan.size) in omega arith
+kind-room (kinds.Uneven samples every) plan stand fits = omega arith

@@ -9,19 +9,27 @@ use Rattle.std.proofs.lemmas.List.{take_more, get_or-drop, get_or_at, length-app
 use Rattle.std.proofs.lemmas.List.Folds.{flat_map-map}
 use Rattle.byteorder.specs.Endian.{big_bytes, big_number}
 use Rattle.byteorder.specs.Numbers.{big_number-reads_back, big_from-lt}
+use Rattle.sha2.proofs.Facts256.{length-sha256}
+use Rattle.scalar_rule.specs.Plan.{Plan, slots_of}
 use Rattle.scalar_rule.specs.Ragged.{Position}
 use Rattle.scalar_rule.specs.declared.sample.Record.{Record}
 use Rattle.plane_sweep.specs.Uneven.{position_of, FitsRecord}
+use Rattle.run_plan.specs.CanonicalPlan.{canonical}
+use Rattle.plane_sweep.specs.declared.replica.Duo.{Duo}
+use Rattle.plane_sweep.specs.declared.stand.PairWheels.{PairWheels}
 use Rattle.plane_sweep.specs.declared.uneven.Place.{Place}
+use Rattle.run_checkpoint.specs.Kinds.{position_bytes, record_bytes, signed_bytes, Standing, Level, Uneven, letters, shape, kept, header}
+use Rattle.run_checkpoint.specs.Lengths.{contents_len, encoding_len, uneven_len, standing_len}
+use Rattle.run_checkpoint.specs.PackedBytes.{packed_contents}
 use Rattle.run_checkpoint.specs.Reading.{piece}
 use Rattle.run_checkpoint.specs.Rooms.{RoomView, Puts}
 use Rattle.run_checkpoint.specs.UnevenDecoding.{place_in, record_in, signed_at}
-use Rattle.run_checkpoint.specs.UnevenEncoding.{position_bytes, record_bytes, signed_bytes}
 use Rattle.run_checkpoint.proofs.Forms.{next-part}
 use Rattle.spin_model.proofs.Tables.{length-table}
 use Rattle.run_checkpoint.specs.Reading.{items_at}
 use Rattle.run_checkpoint.specs.UnevenDecoding.{phase_in, places_in, records_in}
 use Rattle.run_checkpoint.proofs.Items.{item-room}
+use Rattle.run_checkpoint.proofs.PackedParts.{packed_bank}
 use Rattle.run_checkpoint.proofs.PartLengths.{flat-length}
 use Rattle.run_checkpoint.proofs.ReadAgain.{items-again, flat-drop}
 use Rattle.run_checkpoint.proofs.WrittenAgain.{items-back, items-back-at, item-long, all-table}
@@ -231,3 +239,43 @@ phase-stored places tail t h =
     let here : slice_index xs (9 * t + 8) ≡ slice_index (f (get_or places t no_place) ++ at.0) 8 = sym (get_or-drop (9 * t) xs 8 0) ∙ ap (λ ys. slice_index ys 8) at.1 in
     subst (λ ys. (phase_in (ys ++ tail) t ≡ 0) ⊎ (phase_in (ys ++ tail) t ≡ 2)) (mapped-positions places)
     (subst (λ x. (x ≡ 0) ⊎ (x ≡ 2)) (sym here) one)
+
+-- ---- the parts of a bank
+
+pub length-positions_of : (ps : List Position) → length (flat_map position_bytes ps) ≡ 9 * length ps
+length-positions_of ps = flat-length position_bytes 9 ps (λ k d within. length-position (get_or ps k d))
+
+abbrev pub header_len : Standing → ℕ
+header_len (Level epoch) = 56
+header_len (Uneven samples every positions pending) = 64 + 9 * length positions
+
+five-long : (a b c d e : List ℕ) → length (a ++ (b ++ (c ++ (d ++ e)))) ≡ length a + (length b + (length c + (length d + length e)))
+five-long a b c d e = simp length-append
+
+eight-long : (a b c d e f g h : List ℕ) → length (a ++ (b ++ ((c ++ d) ++ (e ++ (f ++ (g ++ h)))))) ≡ length a + (length b + (length c + length d + (length e + (length f + (length g + length h)))))
+eight-long a b c d e f g h = simp length-append
+
+pub length-header : (plan : Plan) (standing : Standing) → length (header plan standing) ≡ header_len standing
+unfolding header shape
+length-header plan (Level epoch) =
+    five-long (letters (Level epoch)) _ (big_bytes 8 epoch) (big_bytes 4 plan.size) (big_bytes 4 (slots_of plan))
+    ∙ omega (arith, length-sha256 (canonical plan), length-big_bytes 8 epoch, length-big_bytes 4 plan.size, length-big_bytes 4 (slots_of plan))
+length-header plan (Uneven samples every ps rs) =
+    eight-long (letters (Uneven samples every ps rs)) _ (big_bytes 4 plan.size) (big_bytes 4 (slots_of plan)) (big_bytes 4 samples) (big_bytes 8 every) (big_bytes 4 (length rs)) (flat_map position_bytes ps)
+    ∙ omega (arith, length-sha256 (canonical plan), length-big_bytes 4 plan.size, length-big_bytes 4 (slots_of plan), length-big_bytes 4 samples, length-big_bytes 8 every, length-big_bytes 4 (length rs), length-positions_of ps)
+
+-- positions stand for the plan's slots
+abbrev pub AreSized : Plan → Standing → Type 0
+AreSized plan (Level epoch) = Unit {0}
+AreSized plan (Uneven samples every ps rs) = length ps ≡ slots_of plan
+
+bank-lengths : (plan : Plan) (standing : Standing) → AreSized plan standing → header_len standing + contents_len plan.size (slots_of plan) + length (kept standing) + 32 ≡ standing_len plan standing
+unfolding encoding_len uneven_len
+bank-lengths plan (Level epoch) sized = omega arith
+bank-lengths plan (Uneven samples every ps rs) sized = omega (arith, sized, length-records rs)
+
+pub length-bank : (plan : Plan) (standing : Standing) (slots : List Duo) (pairs : List PairWheels) → AreSized plan standing → length (packed_contents slots pairs) ≡ contents_len plan.size (slots_of plan)
+    → length (packed_bank plan standing slots pairs) + 32 ≡ standing_len plan standing
+length-bank plan standing slots pairs sized long =
+    let parts = length-append (header plan standing) (packed_contents slots pairs ++ kept standing) in
+    omega (arith, long, parts, length-append (packed_contents slots pairs) (kept standing), length-header plan standing, bank-lengths plan standing sized)

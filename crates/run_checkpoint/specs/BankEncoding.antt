@@ -6,7 +6,8 @@ use Rattle.scalar_rule.specs.Plan.{Plan, slots_of}
 use Rattle.scalar_rule.specs.declared.sample.Sample.{Sample}
 use Rattle.plane_sweep.specs.Packed.{part, StandFits, StandsFor}
 use Rattle.plane_sweep.specs.declared.stand.Stand.{Stand}
-use Rattle.run_checkpoint.specs.Encoding.{encoding, sealed, AreBankStates}
+use Rattle.run_checkpoint.specs.Encoding.{encoding, AreBankStates}
+use Rattle.run_checkpoint.specs.Kinds.{sealed}
 use Rattle.run_checkpoint.specs.Lengths.{encoding_len}
 
 -- the eight letters of the kind, and the number of banks

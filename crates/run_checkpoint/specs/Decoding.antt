@@ -4,8 +4,9 @@ use Rattle.glass_edges.specs.Refusals.{or_else, unless}
 use Rattle.scalar_rule.specs.Plan.{Plan, slots_of}
 use Rattle.plane_sweep.specs.Packed.{part, StandFits}
 use Rattle.plane_sweep.specs.declared.stand.Stand.{Stand}
+use Rattle.run_checkpoint.specs.Kinds.{level_kind}
 use Rattle.run_checkpoint.specs.declared.refused.CheckpointRefused.{CheckpointRefused}
-use Rattle.run_checkpoint.specs.Encoding.{encoding, level_kind}
+use Rattle.run_checkpoint.specs.Encoding.{encoding}
 use Rattle.run_checkpoint.specs.Lengths.{encoding_len}
 use Rattle.run_checkpoint.specs.Reading.{parts_in, stand_in}
 use Rattle.run_checkpoint.specs.Tests.{short, other_kind, other_shape, other_length, damaged, other_plan, wrong_label, late}

@@ -1,72 +1,33 @@
--- The bytes of a checkpoint whose slots are all at one epoch: the plan's digest, the epoch, and what each slot and pair
--- holds in the 64 samples of a bank. Numbers are big-endian and unsigned.
-use Rattle.std.specs.Prelude.{ℕ, ◌-◌, ◌*◌, ◌/◌, ◌%◌, ◌++◌, Bool, List, [], slice_index_or, codes}
-use Rattle.std.specs.List.{flat_map}
-use Rattle.byteorder.specs.Endian.{big_bytes}
-use Rattle.sha2.specs.Sha256.{sha256}
-use Rattle.spin_model.specs.Lattice.{half_plane}
-use Rattle.spin_model.specs.Steps.{table}
-use Rattle.spin_model.specs.Words.{words_32, words_64}
-use Rattle.scalar_rule.specs.Plan.{Plan, slots_of}
-use Rattle.scalar_rule.specs.Epoch.{slot_at, pair_at}
-use Rattle.scalar_rule.specs.Neighbours.{spin}
-use Rattle.scalar_rule.specs.declared.plain_copy.PlainCopy.{PlainCopy}
-use Rattle.scalar_rule.specs.declared.sample.PlainSlot.{PlainSlot}
-use Rattle.scalar_rule.specs.declared.sample.PlainPair.{PlainPair}
+-- The checkpoints of a bank: of states at one epoch, and of states whose slots may be at different epochs; and what is
+-- written of a packed state, by the kind.
+use Rattle.std.specs.Prelude.{◌≡◌, ◌<◌, ℕ, List}
+use Rattle.scalar_rule.specs.Plan.{Plan}
+use Rattle.scalar_rule.specs.Ragged.{UnevenState}
+use Rattle.scalar_rule.specs.declared.sample.Record.{Record}
 use Rattle.scalar_rule.specs.declared.sample.Sample.{Sample}
-use Rattle.run_plan.specs.CanonicalPlan.{canonical}
-use Rattle.coupling_set.specs.BondsAsWords.{word_of}
-use Rattle.plane_sweep.specs.Packed.{StandFits, StandsFor}
-use Rattle.plane_sweep.specs.Beginnings.{site_of}
-use Rattle.plane_sweep.specs.Uneven.{place_at}
+use Rattle.plane_sweep.specs.Packed.{part, StandFits, StandsFor}
+use Rattle.plane_sweep.specs.Uneven.{place_at, positions_of, uneven_part, level_stand, RaggedStandFits}
 use Rattle.plane_sweep.specs.declared.stand.Stand.{Stand}
 use Rattle.plane_sweep.specs.declared.uneven.RaggedStand.{RaggedStand}
+use Rattle.run_checkpoint.specs.Kinds.{Standing, Level, Uneven, PlainBank, bank_encoding}
+use Rattle.run_checkpoint.specs.declared.kinds.Kind.{Kind}
+use Rattle.run_checkpoint.specs.declared.kinds.Kind.TheVariants as kinds
 
--- the word of a site: bit b is set where the spin of sample b is +1
-abbrev pub spin_word : (ℕ → List Bool) → ℕ → ℕ
-spin_word spins site = word_of (λ b. spin (spins b) site) 64
+-- the states of 64 samples, which are at one epoch and share their generators: those of sample 0
+unfoldable pub level_bank : (ℕ → Sample) → PlainBank
+level_bank states = record { standing = Level (states 0).epoch; slots = λ b. (states b).slots; pairs = (states 0).pairs }
 
--- plane k of a replica, that of colour k div l and z = k mod l: the 61 words of its generator, which serves all samples,
--- and then the words of its sites, in order of y, then x
-unfoldable pub plane_bytes : ℕ → (ℕ → PlainCopy) → ℕ → List ℕ
-plane_bytes l copies k =
-    words_32 (slice_index_or (copies 0).wheels k [])
-    ++ words_64 (table (λ j. spin_word (λ b. (copies b).spins) (site_of l (k / l) (k % l) j)) (half_plane l))
+-- those of 64 samples that share their positions and generators, and the records that are kept
+unfoldable pub uneven_bank : ℕ → ℕ → (ℕ → UnevenState) → List Record → PlainBank
+uneven_bank samples every states pending =
+    record { standing = Uneven samples every (states 0).positions pending; slots = λ b. (states b).slots; pairs = (states 0).pairs }
 
--- a replica: its label in each sample, sample 0 first, and then its planes
-unfoldable pub replica_bytes : ℕ → (ℕ → PlainCopy) → List ℕ
-replica_bytes l copies = table (λ b. (copies b).replica) 64 ++ flat_map (plane_bytes l copies) (table (λ k. k) (2 * l))
+-- their checkpoints
+abbrev pub encoding : Plan → (ℕ → Sample) → List ℕ
+encoding plan states = bank_encoding plan (level_bank states)
 
--- both replicas of a slot
-unfoldable pub slot_bytes : ℕ → (ℕ → PlainSlot) → List ℕ
-slot_bytes l slots = replica_bytes l (λ b. (slots b).first) ++ replica_bytes l (λ b. (slots b).second)
-
--- the exchange generators of a pair, which serve all samples
-unfoldable pub pair_bytes : PlainPair → List ℕ
-pair_bytes pair = words_32 pair.first ++ words_32 pair.second
-
--- n slots in order, and then the pairs between them
-unfoldable pub contents : ℕ → ℕ → (ℕ → List PlainSlot) → List PlainPair → List ℕ
-contents l n slots pairs =
-    flat_map (λ t. slot_bytes l (λ b. slot_at (slots b) t)) (table (λ t. t) n)
-    ++ flat_map (λ k. pair_bytes (pair_at pairs k)) (table (λ k. k) (n - 1))
-
--- the eight letters of the kind, the plan's digest, the epoch, the size and the number of slots
-abbrev pub level_kind : List ℕ
-level_kind = codes "GLASSCK1"
-
-unfoldable pub header : Plan → ℕ → List ℕ
-header plan epoch =
-    level_kind ++ (sha256 (canonical plan) ++ (big_bytes 8 epoch ++ (big_bytes 4 plan.size ++ big_bytes 4 (slots_of plan))))
-
--- bytes, and the digest of all of them
-unfoldable pub sealed : List ℕ → List ℕ
-sealed bytes = bytes ++ sha256 bytes
-
--- the checkpoint of the states of 64 samples, which are at one epoch and share their generators: those of sample 0
-unfoldable pub encoding : Plan → (ℕ → Sample) → List ℕ
-encoding plan states =
-    sealed (header plan (states 0).epoch ++ contents plan.size (slots_of plan) (λ b. (states b).slots) (states 0).pairs)
+abbrev pub uneven_encoding : Plan → ℕ → ℕ → (ℕ → UnevenState) → List Record → List ℕ
+uneven_encoding plan samples every states pending = bank_encoding plan (uneven_bank samples every states pending)
 
 -- the slots and pairs of a state whose slots are all at rest at the epoch of slot 0
 abbrev pub flattened : RaggedStand → Stand
@@ -78,3 +39,25 @@ pub record AreBankStates (plan : Plan) (states : ℕ → Sample) : Type 0 where
   pub stand : Stand
   pub fits : StandFits plan stand
   pub stands : StandsFor plan states stand
+
+-- states of 64 samples and records for which a packed state that fits stands
+pub record AreUnevenStates (plan : Plan) (samples every : ℕ) (states : ℕ → UnevenState) (pending : List Record) : Type 0 where
+  pub stand : RaggedStand
+  pub fits : RaggedStandFits plan samples every stand
+  pub stands : (b : ℕ) → b < 64 → uneven_part plan.size b stand ≡ states b
+  pub records : stand.pending ≡ pending
+
+-- ---- what is written of a packed state
+
+abbrev pub standing_of : Kind → RaggedStand → Standing
+standing_of kinds.Level stand = Level (place_at stand.places 0).epoch
+standing_of (kinds.Uneven samples every) stand = Uneven samples every (positions_of stand) stand.pending
+
+abbrev pub bank_of : Kind → Plan → RaggedStand → PlainBank
+bank_of kinds.Level plan stand = level_bank (λ b. part plan.size b (flattened stand))
+bank_of (kinds.Uneven samples every) plan stand = uneven_bank samples every (λ b. uneven_part plan.size b stand) stand.pending
+
+-- a state of the first kind is at one epoch; one of the second has its printed samples and recorded epochs
+abbrev pub FitsKind : Kind → Plan → RaggedStand → Type 0
+FitsKind kinds.Level plan stand = (stand ≡ level_stand (flattened stand)) × StandFits plan (flattened stand)
+FitsKind (kinds.Uneven samples every) plan stand = RaggedStandFits plan samples every stand

@@ -5,8 +5,7 @@ use Rattle.scalar_rule.specs.Ragged.{UnevenState}
 use Rattle.scalar_rule.specs.declared.sample.Record.{Record}
 use Rattle.scalar_rule.specs.declared.sample.Sample.{Sample}
 use Rattle.run_checkpoint.specs.BankEncoding.{banks_encoding, AreBanks}
-use Rattle.run_checkpoint.specs.Encoding.{encoding, AreBankStates}
-use Rattle.run_checkpoint.specs.UnevenEncoding.{uneven_encoding, AreUnevenStates}
+use Rattle.run_checkpoint.specs.Encoding.{encoding, AreBankStates, uneven_encoding, AreUnevenStates}
 
 -- states of 64 samples that have one encoding are the same
 abbrev pub EncodingIsOne : Plan → Type 0

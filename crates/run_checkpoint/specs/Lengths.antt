@@ -1,6 +1,8 @@
 -- How many bytes the parts of a checkpoint take.
-use Rattle.std.specs.Prelude.{ℕ, ◌+◌, ◌-◌, ◌*◌}
+use Rattle.std.specs.Prelude.{ℕ, ◌+◌, ◌-◌, ◌*◌, length}
+use Rattle.scalar_rule.specs.Plan.{Plan, slots_of}
 use Rattle.spin_model.specs.Lattice.{half_plane}
+use Rattle.run_checkpoint.specs.Kinds.{Standing, Level, Uneven}
 
 -- the 61 words of a generator
 abbrev pub generator_len : ℕ
@@ -45,3 +47,8 @@ record_len = 14
 -- the checkpoint of slots at different epochs with so many records
 unfoldable pub uneven_len : ℕ → ℕ → ℕ → ℕ
 uneven_len l n count = 64 + position_len * n + contents_len l n + record_len * count + 32
+
+-- that of a bank
+abbrev pub standing_len : Plan → Standing → ℕ
+standing_len plan (Level epoch) = encoding_len plan.size (slots_of plan)
+standing_len plan (Uneven samples every positions pending) = uneven_len plan.size (slots_of plan) (length pending)

@@ -1,11 +1,11 @@
 -- what public contracts say
+pub mod Kinds
 pub mod Encoding
 pub mod Lengths
 pub mod Rooms
 pub mod Reading
 pub mod Tests
 pub mod Decoding
-pub mod UnevenEncoding
 pub mod UnevenDecoding
 pub mod BankEncoding
 pub mod BankDecoding

@@ -13,13 +13,14 @@ use Rattle.plane_sweep.specs.Uneven.{positions_of, position_of, uneven_part, Rag
 use Rattle.plane_sweep.specs.declared.stand.Stand.{Stand}
 use Rattle.plane_sweep.specs.declared.uneven.Place.{Place}
 use Rattle.plane_sweep.specs.declared.uneven.RaggedStand.{RaggedStand}
+use Rattle.run_checkpoint.specs.Kinds.{uneven_kind}
 use Rattle.run_checkpoint.specs.declared.refused.CheckpointRefused.{CheckpointRefused}
 use Rattle.run_checkpoint.specs.declared.refused.CheckpointRefused.TheVariants as refused
 use Rattle.run_checkpoint.specs.Decoding.{level_refusal, IsEncoded}
 use Rattle.run_checkpoint.specs.Lengths.{contents_len, position_len, record_len, uneven_len, encoding_len}
 use Rattle.run_checkpoint.specs.Reading.{number_at, items_at, slots_in, pairs_in, parts_in, stand_in}
 use Rattle.run_checkpoint.specs.Tests.{short, other_kind, other_shape, other_length, damaged, other_plan, wrong_label, late}
-use Rattle.run_checkpoint.specs.UnevenEncoding.{uneven_kind, uneven_encoding}
+use Rattle.run_checkpoint.specs.Encoding.{uneven_encoding}
 
 -- ---- reading
 

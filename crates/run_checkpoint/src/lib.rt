@@ -2,7 +2,6 @@
 #![tactic(auto)]
 
 mod bank_decoding;
-mod bank_encoding;
 mod checks;
 mod decoding;
 mod encoding;
@@ -16,16 +15,14 @@ mod refused;
 mod room;
 mod uneven_checks;
 mod uneven_decoding;
-mod uneven_encoding;
 mod unfilled;
 
 pub use bank_decoding::decode_banks;
-pub use bank_encoding::{begin_banks, end_banks};
 pub use decoding::decode;
-pub use encoding::{encode, encode_level};
+pub use encoding::{begin_banks, encode, end_banks};
+pub use kinds::Kind;
 pub use laws::{banks_encoding_is_one, encoding_is_one, uneven_encoding_is_one};
 pub use lengths::{LONGEST_CHECKPOINT, length, length_ragged};
 pub use refused::CheckpointRefused;
 pub use room::Room;
 pub use uneven_decoding::decode_any;
-pub use uneven_encoding::encode_ragged;

@@ -5,9 +5,9 @@ ghost use Rattle.byteorder.specs.Endian.{big_bytes};
 ghost use Rattle.sha2.specs.Sha256.{sha256};
 ghost use Rattle.spin_model.specs.Limits.{greatest_half_plane};
 ghost use Rattle.spin_model.specs.Words.{words_32, words_64};
+ghost use Rattle.run_checkpoint.specs.Kinds.{signed_bytes};
 ghost use Rattle.run_checkpoint.specs.Lengths.{longest_checkpoint};
 ghost use Rattle.run_checkpoint.specs.Rooms.{Puts};
-ghost use Rattle.run_checkpoint.specs.UnevenEncoding.{signed_bytes};
 
 use crate::places::behind;
 use byteorder::{BigEndian, ByteOrder};

@@ -4,11 +4,10 @@ ghost use Rattle.std.specs.Prelude.{◌≡◌, ℕ, ◌+◌, ◌*◌, ◌<◌, �
 ghost use Rattle.glass_edges.specs.Refusals.{GivesAfterTests};
 ghost use Rattle.spin_model.specs.Limits.{last_epoch};
 ghost use Rattle.plane_sweep.specs.Uneven.{level_stand, uneven_part, RaggedStandFits};
-ghost use Rattle.run_checkpoint.specs.Encoding.{encoding, AreBankStates};
+ghost use Rattle.run_checkpoint.specs.Encoding.{encoding, AreBankStates, uneven_encoding, AreUnevenStates};
 ghost use Rattle.run_checkpoint.specs.Lengths.{encoding_len, uneven_len};
 ghost use Rattle.run_checkpoint.specs.Reading.{stand_in};
 ghost use Rattle.run_checkpoint.specs.UnevenDecoding as model;
-ghost use Rattle.run_checkpoint.specs.UnevenEncoding.{uneven_encoding, AreUnevenStates};
 ghost use Rattle.run_checkpoint.specs.declared.refused.CheckpointRefused.TheVariants as refused;
 ghost use Rattle.scalar_rule.specs.Laws.{level_start};
 ghost use Rattle.scalar_rule.specs.Plan.{slots_of};

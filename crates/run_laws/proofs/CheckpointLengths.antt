@@ -11,9 +11,10 @@ use Rattle.run_checkpoint.specs.Encoding.{encoding, AreBankStates}
 use Rattle.run_checkpoint.specs.Lengths.{plane_len, replica_len, slot_len, contents_len, encoding_len, uneven_len}
 use Rattle.run_checkpoint.specs.Tests.{short, other_kind, other_length, damaged}
 use Rattle.run_checkpoint.proofs.Forms.{length-sealed}
+use Rattle.run_checkpoint.specs.declared.kinds.Kind.TheVariants as kinds
 use Rattle.run_checkpoint.proofs.OneEncoding.{length-encoding}
 use Rattle.run_checkpoint.proofs.Tested.{length-is}
-use Rattle.run_checkpoint.proofs.UnevenForm.{uneven_body, uneven-packed, length-uneven, few-records}
+use Rattle.run_checkpoint.proofs.UnevenForm.{kind-length, few-records}
 use Rattle.scalar_rule.specs.Plan.{Plan, IsLawfulPlan, slots_of}
 use Rattle.run_plan.specs.declared.run_file.Orders.{Orders}
 use Rattle.scalar_rule.specs.declared.sample.Sample.{Sample}
@@ -68,9 +69,7 @@ stopped-short : (planned : Planned) (came : RaggedStand) → IsLawfulPlan planne
 stopped-short planned came lawful fits =
     let plan = planned.plan in
     let o = planned.orders in
-    let body = uneven_body plan o.samples o.every came in
-    let whole = ap length (uneven-packed plan o.samples o.every came lawful fits) ∙ length-sealed body in
-    let long = length-uneven plan o.samples o.every came fits in
+    let long = kind-length (kinds.Uneven o.samples o.every) plan came lawful fits in
     let upto = uneven-upto plan.size (slots_of plan) (length came.pending) lawful.size.1 lawful.rules.few (few-records plan o.samples o.every came lawful fits) in
     omega arith
 

@@ -2,10 +2,12 @@ use Rattle.std.specs.Arc.{arc_value}
 use Rattle.std.proofs.Common.{arith, ◌≡◌, ◌+◌, ◌*◌, ◌++◌, length, map, ap, sym, subst, ◌∙◌}
 use Rattle.std.proofs.lemmas.List.{length-map}
 use Rattle.exchange_board.specs.Views.{RaggedEndedView}
-use Rattle.plane_sweep.specs.Packed.{part, StandFits}
+use Rattle.plane_sweep.specs.Packed.{part}
 use Rattle.plane_sweep.specs.declared.uneven.RaggedStand.{RaggedStand}
 use Rattle.run_checkpoint.specs.BankEncoding.{banks_header, banks_bytes, banks_encoding, bank_len}
-use Rattle.run_checkpoint.specs.Encoding.{encoding, sealed, flattened}
+use Rattle.run_checkpoint.specs.Encoding.{encoding, flattened, FitsKind}
+use Rattle.run_checkpoint.specs.Kinds.{sealed}
+use Rattle.run_checkpoint.specs.declared.kinds.Kind.TheVariants as kinds
 use Rattle.run_checkpoint.specs.Lengths.{encoding_len}
 use Rattle.run_checkpoint.proofs.Forms.{length-sealed}
 use Rattle.run_checkpoint.proofs.BankClauses.{length-banks_header}
@@ -25,14 +27,14 @@ banks-init c =
       total = omega (arith, long, c.begin_banks.ensures.spare);
     }
 
-pub encode_level-requires-clause-fits : goal.encode_level-requires-clause-fits
-encode_level-requires-clause-fits c =
+pub encode-requires-clause-fits : goal.encode-requires-clause-fits
+encode-requires-clause-fits c =
     let stand : c.stand.result.now ≡ c.index-driven-bank.result.ended.stand = c.stand.ensures ∙ ap (λ (e : RaggedEndedView). e.stand) c.ended.ensures in
     let fits = fits-at arc_value c.args.plans.now c.args.driven.now c.requires.plans c.banks.bank c.banks-test.true c.index-plans-bank.result c.index-plans-bank.is c.index-driven-bank.result c.index-driven-bank.is c.requires.level in
-    subst (λ (p : Plan). StandFits p (flattened c.stand.result.now)) (sym c.deref.ensures) (subst (λ (s : RaggedStand). StandFits (arc_value c.index-plans-bank.result) (flattened s)) (sym stand) fits)
+    subst (λ (p : Plan). FitsKind kinds.Level p c.stand.result.now) (sym c.deref.ensures) (subst (λ (s : RaggedStand). FitsKind kinds.Level (arc_value c.index-plans-bank.result) s) (sym stand) fits)
 
-pub encode_level-requires-clause-spare : goal.encode_level-requires-clause-spare
-encode_level-requires-clause-spare c =
+pub encode-requires-clause-spare : goal.encode-requires-clause-spare
+encode-requires-clause-spare c =
     let len = bank_len (map arc_value c.args.plans.now) in
     let own : encoding_len c.deref.result.now.size (slots_of c.deref.result.now) ≡ len =
     ap (λ (p : Plan). encoding_len p.size (slots_of p)) c.deref.ensures ∙ sym (len-at arc_value c.args.plans.now c.args.driven.now c.requires.plans c.banks.bank c.banks-test.true c.index-plans-bank.result c.index-plans-bank.is c.index-driven-bank.result c.index-driven-bank.is c.requires.shape) in
@@ -45,7 +47,7 @@ pub banks-preserved : goal.banks-preserved
 banks-preserved c =
     let len = bank_len (map arc_value c.args.plans.now) in
     let stand : c.stand.result.now ≡ c.index-driven-bank.result.ended.stand = c.stand.ensures ∙ ap (λ (e : RaggedEndedView). e.stand) c.ended.ensures in
-    let put = c.encode_level.ensures.bytes ∙ ap (λ (p : Plan). c.banks.room.bytes ++ encoding p (λ b. part p.size b (flattened c.stand.result.now))) c.deref.ensures in
+    let put = c.encode.ensures.bytes ∙ ap (λ (p : Plan). c.banks.room.bytes ++ encoding p (λ b. part p.size b (flattened c.stand.result.now))) c.deref.ensures in
     let own : encoding_len c.deref.result.now.size (slots_of c.deref.result.now) ≡ len =
     ap (λ (p : Plan). encoding_len p.size (slots_of p)) c.deref.ensures ∙ sym (len-at arc_value c.args.plans.now c.args.driven.now c.requires.plans c.banks.bank c.banks-test.true c.index-plans-bank.result c.index-plans-bank.is c.index-driven-bank.result c.index-driven-bank.is c.requires.shape) in
     let long = long-step arc_value c.args.plans.now c.args.driven.now c.requires.plans c.banks.bank c.banks-test.true c.index-plans-bank.result c.index-plans-bank.is c.index-driven-bank.result c.index-driven-bank.is c.requires.level c.requires.shape _ _ c.stand.result.now stand put in
@@ -53,7 +55,7 @@ banks-preserved c =
     record {
       bytes = bytes-step arc_value c.args.plans.now c.args.driven.now c.requires.plans c.banks.bank c.banks-test.true c.index-plans-bank.result c.index-plans-bank.is c.index-driven-bank.result c.index-driven-bank.is _ _ _ c.stand.result.now stand put c.banks.invariant.bytes;
       long = omega (arith, long, more, c.banks.invariant.long);
-      total = omega (arith, long, own, c.encode_level.ensures.spare, c.banks.invariant.total);
+      total = omega (arith, long, own, c.encode.ensures.spare, c.banks.invariant.total);
     }
 
 pub returns-clause-bytes : goal.returns-clause-bytes

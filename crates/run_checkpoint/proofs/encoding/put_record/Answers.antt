@@ -2,9 +2,9 @@
 use Rattle.std.proofs.Common.{ap}
 use Rattle.std.specs.Int.{w32}
 use Rattle.std.proofs.lemmas.Int.{to_z-of_z}
-use Rattle.run_checkpoint.specs.UnevenEncoding.{record_bytes, signed_bytes}
 use Rattle.run_checkpoint.proofs.Pieces.{puts-both, puts-same}
-use Rattle.run_checkpoint.proofs.uneven_encoding.put_record.Goals as goal
+use Rattle.run_checkpoint.proofs.encoding.put_record.Goals as goal
+use Rattle.run_checkpoint.specs.Kinds.{record_bytes, signed_bytes}
 
 pub returns : goal.returns
 unfolding record_bytes

@@ -1,8 +1,8 @@
 use Rattle.std.proofs.Common.{take, ◌*◌, ◌+◌, ◌≡◌}
 use Rattle.std.specs.List.{flat_map}
+use Rattle.run_checkpoint.specs.Kinds.{record_bytes}
 use Rattle.run_checkpoint.specs.Rooms.{Puts}
-use Rattle.run_checkpoint.specs.UnevenEncoding.{record_bytes}
-use Rattle.run_checkpoint.proofs.uneven_encoding.put_records.Given as goal
+use Rattle.run_checkpoint.proofs.encoding.put_records.Given as goal
 
 abbrev pub invariant-records : goal.invariant-records
 invariant-records l = record {

@@ -1,9 +1,9 @@
 -- One record more.
 use Rattle.std.proofs.Common.{arith}
-use Rattle.run_checkpoint.specs.UnevenEncoding.{record_bytes}
 use Rattle.run_checkpoint.proofs.Pieces.{puts-more}
 use Rattle.run_checkpoint.proofs.UnevenParts.{record-spare}
-use Rattle.run_checkpoint.proofs.uneven_encoding.put_records.Goals as goal
+use Rattle.run_checkpoint.proofs.encoding.put_records.Goals as goal
+use Rattle.run_checkpoint.specs.Kinds.{record_bytes}
 
 pub put_record-requires-clause-fits : goal.put_record-requires-clause-fits
 put_record-requires-clause-fits c = c.requires.fit c.records.kept-index _ c.records-test.true

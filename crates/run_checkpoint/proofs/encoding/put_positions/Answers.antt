@@ -1,10 +1,10 @@
 -- One position more.
 use Rattle.std.proofs.Common.{arith}
 use Rattle.plane_sweep.specs.Uneven.{position_of}
-use Rattle.run_checkpoint.specs.UnevenEncoding.{position_bytes}
 use Rattle.run_checkpoint.proofs.Pieces.{puts-more, puts-all, puts-same}
 use Rattle.run_checkpoint.proofs.UnevenParts.{position-spare, mapped-positions}
-use Rattle.run_checkpoint.proofs.uneven_encoding.put_positions.Goals as goal
+use Rattle.run_checkpoint.proofs.encoding.put_positions.Goals as goal
+use Rattle.run_checkpoint.specs.Kinds.{position_bytes}
 
 pub places-preserved : goal.places-preserved
 places-preserved c =

@@ -1,9 +1,9 @@
 use Rattle.std.proofs.Common.{take, ◌*◌, ◌+◌, ◌≡◌}
 use Rattle.std.specs.List.{flat_map}
 use Rattle.plane_sweep.specs.Uneven.{position_of}
+use Rattle.run_checkpoint.specs.Kinds.{position_bytes}
 use Rattle.run_checkpoint.specs.Rooms.{Puts}
-use Rattle.run_checkpoint.specs.UnevenEncoding.{position_bytes}
-use Rattle.run_checkpoint.proofs.uneven_encoding.put_positions.Given as goal
+use Rattle.run_checkpoint.proofs.encoding.put_positions.Given as goal
 
 abbrev pub invariant-places : goal.invariant-places
 invariant-places l = record {
