@@ -279,9 +279,22 @@ INLINE void sweep_colours(int heat, size_t size, const thresholds t) {
     }
 }
 
-/* A sweep by code of its own for each rule and four of the sizes, and one for the others. */
+#ifdef __AVX2__
+#include "sweep_pairs.h"
+#endif
+
+/* A sweep by code of its own for each rule and four of the sizes, with AVX2 also for sizes that are no multiple of 8, and one
+   for the others. */
 static __attribute__((noinline)) void sweep(int heat, size_t size) {
     switch (size) {
+#ifdef __AVX2__
+#define PAIRS(n)                                                                                                                   \
+    case n:                                                                                                                        \
+        heat ? pairs_colours(1, n, n / 2 % 4, heat_row) : pairs_colours(0, n, n / 2 % 4, metropolis_row);                          \
+        break;
+        PAIRS(10) PAIRS(12) PAIRS(14) PAIRS(18) PAIRS(20) PAIRS(22) PAIRS(26) PAIRS(28) PAIRS(30) PAIRS(36) PAIRS(44) PAIRS(60)
+#undef PAIRS
+#endif
     case 8:
         heat ? sweep_colours(1, 8, heat_row) : sweep_colours(0, 8, metropolis_row);
         break;
@@ -343,8 +356,13 @@ static uint64_t all_words(size_t size) {
 
 int main(int argc, char **argv) {
     size_t size = argc == 5 ? strtoul(argv[1], NULL, 10) : 0;
-    if (size % 4 != 0 || size < 8 || size > 64) {
-        fputs("usage: sweep_c 8|12|..|64 metropolis|heat SWEEPS PASSES\n", stderr);
+#ifdef __AVX2__
+    int step = size < 32 ? 2 : 4;
+#else
+    int step = 4;
+#endif
+    if (size % step != 0 || size < 8 || size > 64) {
+        fputs("usage: sweep_c 8|12|..|64 metropolis|heat SWEEPS PASSES, with AVX2 also 10|14|..|30\n", stderr);
         return 2;
     }
     int heat = strcmp(argv[2], "heat") == 0;

@@ -14,7 +14,7 @@ use crate::energy::{ColourPlane, count_plane};
 use local_rule::ReadyRule;
 use plane_sweep::{
     Dynamics, HalfPlane, Plane, Row, Surroundings, first_row, kind_of, lend, pulls_of_four,
-    row_behind, sweep_words, update_four, words_at,
+    row_behind, sweep_words, update_sites, words_at,
 };
 use threshold_table::RuleKind;
 
@@ -317,7 +317,7 @@ fn sweep_and_count_four<const SIZE: usize, const HEAT: bool, const EVEN: bool, c
         ≡ row_count own.new lent.now.around row.now b (k + 4) }
 {
     let six = pulls_of_four(&lent.around, row, k);
-    update_four(own, &lent.rule, lent.draws, row.here + k, &six);
+    update_sites::<4>(own, &lent.rule, lent.draws, row.here + k, &six);
     let words = words_at::<4>(own, row.here + k);
     count_bonds(&six, words)
 }

@@ -10,6 +10,7 @@ pub mod StoredSamples
 pub mod StoredStates
 pub mod SixWords
 pub mod FourLanes
+pub mod RowPairs
 pub mod RowSteps
 pub mod RowSweeps
 pub mod SweptPlanes

@@ -4,7 +4,7 @@ use Rattle.std.proofs.lemmas.Bool.{cases_lt, cases_eq}
 use Rattle.std.proofs.lemmas.Nat.{mod_below, mul-le}
 use Rattle.std.proofs.Math.Nat.{add-mul, mod-add-mod}
 use Rattle.spin_model.specs.Lattice.{IsLawfulSize, half_plane, next, previous}
-use Rattle.plane_sweep.specs.PlaneSweep.{IsRow}
+use Rattle.plane_sweep.specs.PlaneSweep.{IsRow, IsBehind}
 use Rattle.plane_sweep.specs.declared.rows.Row.{Row}
 use Rattle.plane_sweep.proofs.FourLanes.{next-inside, next-around, previous-inside, previous-around}
 use Rattle.plane_sweep.proofs.SixWords.{row-whole}
@@ -85,6 +85,14 @@ pub row-around : (l c z y words : ℕ) (row : Row) → IsLawfulSize l → y < l 
     → IsRow l c z (y + 1) (record { half = row.half; here = row.here + row.half; up = 0; down = row.here; even = not row.even })
 row-around l c z y words row lawful below whole at more =
     row-step l c z y words 0 row lawful below at (up-around l y row.up row.half words lawful at.half whole at.up more)
+
+-- two rows one behind the other are one run
+pub rows-joined : (l c z y : ℕ) (row behind : Row) → IsLawfulSize l → IsRow l c z y row → IsRow l c z (y + 1) behind → IsBehind row behind
+rows-joined l c z y row behind lawful at next =
+    let more = add-mul y 1 (l / 2) in
+    let width = at.half in
+    let start = at.here in
+    record { half = next.half ∙ sym at.half; here = omega (arith, next.here); two = omega arith }
 
 -- a row and the one ahead of it lie in the plane
 pub here-within : (l c z y : ℕ) (row : Row) → y < l → IsRow l c z y row → row.here + row.half ≤ half_plane l

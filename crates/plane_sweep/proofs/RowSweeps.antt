@@ -1,7 +1,7 @@
 -- A plane's words are updated row by row, and in a row from one column to another.
-use Rattle.std.proofs.Common.{inl, inr, ◌≡◌, ℕ, zero, ◌+◌, ◌-◌, ◌*◌, ◌/◌, ◌%◌, ◌^◌, ◌<◌, ◌≤◌, List, length, get_or, set, refl, sym, ap, subst, ◌∙◌, arith}
+use Rattle.std.proofs.Common.{inl, inr, ◌≡◌, ℕ, zero, ◌+◌, ◌-◌, ◌*◌, ◌/◌, ◌%◌, ◌^◌, ◌<◌, ◌≤◌, List, length, get_or, refl, sym, ap, subst, ◌∙◌, arith}
 use Rattle.std.proofs.lemmas.Bool.{cases_lt}
-use Rattle.std.proofs.lemmas.List.{get_or_default, get_or_past, length-set, get_or-set_same, get_or-set_other}
+use Rattle.std.proofs.lemmas.List.{get_or_default, get_or_past}
 use Rattle.std.proofs.lemmas.Nat.{div-mul-add, mod-mul-add}
 use Rattle.std.proofs.Math.Nat.{add-mul}
 use borrow.Rule.Slice.PartMut.{put_mid}
@@ -13,7 +13,7 @@ use Rattle.spin_model.specs.Words.{is_set}
 use Rattle.spin_model.proofs.CompactOrder.{in_plane}
 use Rattle.threshold_table.specs.Tables.{rule_of}
 use Rattle.plane_sweep.specs.Neighbourhood.{pulls, Surrounds}
-use Rattle.plane_sweep.specs.PlaneSweep.{SweepsWord, SweepsWords, SweepsFour, SweepsRow, IsRow, pulls_lent}
+use Rattle.plane_sweep.specs.PlaneSweep.{SweepsWord, SweepsWords, SweepsSites, SweepsRow, SweepsAcross, IsRow, pulls_lent}
 use Rattle.plane_sweep.specs.declared.replica.Plane.{Plane}
 use Rattle.plane_sweep.specs.declared.rows.Row.{Row}
 use Rattle.threshold_table.specs.declared.rule_table.SlotRule.{SlotRule}
@@ -25,21 +25,21 @@ use Rattle.plane_sweep.proofs.SixWords.{pulls-lent}
 pub row-same : (m l c z y : ℕ) (row : Row) → m ≡ l → IsRow m c z y row → IsRow l c z y row
 row-same m l c z y row same at = let P : ℕ → Type 0 = λ n. IsRow n c z y row in subst P same at
 
--- four words that lanes give, written into a list from a place on
-pub four-written : (rule : SlotRule) (draws : List ℕ) (at m : ℕ) (words drawn before after : List ℕ) (rows : List (List ℕ)) → m ≡ 4 → at + 4 ≤ length words
-    → ((i : ℕ) → i < 4 → get_or before i 0 ≡ get_or words (at + i) 0) → ((i : ℕ) → i < 4 → get_or drawn i 0 ≡ get_or draws (at + i) 0) → length after ≡ 4
+-- words that lanes give, written into a list from a place on
+pub sites-written : (n : ℕ) (rule : SlotRule) (draws : List ℕ) (at m : ℕ) (words drawn before after : List ℕ) (rows : List (List ℕ)) → m ≡ n → at + n ≤ length words
+    → ((i : ℕ) → i < n → get_or before i 0 ≡ get_or words (at + i) 0) → ((i : ℕ) → i < n → get_or drawn i 0 ≡ get_or draws (at + i) 0) → length after ≡ n
     → ((j : ℕ) → get_or (put_mid at m words after) j 0 < 2 ^ 64)
-    → ((i b : ℕ) → i < 4 → b < 64 → is_set (get_or after i 0) b ≡ new_spin (rule_of rule.kind) rule.row.values (set_count (lane_words rows i) b) (equal_count (lane_words rows i) (get_or before i 0) b) (get_or drawn i 0) (is_set (get_or before i 0) b))
-    → SweepsFour (lane_words rows) rule draws at words (put_mid at m words after)
-four-written rule draws at m words drawn before after rows four within old numbers sized range made = record {
+    → ((i b : ℕ) → i < n → b < 64 → is_set (get_or after i 0) b ≡ new_spin (rule_of rule.kind) rule.row.values (set_count (lane_words rows i) b) (equal_count (lane_words rows i) (get_or before i 0) b) (get_or drawn i 0) (is_set (get_or before i 0) b))
+    → SweepsSites n (lane_words rows) rule draws at words (put_mid at m words after)
+sites-written n rule draws at m words drawn before after rows whole within old numbers sized range made = record {
   sized = mid-sized at m words after (omega arith) (omega arith);
   done = λ i lane.
       let now : get_or after i 0 ≡ get_or (put_mid at m words after) (at + i) 0 = sym (mid-at at m words after i (omega arith) (omega arith) (omega arith)) in
       let here : SweepsWord (rule_of rule.kind) rule.row.values (lane_words rows i) (get_or drawn i 0) (get_or before i 0) (get_or after i 0) =
-      record { in_range = subst (λ n. n < 2 ^ 64) (sym now) (range (at + i)); bits = λ b below. made i b lane below } in
-      let Q : ℕ → Type 0 = λ n. SweepsWord (rule_of rule.kind) rule.row.values (lane_words rows i) n (get_or before i 0) (get_or after i 0) in
-      let R : ℕ → Type 0 = λ n. SweepsWord (rule_of rule.kind) rule.row.values (lane_words rows i) (get_or draws (at + i) 0) n (get_or after i 0) in
-      let S : ℕ → Type 0 = λ n. SweepsWord (rule_of rule.kind) rule.row.values (lane_words rows i) (get_or draws (at + i) 0) (get_or words (at + i) 0) n in
+      record { in_range = subst (λ w. w < 2 ^ 64) (sym now) (range (at + i)); bits = λ b below. made i b lane below } in
+      let Q : ℕ → Type 0 = λ w. SweepsWord (rule_of rule.kind) rule.row.values (lane_words rows i) w (get_or before i 0) (get_or after i 0) in
+      let R : ℕ → Type 0 = λ w. SweepsWord (rule_of rule.kind) rule.row.values (lane_words rows i) (get_or draws (at + i) 0) w (get_or after i 0) in
+      let S : ℕ → Type 0 = λ w. SweepsWord (rule_of rule.kind) rule.row.values (lane_words rows i) (get_or draws (at + i) 0) (get_or words (at + i) 0) w in
       subst S now (subst R (old i lane) (subst Q (numbers i lane) here));
   before = λ j low. mid-below at m words after j low (omega arith);
   after = λ j high. mid-above at m words after j (omega arith) (omega arith) (omega arith);
@@ -49,33 +49,18 @@ module _ (s : Surroundings) (rule : SlotRule) (draws : List ℕ) (row : Row) whe
   pub row-none : (m : ℕ) (words : List ℕ) → SweepsRow s rule draws row m m words words
   row-none m words = record { sized = refl; done = λ k from to. absurd (omega arith); before = λ j low. refl; after = λ j high. refl }
 
-  -- one column
-  pub row-one : (k new : ℕ) (words : List ℕ) → row.here + k < length words
-      → SweepsWord (rule_of rule.kind) rule.row.values (pulls_lent s row k) (get_or draws (row.here + k) 0) (get_or words (row.here + k) 0) new
-      → SweepsRow s rule draws row k (k + 1) words (set words (row.here + k) new)
-  row-one k new words within made = record {
-    sized = length-set words (row.here + k) new;
-    done = λ j from to.
-        let P : ℕ → Type 0 = λ i. SweepsWord (rule_of rule.kind) rule.row.values (pulls_lent s row i) (get_or draws (row.here + i) 0) (get_or words (row.here + i) 0) (get_or (set words (row.here + k) new) (row.here + i) 0) in
-        let Q : ℕ → Type 0 = λ w. SweepsWord (rule_of rule.kind) rule.row.values (pulls_lent s row k) (get_or draws (row.here + k) 0) (get_or words (row.here + k) 0) w in
-        let same : k ≡ j = omega arith in
-        subst P same (subst Q (sym (get_or-set_same words (row.here + k) new 0 within)) made);
-    before = λ j low. get_or-set_other words (row.here + k) j new 0 (λ same. absurd (omega arith));
-    after = λ j high. get_or-set_other words (row.here + k) j new 0 (λ same. absurd (omega arith));
-  }
-
-  -- four columns, by words of which lane i is column k + i
-  pub row-four : (k : ℕ) (six : ℕ → List ℕ) (old new : List ℕ) → ((i : ℕ) → i < 4 → six i ≡ pulls_lent s row (k + i))
-      → SweepsFour six rule draws (row.here + k) old new → SweepsRow s rule draws row k (k + 4) old new
-  row-four k six old new same made = record {
+  -- n columns, by words of which lane i is column k + i
+  pub row-sites : (n k : ℕ) (six : ℕ → List ℕ) (old new : List ℕ) → ((i : ℕ) → i < n → six i ≡ pulls_lent s row (k + i))
+      → SweepsSites n six rule draws (row.here + k) old new → SweepsRow s rule draws row k (k + n) old new
+  row-sites n k six old new same made = record {
     sized = made.sized;
     done = λ j from to.
         let i = j - k in
-        let lane : i < 4 = omega arith in
+        let lane : i < n = omega arith in
         let column : k + i ≡ j = omega arith in
         let place : row.here + k + i ≡ row.here + j = omega arith in
         let P : List ℕ → Type 0 = λ xs. SweepsWord (rule_of rule.kind) rule.row.values xs (get_or draws (row.here + k + i) 0) (get_or old (row.here + k + i) 0) (get_or new (row.here + k + i) 0) in
-        let Q : ℕ → Type 0 = λ n. SweepsWord (rule_of rule.kind) rule.row.values (pulls_lent s row j) (get_or draws n 0) (get_or old n 0) (get_or new n 0) in
+        let Q : ℕ → Type 0 = λ p. SweepsWord (rule_of rule.kind) rule.row.values (pulls_lent s row j) (get_or draws p 0) (get_or old p 0) (get_or new p 0) in
         subst Q place (subst P (same i lane ∙ ap (pulls_lent s row) column) (made.done i lane));
     before = made.before;
     after = λ j high. made.after j (omega arith);
@@ -153,3 +138,13 @@ row-swept couplings other rule draws c z y s row old xs ys lawful within sized a
   where
     outside : (k : ℕ) (d : ℕ) → length xs ≤ k → get_or ys k d ≡ get_or old k d
     outside k d past = get_or_past ys k d (omega (arith, swept.sized)) ∙ sym (get_or_past old k d (omega (arith, rows.sized)))
+
+-- the words of the rows before, and two rows more
+pub pair-swept : (couplings : CouplingsView) (other : List Plane) (rule : SlotRule) (draws : List ℕ) (c z y : ℕ) (s : Surroundings) (row behind : Row) (old xs ys : List ℕ)
+    → IsLawfulSize couplings.size → y + 1 < couplings.size → length old ≡ half_plane couplings.size → Surrounds couplings other c z s
+    → IsRow couplings.size c z y row → IsRow couplings.size c z (y + 1) behind
+    → SweepsWords couplings other rule draws c z (y * (couplings.size / 2)) old xs → SweepsAcross s rule draws row behind 0 behind.half xs ys
+    → SweepsWords couplings other rule draws c z ((y + 1 + 1) * (couplings.size / 2)) old ys
+pair-swept couplings other rule draws c z y s row behind old xs ys lawful within sized around at next rows swept =
+    row-swept couplings other rule draws c z (y + 1) s behind old swept.between ys lawful within sized around next
+    (row-swept couplings other rule draws c z y s row old xs swept.between lawful (omega arith) sized around at rows swept.first) swept.second

@@ -1,12 +1,10 @@
 -- Six words of 64 samples: their agreement with a spin, and what they are of the words lent.
-use Rattle.std.proofs.Common.{◌≡◌, ℕ, ◌+◌, ◌-◌, ◌*◌, ◌/◌, ◌%◌, ◌^◌, ◌<◌, ◌≤◌, ◌==◌, Bool, true, false, not, cond, bit_xor, List, [], ◌∷◌, length, get_or, refl, sym, ap, ◌∙◌, arith}
-use Rattle.std.proofs.lemmas.Nat.{xor_lt, mul-le, mod_below, row_fits}
-use Rattle.std.specs.Int.{bit_not, w64}
+use Rattle.std.proofs.Common.{◌≡◌, ℕ, ◌+◌, ◌-◌, ◌*◌, ◌/◌, ◌%◌, ◌<◌, ◌≤◌, ◌==◌, Bool, true, false, not, cond, bit_xor, List, length, get_or, refl, sym, ap, ◌∙◌, arith}
+use Rattle.std.proofs.lemmas.Nat.{mul-le, mod_below, row_fits}
 use Rattle.std.specs.Prelude.{count_by}
 use Rattle.coupling_set.specs.CouplingWords.{CouplingsView, bond_word}
-use Rattle.local_rule.specs.SiteBits.{equal_count, set_count, site_bits}
+use Rattle.local_rule.specs.SiteBits.{equal_count, site_bits}
 use Rattle.multispin_word.specs.Planes.{differs}
-use Rattle.multispin_word.proofs.Bits.{is_set-xor, is_set-not}
 use Rattle.scalar_rule.specs.Neighbours.{agree}
 use Rattle.spin_model.specs.Lattice.{IsLawfulSize, half_plane, next, previous}
 use Rattle.spin_model.specs.Words.{is_set}
@@ -24,34 +22,9 @@ not-differs true false = refl
 not-differs false true = refl
 not-differs false false = refl
 
-pub is_set-agree : (a b k : ℕ) → a < 2 ^ 64 → b < 2 ^ 64 → k < 64 → is_set (bit_not w64 (bit_xor a b)) k ≡ agree (is_set a k) (is_set b k)
-is_set-agree a b k a_fits b_fits below =
-    is_set-not (bit_xor a b) k (xor_lt 64 a b a_fits b_fits) below ∙ ap not (is_set-xor a b k) ∙ not-differs (is_set a k) (is_set b k)
-
 -- the bits that are equal to the spin agree with it
 pub equal-agreeing : (six : List ℕ) (w b : ℕ) → equal_count six w b ≡ count_by (λ bit. agree bit (is_set w b)) (site_bits six b)
 equal-agreeing six w b = λ i. count_by (λ bit. not-differs bit (is_set w b) i) (site_bits six b)
-
--- six words that agree bit by bit
-pub agreeing-six : (six : List ℕ) (w b : ℕ) (p q r s t u : ℕ) → length six ≡ 6
-    → is_set p b ≡ agree (is_set (get_or six 0 0) b) (is_set w b)
-    → is_set q b ≡ agree (is_set (get_or six 1 0) b) (is_set w b)
-    → is_set r b ≡ agree (is_set (get_or six 2 0) b) (is_set w b)
-    → is_set s b ≡ agree (is_set (get_or six 3 0) b) (is_set w b)
-    → is_set t b ≡ agree (is_set (get_or six 4 0) b) (is_set w b)
-    → is_set u b ≡ agree (is_set (get_or six 5 0) b) (is_set w b)
-    → set_count (p ∷ q ∷ r ∷ s ∷ t ∷ u ∷ []) b ≡ equal_count six w b
-agreeing-six (x₀ ∷ x₁ ∷ x₂ ∷ x₃ ∷ x₄ ∷ x₅ ∷ []) w b p q r s t u sized e₀ e₁ e₂ e₃ e₄ e₅ =
-    let six = x₀ ∷ x₁ ∷ x₂ ∷ x₃ ∷ x₄ ∷ x₅ ∷ [] in
-    let agreeing : set_count (p ∷ q ∷ r ∷ s ∷ t ∷ u ∷ []) b ≡ count_by (λ bit. agree bit (is_set w b)) (site_bits six b) = rw (e₀, e₁, e₂, e₃, e₄, e₅) refl in
-    agreeing ∙ sym (equal-agreeing six w b)
-agreeing-six [] w b p q r s t u sized e₀ e₁ e₂ e₃ e₄ e₅ = absurd (omega (arith, sized))
-agreeing-six (x₀ ∷ []) w b p q r s t u sized e₀ e₁ e₂ e₃ e₄ e₅ = absurd (omega (arith, sized))
-agreeing-six (x₀ ∷ x₁ ∷ []) w b p q r s t u sized e₀ e₁ e₂ e₃ e₄ e₅ = absurd (omega (arith, sized))
-agreeing-six (x₀ ∷ x₁ ∷ x₂ ∷ []) w b p q r s t u sized e₀ e₁ e₂ e₃ e₄ e₅ = absurd (omega (arith, sized))
-agreeing-six (x₀ ∷ x₁ ∷ x₂ ∷ x₃ ∷ []) w b p q r s t u sized e₀ e₁ e₂ e₃ e₄ e₅ = absurd (omega (arith, sized))
-agreeing-six (x₀ ∷ x₁ ∷ x₂ ∷ x₃ ∷ x₄ ∷ []) w b p q r s t u sized e₀ e₁ e₂ e₃ e₄ e₅ = absurd (omega (arith, sized))
-agreeing-six (x₀ ∷ x₁ ∷ x₂ ∷ x₃ ∷ x₄ ∷ x₅ ∷ x₆ ∷ xs) w b p q r s t u sized e₀ e₁ e₂ e₃ e₄ e₅ = absurd (omega (arith, sized))
 
 pub row-whole : (l y : ℕ) → y < l → y * (l / 2) + l / 2 ≤ half_plane l
 row-whole l y row = row_fits y (l / 2) l (l / 2) row (omega arith)

@@ -73,12 +73,12 @@ pulls_lent s row k =
     left : ℕ
     left = row.here + left_column row k
 
--- a plane's words after four of them from a place on are updated, each by its draw; those of lane i are six i
-pub record SweepsFour (six : ℕ → List ℕ) (rule : SlotRule) (draws : List ℕ) (at : ℕ) (old new : List ℕ) : Type 0 where
+-- a plane's words after n of them from a place on are updated, each by its draw; those of lane i are six i
+pub record SweepsSites (n : ℕ) (six : ℕ → List ℕ) (rule : SlotRule) (draws : List ℕ) (at : ℕ) (old new : List ℕ) : Type 0 where
   pub sized : length new ≡ length old
-  pub done : (i : ℕ) → i < 4 → SweepsWord (rule_of rule.kind) rule.row.values (six i) (slice_index draws (at + i)) (slice_index old (at + i)) (slice_index new (at + i))
+  pub done : (i : ℕ) → i < n → SweepsWord (rule_of rule.kind) rule.row.values (six i) (slice_index draws (at + i)) (slice_index old (at + i)) (slice_index new (at + i))
   pub before : (j : ℕ) → j < at → slice_index new j ≡ slice_index old j
-  pub after : (j : ℕ) → at + 4 ≤ j → slice_index new j ≡ slice_index old j
+  pub after : (j : ℕ) → at + n ≤ j → slice_index new j ≡ slice_index old j
 
 -- a plane's words after the columns from m to n of a row are updated, each by its draw
 pub record SweepsRow (s : Surroundings) (rule : SlotRule) (draws : List ℕ) (row : Row) (m n : ℕ) (old new : List ℕ) : Type 0 where
@@ -86,6 +86,18 @@ pub record SweepsRow (s : Surroundings) (rule : SlotRule) (draws : List ℕ) (ro
   pub done : (k : ℕ) → m ≤ k → k < n → SweepsWord (rule_of rule.kind) rule.row.values (pulls_lent s row k) (slice_index draws (row.here + k)) (slice_index old (row.here + k)) (slice_index new (row.here + k))
   pub before : (j : ℕ) → j < row.here + m → slice_index new j ≡ slice_index old j
   pub after : (j : ℕ) → row.here + n ≤ j → slice_index new j ≡ slice_index old j
+
+-- two rows of a plane that are one run of words
+pub record IsBehind (row behind : Row) : Type 0 where
+  pub half : behind.half ≡ row.half
+  pub here : behind.here ≡ row.here + row.half
+  pub two : 2 ≤ row.half
+
+-- a plane's words after the columns of a row from m on, and then the first n of the row behind it, are updated
+pub record SweepsAcross (s : Surroundings) (rule : SlotRule) (draws : List ℕ) (row behind : Row) (m n : ℕ) (old new : List ℕ) : Type 0 where
+  pub between : List ℕ
+  pub first : SweepsRow s rule draws row m row.half old between
+  pub second : SweepsRow s rule draws behind 0 n between new
 
 -- plane z of colour c may be swept, by these planes of the other colour
 pub record CanSweep (couplings : CouplingsView) (other : List Plane) (c z : ℕ) (plane : Plane) : Type 0 where

@@ -1,4 +1,4 @@
-//! The new words of a plane in both replicas of a slot, a row of the one and a row of the other by
+//! The new words of a plane in both replicas of a slot, two rows of the one and two of the other by
 //! turns, so that the couplings of a row are near the processor when the second replica reads them.
 
 ghost use Rattle.std.specs.Prelude.{◌≡◌, ◌+◌, ◌%◌, ◌<◌, ◌==◌, if◌then◌else◌};
@@ -7,8 +7,9 @@ ghost use Rattle.plane_sweep.specs.PlaneSweep.{SweepsWords};
 ghost use Rattle.spin_model.specs.Lattice.{half_plane, IsLawfulSize};
 
 use crate::dynamics::HalfPlane;
+use crate::pairs::sweep_pair;
 use crate::replica::Plane;
-use crate::rows::{first_row, kind_of, row_behind, sweep_any, sweep_row, sweep_words};
+use crate::rows::{first_row, kind_of, row_behind, sweep_any, sweep_words};
 use crate::surroundings::lend;
 use threshold_table::RuleKind;
 
@@ -27,7 +28,7 @@ pub(crate) struct Drawn<'a, 'b> {
 }
 
 /// The new words of the sites of a colour in a plane of both replicas, each by the planes of its own
-/// replica and its own draws. They go row by row in turn at multiples of 8 from 32 on, by a table in
+/// replica and its own draws. They go by two rows in turn at multiples of 8 from 32 on, by a table in
 /// order; else there is no code for both, and the plane of the one goes before that of the other.
 pub(crate) fn sweep_words_of_duo(
     first: &mut [u64],
@@ -125,11 +126,9 @@ fn sweep_rows_of_duo<const SIZE: usize, const HEAT: bool, const EVEN: bool>(
     let words = SIZE * (SIZE / 2);
     let mut row = first_row(SIZE, EVEN);
     'pairs: for i in 0..SIZE / 2 {
-        sweep_row(first, &around, &rule, draws, &row);
-        sweep_row(second, &beyond, &rule, more, &row);
         let behind = row_behind(&row, words);
-        sweep_row(first, &around, &rule, draws, &behind);
-        sweep_row(second, &beyond, &rule, more, &behind);
+        sweep_pair(first, &around, &rule, draws, &row, &behind);
+        sweep_pair(second, &beyond, &rule, more, &row, &behind);
         row = row_behind(&behind, words);
     }
 }

@@ -24,7 +24,7 @@ use std::thread::Threads;
 pub const LEAST_IN_TURN: usize = 32;
 
 /// That many sweeps of both replicas of a temperature slot, of each as `sweep` makes one. On a large
-/// lattice that is not cut in pieces the two go in turn, row by row or plane by plane, since both read
+/// lattice that is not cut in pieces the two go in turn, by two rows or by planes, since both read
 /// the same couplings. Takes no memory.
 pub fn sweep_duo_often<R: Threads + Sync>(
     rt: &R,

@@ -3,7 +3,7 @@
 ghost use Rattle.std.specs.Prelude.{◌≡◌, ℕ, ◌+◌, ◌<◌, ◌≤◌, bit_xor, length, slice_index};
 ghost use Rattle.local_rule.specs.SiteBits.{equal_count, lane_words, set_count};
 ghost use Rattle.multispin_word.specs.Planes.{is_set};
-ghost use Rattle.plane_sweep.specs.PlaneSweep.{left_column, pulls_lent, right_column, HasRows, SweepsFour, SweepsRow};
+ghost use Rattle.plane_sweep.specs.PlaneSweep.{left_column, pulls_lent, right_column, HasRows, SweepsRow, SweepsSites};
 ghost use Rattle.spin_model.specs.Limits.{greatest_half_plane};
 ghost use Rattle.spin_model.specs.SiteRule.{new_spin};
 ghost use Rattle.threshold_table.specs.Tables.{rule_of};
@@ -31,20 +31,26 @@ pub(crate) fn sweep_four(
     ensures { SweepsRow around.now rule.now draws.now row.now k (k + 4) own.old own.new }
 {
     let six = pulls_of_four(around, row, k);
-    update_four(own, rule, draws, row.here + k, &six);
+    update_sites::<4>(own, rule, draws, row.here + k, &six);
 }
 
-/// The new words of the four sites from a place on, each by its draw. Lane i has J times the spins of
-/// the neighbours of site i.
+/// The new words of N sites from a place on, each by its draw. Lane i has J times the spins of the
+/// neighbours of site i.
 #[inline(always)]
-pub fn update_four(own: &mut [u64], rule: &ReadyRule, draws: &[u32], at: usize, six: &[[u64; 4]; 6])
-    requires own { at + 4 ≤ length own.old }
-    requires draws { at + 4 ≤ length draws.now }
-    ensures { SweepsFour (lane_words six.now) rule.now draws.now at own.old own.new }
+pub fn update_sites<const N: usize>(
+    own: &mut [u64],
+    rule: &ReadyRule,
+    draws: &[u32],
+    at: usize,
+    six: &[[u64; N]; 6],
+)
+    requires own { at + N ≤ length own.old }
+    requires draws { at + N ≤ length draws.now }
+    ensures { SweepsSites N (lane_words six.now) rule.now draws.now at own.old own.new }
 {
-    let old = words_at(own, at).to_array();
-    let new = new_words(rule, &four_draws(draws, at), six, &old);
-    load(&new).copy_to_slice(&mut own[at..at + 4]);
+    let old = words_at::<N>(own, at).to_array();
+    let new = new_words(rule, &draws_at::<N>(draws, at), six, &old);
+    load(&new).copy_to_slice(&mut own[at..at + N]);
 }
 
 /// J times the neighbours' spins at four columns from k on: ahead in x, y and z, and behind.
@@ -88,13 +94,13 @@ pub fn words_at<const N: usize>(words: &[u64], at: usize) -> Simd<u64, N>
     Simd::<u64, N>::from_slice(&words[at..at + N])
 }
 
-// Four draws from a place on.
+// N draws from a place on.
 #[inline(always)]
-fn four_draws(draws: &[u32], at: usize) -> [u32; 4]
-    requires { at + 4 ≤ length draws.now }
-    ensures { (i : ℕ) → i < 4 → slice_index result i ≡ slice_index draws.now (at + i) }
+fn draws_at<const N: usize>(draws: &[u32], at: usize) -> [u32; N]
+    requires { at + N ≤ length draws.now }
+    ensures { (i : ℕ) → i < N → slice_index result i ≡ slice_index draws.now (at + i) }
 {
-    u32x4::from_slice(&draws[at..at + 4]).to_array()
+    Simd::<u32, N>::from_slice(&draws[at..at + N]).to_array()
 }
 
 // J times the spins ahead in x.
@@ -174,10 +180,15 @@ fn one_back(before: u64x4, words: u64x4) -> u64x4
     before.shuffle(words, [3, 4, 5, 6])
 }
 
-// The new spins of four sites, by their draws.
+// The new spins of N sites, by their draws.
 #[inline(always)]
-fn new_words(rule: &ReadyRule, draws: &[u32; 4], six: &[[u64; 4]; 6], words: &[u64; 4]) -> [u64; 4]
-    ensures { (i b : ℕ) → i < 4 → b < 64 → is_set (slice_index result i) b
+fn new_words<const N: usize>(
+    rule: &ReadyRule,
+    draws: &[u32; N],
+    six: &[[u64; N]; 6],
+    words: &[u64; N],
+) -> [u64; N]
+    ensures { (i b : ℕ) → i < N → b < 64 → is_set (slice_index result i) b
         ≡ new_spin (rule_of rule.now.kind) rule.now.row.values (set_count (lane_words six.now i) b)
         (equal_count (lane_words six.now i) (slice_index words.now i) b) (slice_index draws.now i) (is_set (slice_index words.now i) b) }
 {

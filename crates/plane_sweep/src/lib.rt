@@ -11,6 +11,7 @@ mod generators;
 mod lanes;
 mod laws;
 mod opening;
+mod pairs;
 mod parts;
 mod random_words;
 mod replica;
@@ -26,7 +27,7 @@ pub use cells::{Cell, cell_at, deepest, has_record, shallowest};
 pub use draws::{DUO_DRAWS, PLANE_DRAWS, SMALL_DRAWS, is_small};
 pub use duos::{LEAST_IN_TURN, sweep_ahead, sweep_duo_often};
 pub use dynamics::{Dynamics, HalfPlane, rule_of_slot};
-pub use lanes::{pulls_of_four, update_four, words_at};
+pub use lanes::{pulls_of_four, update_sites, words_at};
 pub use laws::{
     labels_permute_after_epochs, labels_permute_after_exchange, parts_are_starting_states,
 };

@@ -1,20 +1,15 @@
-//! The new words of a plane's sites, row by row.
+//! The new words of a plane's sites, two rows at a time.
 
 ghost use Rattle.std.specs.Prelude.{◌≡◌, ℕ, ◌+◌, ◌-◌, ◌*◌, ◌/◌, ◌%◌, ◌<◌, ◌≤◌, ◌==◌, if◌then◌else◌, length, All};
-ghost use Rattle.local_rule.specs.SiteBits.{equal_count, set_count};
-ghost use Rattle.plane_sweep.specs.PlaneSweep.{left_column, pulls_lent, right_column, SweepsRow, SweepsWord, SweepsWords, IsRow, HasRows};
+ghost use Rattle.plane_sweep.specs.PlaneSweep.{left_column, pulls_lent, right_column, SweepsWords, IsRow, HasRows};
 ghost use Rattle.plane_sweep.specs.Packed.{FitsPlane};
-ghost use Rattle.scalar_rule.specs.Neighbours.{agree};
 ghost use Rattle.spin_model.specs.Lattice.{half_plane, next, previous, IsLawfulSize};
 ghost use Rattle.spin_model.specs.Limits.{greatest_half_plane};
-ghost use Rattle.spin_model.specs.Words.{is_set};
-ghost use Rattle.threshold_table.specs.Tables.{rule_of};
 
 use crate::dynamics::HalfPlane;
-use crate::lanes::sweep_four;
+use crate::pairs::sweep_pair;
 use crate::replica::Plane;
 use crate::surroundings::{Surroundings, lend, next, previous};
-use local_rule::{ReadyRule, heat_bath, metropolis};
 use threshold_table::RuleKind;
 
 /// A row of a plane, and the two rows beside it.
@@ -42,10 +37,23 @@ pub fn sweep_words(own: &mut [u64], other: &[Plane], sites: &HalfPlane, draws: &
     ensures { SweepsWords sites.now.couplings.now other.now sites.now.rule.now draws.now sites.now.colour sites.now.z (half_plane sites.now.couplings.now.size) own.old own.new }
 {
     match sites.couplings.size() {
+        6 => sweep_sized::<6>(own, other, sites, draws),
         8 => sweep_sized::<8>(own, other, sites, draws),
+        10 => sweep_sized::<10>(own, other, sites, draws),
+        12 => sweep_sized::<12>(own, other, sites, draws),
+        14 => sweep_sized::<14>(own, other, sites, draws),
         16 => sweep_sized::<16>(own, other, sites, draws),
+        18 => sweep_sized::<18>(own, other, sites, draws),
+        20 => sweep_sized::<20>(own, other, sites, draws),
+        22 => sweep_sized::<22>(own, other, sites, draws),
         24 => sweep_sized::<24>(own, other, sites, draws),
+        26 => sweep_sized::<26>(own, other, sites, draws),
+        28 => sweep_sized::<28>(own, other, sites, draws),
+        30 => sweep_sized::<30>(own, other, sites, draws),
         32 => sweep_sized::<32>(own, other, sites, draws),
+        34 => sweep_sized::<34>(own, other, sites, draws),
+        36 => sweep_sized::<36>(own, other, sites, draws),
+        38 => sweep_sized::<38>(own, other, sites, draws),
         40 => sweep_sized::<40>(own, other, sites, draws),
         48 => sweep_sized::<48>(own, other, sites, draws),
         56 => sweep_sized::<56>(own, other, sites, draws),
@@ -115,9 +123,8 @@ pub(crate) fn sweep_rows<const SIZE: usize, const HEAT: bool, const EVEN: bool>(
     let words = SIZE * (SIZE / 2);
     let mut row = first_row(SIZE, EVEN);
     'pairs: for i in 0..SIZE / 2 {
-        sweep_row(own, &around, &rule, draws, &row);
         let behind = row_behind(&row, words);
-        sweep_row(own, &around, &rule, draws, &behind);
+        sweep_pair(own, &around, &rule, draws, &row, &behind);
         row = row_behind(&behind, words);
     }
 }
@@ -150,52 +157,11 @@ pub(crate) fn sweep_any(own: &mut [u64], other: &[Plane], sites: &HalfPlane, dra
     let rule = sites.rule.copy();
     let words = size * (size / 2);
     let mut row = first_row(size, (sites.colour + sites.z) % 2 == 0);
-    'rows: for y in 0..size {
-        sweep_row(own, &around, &rule, draws, &row);
-        row = row_behind(&row, words);
+    'pairs: for i in 0..size / 2 {
+        let behind = row_behind(&row, words);
+        sweep_pair(own, &around, &rule, draws, &row, &behind);
+        row = row_behind(&behind, words);
     }
-}
-
-/// The new words of a row: by four, and the rest by one.
-#[inline(always)]
-pub(crate) fn sweep_row(
-    own: &mut [u64],
-    around: &Surroundings,
-    rule: &ReadyRule,
-    draws: &[u32],
-    row: &Row,
-)
-    requires rows { HasRows (length around.now.here.now) around.now row.now }
-    requires own { length own.old ≡ length around.now.here.now }
-    requires draws { length draws.now ≡ length around.now.here.now }
-    ensures { SweepsRow around.now rule.now draws.now row.now 0 row.now.half own.old own.new }
-{
-    'fours: for j in 0..row.half / 4 {
-        sweep_four(own, around, rule, draws, row, 4 * j);
-    }
-    'rest: for k in row.half / 4 * 4..row.half {
-        sweep_one(own, around, rule, draws, row, k);
-    }
-}
-
-// The new word at column k.
-#[inline(always)]
-fn sweep_one(
-    own: &mut [u64],
-    around: &Surroundings,
-    rule: &ReadyRule,
-    draws: &[u32],
-    row: &Row,
-    k: usize,
-)
-    requires rows { HasRows (length around.now.here.now) around.now row.now }
-    requires own { length own.old ≡ length around.now.here.now }
-    requires draws { length draws.now ≡ length around.now.here.now }
-    requires within { k < row.now.half }
-    ensures { SweepsRow around.now rule.now draws.now row.now k (k + 1) own.old own.new }
-{
-    let place = row.here + k;
-    own[place] = new_word(rule, draws[place], &pulls_of(around, row, k), own[place]);
 }
 
 /// The first row of a plane, which begins at x = 0 where the plane is even.
@@ -275,37 +241,4 @@ fn behind_column(row: &Row, k: usize) -> usize
     ensures within { result < row.now.half }
 {
     if row.even { previous(row.half, k) } else { k }
-}
-
-// The new spins of a site, by its draw.
-#[inline(always)]
-fn new_word(rule: &ReadyRule, draw: u32, six: &[u64; 6], word: u64) -> u64
-    ensures { SweepsWord (rule_of rule.now.kind) rule.now.row.values six.now draw word result }
-{
-    match rule.kind() {
-        RuleKind::Heat => heat_bath(draw, rule.row(), six),
-        RuleKind::Metropolis => metropolis(draw, rule.row(), &agreeing(six, word), word),
-    }
-}
-
-// The samples in which each of the six agrees with the spin.
-#[inline(always)]
-fn agreeing(six: &[u64; 6], word: u64) -> [u64; 6]
-    ensures { (b : ℕ) → b < 64 → set_count result b ≡ equal_count six.now word b }
-{
-    [
-        agree(six[0], word),
-        agree(six[1], word),
-        agree(six[2], word),
-        agree(six[3], word),
-        agree(six[4], word),
-        agree(six[5], word),
-    ]
-}
-
-#[inline(always)]
-fn agree(a: u64, b: u64) -> u64
-    ensures { (k : ℕ) → k < 64 → is_set result k ≡ agree (is_set a k) (is_set b k) }
-{
-    !(a ^ b)
 }

@@ -2,18 +2,18 @@ use Rattle.std.proofs.Common.{◌≡◌, ℕ, ◌+◌, ◌*◌, ◌/◌, sym, ap
 use Rattle.spin_model.specs.Lattice.{half_plane}
 use Rattle.threshold_table.specs.declared.rule_table.SlotRule.{SlotRule}
 use Rattle.plane_sweep.specs.PlaneSweep.{SweepsWords, IsRow}
-use Rattle.plane_sweep.proofs.RowSteps.{here-within, up-within}
-use Rattle.plane_sweep.proofs.RowSweeps.{rows-none, row-swept}
+use Rattle.plane_sweep.proofs.RowSteps.{here-within, up-within, rows-joined}
+use Rattle.plane_sweep.proofs.RowSweeps.{rows-none, pair-swept}
 use Rattle.plane_sweep.proofs.SixWords.{rows-lent}
 use Rattle.plane_sweep.proofs.duo_rows.sweep_rows_of_duo.Goals as goal
 
-pub sweep_row-requires-clause-rows : goal.sweep_row-requires-clause-rows
-sweep_row-requires-clause-rows g c =
+pub sweep_pair-requires-clause-rows : goal.sweep_pair-requires-clause-rows
+sweep_pair-requires-clause-rows g c =
     rows-lent c.args.sites.now.couplings.now c.args.others.now.first.now c.args.sites.now.colour c.args.sites.now.z (2 * c.pairs.i) c.lend-around.result c.pairs.row
     c.requires.lawful (omega arith) c.lend-around.ensures c.pairs.invariant.row
 
-pub sweep_row-requires-in-pairs-clause-rows : goal.sweep_row-requires-in-pairs-clause-rows
-sweep_row-requires-in-pairs-clause-rows g c =
+pub sweep_pair-requires-in-pairs-clause-rows : goal.sweep_pair-requires-in-pairs-clause-rows
+sweep_pair-requires-in-pairs-clause-rows g c =
     rows-lent c.args.sites.now.couplings.now c.args.others.now.second.now c.args.sites.now.colour c.args.sites.now.z (2 * c.pairs.i) c.lend-beyond.result c.pairs.row
     c.requires.lawful (omega arith) c.lend-beyond.ensures c.pairs.invariant.row
 
@@ -27,21 +27,35 @@ row_behind-behind-requires-clause-up g c =
     let same = sym c.requires.size in
     rw same (up-within c.args.sites.now.couplings.now.size c.args.sites.now.colour c.args.sites.now.z (2 * c.pairs.i) c.pairs.row c.requires.lawful c.pairs.invariant.row)
 
-pub sweep_row-requires-in-pairs-2-clause-rows : goal.sweep_row-requires-in-pairs-2-clause-rows
-sweep_row-requires-in-pairs-2-clause-rows g c =
+pub sweep_pair-requires-clause-rows_behind : goal.sweep_pair-requires-clause-rows_behind
+sweep_pair-requires-clause-rows_behind g c =
     let l = c.args.sites.now.couplings.now.size in
     let whole = ap (λ n. n * (n / 2)) (sym c.requires.size) in
     let next = c.row_behind-behind.ensures l c.args.sites.now.colour c.args.sites.now.z (2 * c.pairs.i) c.requires.lawful (omega arith) whole c.pairs.invariant.row in
     rows-lent c.args.sites.now.couplings.now c.args.others.now.first.now c.args.sites.now.colour c.args.sites.now.z (2 * c.pairs.i + 1) c.lend-around.result c.row_behind-behind.result
     c.requires.lawful (omega arith) c.lend-around.ensures next
 
-pub sweep_row-requires-in-pairs-3-clause-rows : goal.sweep_row-requires-in-pairs-3-clause-rows
-sweep_row-requires-in-pairs-3-clause-rows g c =
+pub sweep_pair-requires-in-pairs-clause-rows_behind : goal.sweep_pair-requires-in-pairs-clause-rows_behind
+sweep_pair-requires-in-pairs-clause-rows_behind g c =
     let l = c.args.sites.now.couplings.now.size in
     let whole = ap (λ n. n * (n / 2)) (sym c.requires.size) in
     let next = c.row_behind-behind.ensures l c.args.sites.now.colour c.args.sites.now.z (2 * c.pairs.i) c.requires.lawful (omega arith) whole c.pairs.invariant.row in
     rows-lent c.args.sites.now.couplings.now c.args.others.now.second.now c.args.sites.now.colour c.args.sites.now.z (2 * c.pairs.i + 1) c.lend-beyond.result c.row_behind-behind.result
     c.requires.lawful (omega arith) c.lend-beyond.ensures next
+
+pub sweep_pair-requires-clause-behind : goal.sweep_pair-requires-clause-behind
+sweep_pair-requires-clause-behind g c =
+    let l = c.args.sites.now.couplings.now.size in
+    let whole = ap (λ n. n * (n / 2)) (sym c.requires.size) in
+    let next = c.row_behind-behind.ensures l c.args.sites.now.colour c.args.sites.now.z (2 * c.pairs.i) c.requires.lawful (omega arith) whole c.pairs.invariant.row in
+    rows-joined l c.args.sites.now.colour c.args.sites.now.z (2 * c.pairs.i) c.pairs.row c.row_behind-behind.result c.requires.lawful c.pairs.invariant.row next
+
+pub sweep_pair-requires-in-pairs-clause-behind : goal.sweep_pair-requires-in-pairs-clause-behind
+sweep_pair-requires-in-pairs-clause-behind g c =
+    let l = c.args.sites.now.couplings.now.size in
+    let whole = ap (λ n. n * (n / 2)) (sym c.requires.size) in
+    let next = c.row_behind-behind.ensures l c.args.sites.now.colour c.args.sites.now.z (2 * c.pairs.i) c.requires.lawful (omega arith) whole c.pairs.invariant.row in
+    rows-joined l c.args.sites.now.colour c.args.sites.now.z (2 * c.pairs.i) c.pairs.row c.row_behind-behind.result c.requires.lawful c.pairs.invariant.row next
 
 pub row_behind-row-requires-clause-here : goal.row_behind-row-requires-clause-here
 row_behind-row-requires-clause-here g c =
@@ -79,26 +93,18 @@ pairs-preserved g c =
     let whole = ap (λ n. n * (n / 2)) (sym c.requires.size) in
     let at = c.pairs.invariant.row in
     let next = c.row_behind-behind.ensures l c.args.sites.now.colour c.args.sites.now.z y lawful (omega arith) whole at in
-    let first_one =
-    row-swept couplings c.args.others.now.first.now rule c.args.drawn.now.first.now c.args.sites.now.colour c.args.sites.now.z y c.lend-around.result c.pairs.row c.args.first.now c.pairs.first c.sweep_row.new.own
-    lawful (omega arith) c.requires.first.own_sized c.lend-around.ensures at c.pairs.invariant.first c.sweep_row.ensures
-    in
     let first_both =
-    row-swept couplings c.args.others.now.first.now rule c.args.drawn.now.first.now c.args.sites.now.colour c.args.sites.now.z (y + 1) c.lend-around.result c.row_behind-behind.result c.args.first.now c.sweep_row.new.own c.sweep_row-in-pairs-2.new.own
-    lawful (omega arith) c.requires.first.own_sized c.lend-around.ensures next first_one c.sweep_row-in-pairs-2.ensures
-    in
-    let second_one =
-    row-swept couplings c.args.others.now.second.now rule c.args.drawn.now.second.now c.args.sites.now.colour c.args.sites.now.z y c.lend-beyond.result c.pairs.row c.args.second.now c.pairs.second c.sweep_row-in-pairs.new.own
-    lawful (omega arith) c.requires.second.own_sized c.lend-beyond.ensures at c.pairs.invariant.second c.sweep_row-in-pairs.ensures
+    pair-swept couplings c.args.others.now.first.now rule c.args.drawn.now.first.now c.args.sites.now.colour c.args.sites.now.z y c.lend-around.result c.pairs.row c.row_behind-behind.result c.args.first.now c.pairs.first c.sweep_pair.new.own
+    lawful (omega arith) c.requires.first.own_sized c.lend-around.ensures at next c.pairs.invariant.first c.sweep_pair.ensures
     in
     let second_both =
-    row-swept couplings c.args.others.now.second.now rule c.args.drawn.now.second.now c.args.sites.now.colour c.args.sites.now.z (y + 1) c.lend-beyond.result c.row_behind-behind.result c.args.second.now c.sweep_row-in-pairs.new.own c.sweep_row-in-pairs-3.new.own
-    lawful (omega arith) c.requires.second.own_sized c.lend-beyond.ensures next second_one c.sweep_row-in-pairs-3.ensures
+    pair-swept couplings c.args.others.now.second.now rule c.args.drawn.now.second.now c.args.sites.now.colour c.args.sites.now.z y c.lend-beyond.result c.pairs.row c.row_behind-behind.result c.args.second.now c.pairs.second c.sweep_pair-in-pairs.new.own
+    lawful (omega arith) c.requires.second.own_sized c.lend-beyond.ensures at next c.pairs.invariant.second c.sweep_pair-in-pairs.ensures
     in
     let third = c.row_behind-row.ensures l c.args.sites.now.colour c.args.sites.now.z (y + 1) lawful (omega arith) whole next in
     let place : y + 1 + 1 ≡ 2 * (c.pairs.i + 1) = omega arith in
-    let V : ℕ → Type 0 = λ n. SweepsWords couplings c.args.others.now.first.now rule c.args.drawn.now.first.now c.args.sites.now.colour c.args.sites.now.z (n * (l / 2)) c.args.first.now c.sweep_row-in-pairs-2.new.own in
-    let W : ℕ → Type 0 = λ n. SweepsWords couplings c.args.others.now.second.now rule c.args.drawn.now.second.now c.args.sites.now.colour c.args.sites.now.z (n * (l / 2)) c.args.second.now c.sweep_row-in-pairs-3.new.own in
+    let V : ℕ → Type 0 = λ n. SweepsWords couplings c.args.others.now.first.now rule c.args.drawn.now.first.now c.args.sites.now.colour c.args.sites.now.z (n * (l / 2)) c.args.first.now c.sweep_pair.new.own in
+    let W : ℕ → Type 0 = λ n. SweepsWords couplings c.args.others.now.second.now rule c.args.drawn.now.second.now c.args.sites.now.colour c.args.sites.now.z (n * (l / 2)) c.args.second.now c.sweep_pair-in-pairs.new.own in
     let R : ℕ → Type 0 = λ n. IsRow l c.args.sites.now.colour c.args.sites.now.z n c.row_behind-row.result in
     record { first = subst V place first_both; second = subst W place second_both; row = subst R place third }
 

@@ -2,15 +2,10 @@ use Rattle.std.proofs.Common.{◌≡◌, ℕ, ◌+◌, ◌*◌, ◌/◌, sym, ap
 use Rattle.spin_model.specs.Lattice.{half_plane}
 use Rattle.threshold_table.specs.declared.rule_table.SlotRule.{SlotRule}
 use Rattle.plane_sweep.specs.PlaneSweep.{SweepsWords, IsRow}
-use Rattle.plane_sweep.proofs.RowSteps.{here-within, up-within}
-use Rattle.plane_sweep.proofs.RowSweeps.{rows-none, row-swept}
+use Rattle.plane_sweep.proofs.RowSteps.{here-within, up-within, rows-joined}
+use Rattle.plane_sweep.proofs.RowSweeps.{rows-none, pair-swept}
 use Rattle.plane_sweep.proofs.SixWords.{rows-lent}
 use Rattle.plane_sweep.proofs.rows.sweep_rows.Goals as goal
-
-pub sweep_row-requires-clause-rows : goal.sweep_row-requires-clause-rows
-sweep_row-requires-clause-rows g c =
-    rows-lent c.args.sites.now.couplings.now c.args.other.now c.args.sites.now.colour c.args.sites.now.z (2 * c.pairs.i) c.lend-around.result c.pairs.row
-    c.requires.lawful (omega arith) c.lend-around.ensures c.pairs.invariant.row
 
 pub row_behind-behind-requires-clause-here : goal.row_behind-behind-requires-clause-here
 row_behind-behind-requires-clause-here g c =
@@ -22,13 +17,25 @@ row_behind-behind-requires-clause-up g c =
     let same = sym c.requires.size in
     rw same (up-within c.args.sites.now.couplings.now.size c.args.sites.now.colour c.args.sites.now.z (2 * c.pairs.i) c.pairs.row c.requires.lawful c.pairs.invariant.row)
 
-pub sweep_row-requires-in-pairs-clause-rows : goal.sweep_row-requires-in-pairs-clause-rows
-sweep_row-requires-in-pairs-clause-rows g c =
+pub sweep_pair-requires-clause-rows : goal.sweep_pair-requires-clause-rows
+sweep_pair-requires-clause-rows g c =
+    rows-lent c.args.sites.now.couplings.now c.args.other.now c.args.sites.now.colour c.args.sites.now.z (2 * c.pairs.i) c.lend-around.result c.pairs.row
+    c.requires.lawful (omega arith) c.lend-around.ensures c.pairs.invariant.row
+
+pub sweep_pair-requires-clause-rows_behind : goal.sweep_pair-requires-clause-rows_behind
+sweep_pair-requires-clause-rows_behind g c =
     let l = c.args.sites.now.couplings.now.size in
     let whole = ap (λ n. n * (n / 2)) (sym c.requires.size) in
     let second = c.row_behind-behind.ensures l c.args.sites.now.colour c.args.sites.now.z (2 * c.pairs.i) c.requires.lawful (omega arith) whole c.pairs.invariant.row in
     rows-lent c.args.sites.now.couplings.now c.args.other.now c.args.sites.now.colour c.args.sites.now.z (2 * c.pairs.i + 1) c.lend-around.result c.row_behind-behind.result
     c.requires.lawful (omega arith) c.lend-around.ensures second
+
+pub sweep_pair-requires-clause-behind : goal.sweep_pair-requires-clause-behind
+sweep_pair-requires-clause-behind g c =
+    let l = c.args.sites.now.couplings.now.size in
+    let whole = ap (λ n. n * (n / 2)) (sym c.requires.size) in
+    let second = c.row_behind-behind.ensures l c.args.sites.now.colour c.args.sites.now.z (2 * c.pairs.i) c.requires.lawful (omega arith) whole c.pairs.invariant.row in
+    rows-joined l c.args.sites.now.colour c.args.sites.now.z (2 * c.pairs.i) c.pairs.row c.row_behind-behind.result c.requires.lawful c.pairs.invariant.row second
 
 pub row_behind-row-requires-clause-here : goal.row_behind-row-requires-clause-here
 row_behind-row-requires-clause-here g c =
@@ -63,17 +70,13 @@ pairs-preserved g c =
     let rule : SlotRule = c.copy_in_order-rule.result in
     let whole = ap (λ n. n * (n / 2)) (sym c.requires.size) in
     let second = c.row_behind-behind.ensures l c.args.sites.now.colour c.args.sites.now.z y lawful (omega arith) whole c.pairs.invariant.row in
-    let one =
-    row-swept couplings c.args.other.now rule c.args.draws.now c.args.sites.now.colour c.args.sites.now.z y c.lend-around.result c.pairs.row c.args.own.now c.pairs.own c.sweep_row.new.own
-    lawful (omega arith) c.requires.own c.lend-around.ensures c.pairs.invariant.row c.pairs.invariant.words c.sweep_row.ensures
-    in
     let both =
-    row-swept couplings c.args.other.now rule c.args.draws.now c.args.sites.now.colour c.args.sites.now.z (y + 1) c.lend-around.result c.row_behind-behind.result c.args.own.now c.sweep_row.new.own c.sweep_row-in-pairs.new.own
-    lawful (omega arith) c.requires.own c.lend-around.ensures second one c.sweep_row-in-pairs.ensures
+    pair-swept couplings c.args.other.now rule c.args.draws.now c.args.sites.now.colour c.args.sites.now.z y c.lend-around.result c.pairs.row c.row_behind-behind.result c.args.own.now c.pairs.own c.sweep_pair.new.own
+    lawful (omega arith) c.requires.own c.lend-around.ensures c.pairs.invariant.row second c.pairs.invariant.words c.sweep_pair.ensures
     in
     let third = c.row_behind-row.ensures l c.args.sites.now.colour c.args.sites.now.z (y + 1) lawful (omega arith) whole second in
     let place : y + 1 + 1 ≡ 2 * (c.pairs.i + 1) = omega arith in
-    let W : ℕ → Type 0 = λ n. SweepsWords couplings c.args.other.now rule c.args.draws.now c.args.sites.now.colour c.args.sites.now.z (n * (l / 2)) c.args.own.now c.sweep_row-in-pairs.new.own in
+    let W : ℕ → Type 0 = λ n. SweepsWords couplings c.args.other.now rule c.args.draws.now c.args.sites.now.colour c.args.sites.now.z (n * (l / 2)) c.args.own.now c.sweep_pair.new.own in
     let R : ℕ → Type 0 = λ n. IsRow l c.args.sites.now.colour c.args.sites.now.z n c.row_behind-row.result in
     record { words = subst W place both; row = subst R place third }
 
