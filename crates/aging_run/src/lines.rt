@@ -1,8 +1,8 @@
 //! The lines of an aging run: its first, those of the overlaps, and its last.
 
-ghost use Rattle.std.specs.Prelude.{◌≡◌, ◌+◌, ◌<◌, ◌≤◌, [], ◌++◌, length, OnOk, OnErr};
-ghost use Rattle.glass_edges.specs.Causes.{HasCause};
-ghost use Rattle.glass_edges.specs.Contents.{appended, AppendsPrefix, PutsFront, line_room};
+ghost use Rattle.std.specs.Prelude.{◌≡◌, ◌+◌, ◌<◌, ◌≤◌, [], ◌++◌, length};
+ghost use Rattle.glass_edges.specs.Contents.{line_room};
+ghost use Rattle.glass_edges.specs.Writes.{Writes, WritesFront};
 ghost use Rattle.aging_run.specs.Aging as lines;
 ghost use Rattle.aging_run.specs.Measuring.{overlap_in};
 
@@ -42,11 +42,7 @@ pub(crate) fn write_header<O: Sink>(
     samples: u32,
     wait: u64,
 ) -> Result<(), Fault>
-    ensures whole { OnOk result (O.taken out.new
-        ≡ appended (O.taken out.old) (lines.header_line plan.now samples wait)) }
-    ensures prefix { OnErr result
-        (AppendsPrefix (O.taken out.old) (O.taken out.new) (lines.header_line plan.now samples wait)) }
-    ensures cause { HasCause (O.faults out.old) (O.faults out.new) result }
+    ensures { Writes O.Sink out.old out.new (lines.header_line plan.now samples wait) result }
 {
     let mut line = Line::new();
     fill_header(&mut line, plan, samples, wait);
@@ -81,11 +77,8 @@ pub(crate) fn add_overlap<O: Sink>(
     sample: u32,
 ) -> Result<(), Fault>
     requires { sample < 64 }
-    ensures front { OnOk result (PutsFront (O.taken out.old) (O.taken out.new)
-        (text.old ++ lines.overlap_line measured.now.place.slot measured.now.place.copy measured.now.time sample (overlap_in measured.now.agreeing.now.words measured.now.sites sample)) text.new) }
-    ensures prefix { OnErr result (AppendsPrefix (O.taken out.old) (O.taken out.new)
-        (text.old ++ lines.overlap_line measured.now.place.slot measured.now.place.copy measured.now.time sample (overlap_in measured.now.agreeing.now.words measured.now.sites sample))) }
-    ensures cause { HasCause (O.faults out.old) (O.faults out.new) result }
+    ensures { WritesFront O.Sink out.old out.new
+        (text.old ++ lines.overlap_line measured.now.place.slot measured.now.place.copy measured.now.time sample (overlap_in measured.now.agreeing.now.words measured.now.sites sample)) text.new result }
 {
     text.make_room(out, OVERLAP_ROOM)?;
     fill_overlap(text, measured, sample);
@@ -122,9 +115,7 @@ fn overlap_of(measured: &Measured, sample: u32) -> i64
 
 /// Puts the last line.
 pub(crate) fn write_end<O: Sink>(out: &mut O) -> Result<(), Fault>
-    ensures whole { OnOk result (O.taken out.new ≡ appended (O.taken out.old) lines.end_line) }
-    ensures prefix { OnErr result (AppendsPrefix (O.taken out.old) (O.taken out.new) lines.end_line) }
-    ensures cause { HasCause (O.faults out.old) (O.faults out.new) result }
+    ensures { Writes O.Sink out.old out.new lines.end_line result }
 {
     put_all(out, b"end\n")
 }

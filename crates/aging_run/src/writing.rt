@@ -1,10 +1,9 @@
 //! The text of an aging run: the sweeps, and the overlaps with the spins that are kept.
 
-ghost use Rattle.std.specs.Prelude.{◌≡◌, ◌<◌, ◌≤◌, ◌++◌, OnOk, OnErr};
+ghost use Rattle.std.specs.Prelude.{◌<◌, ◌≤◌, ◌++◌};
 ghost use Rattle.aging_run.specs.Aging as text;
 ghost use Rattle.aging_run.specs.Measuring.{overlap_in};
-ghost use Rattle.glass_edges.specs.Causes.{HasCause};
-ghost use Rattle.glass_edges.specs.Contents.{appended, AppendsPrefix, PutsFront};
+ghost use Rattle.glass_edges.specs.Writes.{Writes, WritesFront};
 ghost use Rattle.spin_model.specs.Limits.{most_sweeps};
 ghost use Rattle.plane_sweep.specs.Packed.{part, part_copy, part_slot, StandFits, FitsDuo, FitsReplica};
 ghost use Rattle.scalar_rule.specs.Plan.{slots_of};
@@ -55,11 +54,8 @@ pub fn write_aging<R: Threads + Sync, O: Sink>(
     requires few_samples { samples ≤ 64 }
     requires wait { wait ≤ most_sweeps }
     requires times { text.AreTimes times.now }
-    ensures whole { OnOk result (O.taken out.new ≡ appended (O.taken out.old)
-        (text.aging_text plan.now samples wait times.now (λ b. part plan.now.size b aging))) }
-    ensures prefix { OnErr result (AppendsPrefix (O.taken out.old) (O.taken out.new)
-        (text.aging_text plan.now samples wait times.now (λ b. part plan.now.size b aging))) }
-    ensures cause { HasCause (O.faults out.old) (O.faults out.new) result }
+    ensures { Writes O.Sink out.old out.new
+        (text.aging_text plan.now samples wait times.now (λ b. part plan.now.size b aging)) result }
 {
     let Aging {
         mut stand,
@@ -89,11 +85,8 @@ fn write_slots<R: Threads + Sync, O: Sink>(
     requires samples { order.now.samples ≤ 64 }
     requires wait { order.now.wait ≤ most_sweeps }
     requires times { text.AreTimes order.now.times.now }
-    ensures whole { OnOk result (O.taken out.new ≡ appended (O.taken out.old)
-        (text.all_lines order.now.plan.now order.now.samples order.now.wait order.now.times.now (λ b. part order.now.plan.now.size b stand.old) (slots_of order.now.plan.now))) }
-    ensures prefix { OnErr result (AppendsPrefix (O.taken out.old) (O.taken out.new)
-        (text.all_lines order.now.plan.now order.now.samples order.now.wait order.now.times.now (λ b. part order.now.plan.now.size b stand.old) (slots_of order.now.plan.now))) }
-    ensures cause { HasCause (O.faults out.old) (O.faults out.new) result }
+    ensures { Writes O.Sink out.old out.new
+        (text.all_lines order.now.plan.now order.now.samples order.now.wait order.now.times.now (λ b. part order.now.plan.now.size b stand.old) (slots_of order.now.plan.now)) result }
 {
     'slots: for slot in 0..order.plan.slots() {
         write_slot(
@@ -123,11 +116,8 @@ fn write_slot<R: Threads + Sync, O: Sink>(
     requires samples { order.now.samples ≤ 64 }
     requires wait { order.now.wait ≤ most_sweeps }
     requires times { text.AreTimes order.now.times.now }
-    ensures whole { OnOk result (O.taken out.new ≡ appended (O.taken out.old)
-        (text.slot_lines order.now.plan.now order.now.samples order.now.wait order.now.times.now slot (λ b. part_slot order.now.plan.now.size b duo.old))) }
-    ensures prefix { OnErr result (AppendsPrefix (O.taken out.old) (O.taken out.new)
-        (text.slot_lines order.now.plan.now order.now.samples order.now.wait order.now.times.now slot (λ b. part_slot order.now.plan.now.size b duo.old))) }
-    ensures cause { HasCause (O.faults out.old) (O.faults out.new) result }
+    ensures written { Writes O.Sink out.old out.new
+        (text.slot_lines order.now.plan.now order.now.samples order.now.wait order.now.times.now slot (λ b. part_slot order.now.plan.now.size b duo.old)) result }
     ensures room { FitsReplica order.now.plan.now.size kept.new }
 {
     let first = ReplicaPlace { slot, copy: 0 };
@@ -151,11 +141,8 @@ fn write_replica<R: Threads + Sync, O: Sink>(
     requires samples { order.now.samples ≤ 64 }
     requires wait { order.now.wait ≤ most_sweeps }
     requires times { text.AreTimes order.now.times.now }
-    ensures whole { OnOk result (O.taken out.new ≡ appended (O.taken out.old)
-        (text.replica_lines order.now.plan.now order.now.samples order.now.wait order.now.times.now place.slot place.copy (λ b. part_copy order.now.plan.now.size b replica.old))) }
-    ensures prefix { OnErr result (AppendsPrefix (O.taken out.old) (O.taken out.new)
-        (text.replica_lines order.now.plan.now order.now.samples order.now.wait order.now.times.now place.slot place.copy (λ b. part_copy order.now.plan.now.size b replica.old))) }
-    ensures cause { HasCause (O.faults out.old) (O.faults out.new) result }
+    ensures written { Writes O.Sink out.old out.new
+        (text.replica_lines order.now.plan.now order.now.samples order.now.wait order.now.times.now place.slot place.copy (λ b. part_copy order.now.plan.now.size b replica.old)) result }
     ensures room { FitsReplica order.now.plan.now.size kept.new }
 {
     let lattice = order.plan.lattice();
@@ -182,11 +169,8 @@ fn write_replica<R: Threads + Sync, O: Sink>(
 // Puts the lines of a replica at one time, from the agreeing sites of each sample.
 fn write_time<O: Sink>(out: &mut O, measured: &Measured, samples: u32) -> Result<(), Fault>
     requires { samples ≤ 64 }
-    ensures whole { OnOk result (O.taken out.new ≡ appended (O.taken out.old)
-        (text.time_lines measured.now.place.slot measured.now.place.copy measured.now.time (overlap_in measured.now.agreeing.now.words measured.now.sites) samples)) }
-    ensures prefix { OnErr result (AppendsPrefix (O.taken out.old) (O.taken out.new)
-        (text.time_lines measured.now.place.slot measured.now.place.copy measured.now.time (overlap_in measured.now.agreeing.now.words measured.now.sites) samples)) }
-    ensures cause { HasCause (O.faults out.old) (O.faults out.new) result }
+    ensures { Writes O.Sink out.old out.new
+        (text.time_lines measured.now.place.slot measured.now.place.copy measured.now.time (overlap_in measured.now.agreeing.now.words measured.now.sites) samples) result }
 {
     let mut line = Line::new();
     add_time(out, &mut line, measured, samples)?;
@@ -201,11 +185,8 @@ fn add_time<O: Sink>(
     samples: u32,
 ) -> Result<(), Fault>
     requires { samples ≤ 64 }
-    ensures front { OnOk result (PutsFront (O.taken out.old) (O.taken out.new)
-        (line.old ++ text.time_lines measured.now.place.slot measured.now.place.copy measured.now.time (overlap_in measured.now.agreeing.now.words measured.now.sites) samples) line.new) }
-    ensures prefix { OnErr result (AppendsPrefix (O.taken out.old) (O.taken out.new)
-        (line.old ++ text.time_lines measured.now.place.slot measured.now.place.copy measured.now.time (overlap_in measured.now.agreeing.now.words measured.now.sites) samples)) }
-    ensures cause { HasCause (O.faults out.old) (O.faults out.new) result }
+    ensures { WritesFront O.Sink out.old out.new
+        (line.old ++ text.time_lines measured.now.place.slot measured.now.place.copy measured.now.time (overlap_in measured.now.agreeing.now.words measured.now.sites) samples) line.new result }
 {
     'samples: for b in 0..samples {
         add_overlap(out, line, measured, b)?;

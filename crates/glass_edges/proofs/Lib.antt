@@ -7,3 +7,4 @@ pub mod NumberBytes
 pub mod Numerals
 pub mod Puts
 pub mod Putting
+pub mod Writing

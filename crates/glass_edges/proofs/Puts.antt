@@ -51,10 +51,6 @@ text-rest first text k = append_assoc first (take k text) (drop k text) ∙ ap (
 pub front-none : (before : Option (List ℕ)) (text : List ℕ) → PutsFront before before text text
 front-none before text = record { front = []; whole = refl; same = sym (appended-nothing before) }
 
--- all of the text is put
-pub front-all : (before now : Option (List ℕ)) (text : List ℕ) → now ≡ appended before text → PutsFront before now text []
-front-all before now text whole = record { front = text; whole = sym (append-nil text); same = whole }
-
 -- more is added behind the text, and so behind the rest
 pub front-more : (before now : Option (List ℕ)) (text rest more : List ℕ) → PutsFront before now text rest → PutsFront before now (text ++ more) (rest ++ more)
 front-more before now text rest more p = record {
@@ -78,15 +74,6 @@ front-whole before mid now text rest p whole = whole ∙ ap (λ o. appended o re
 -- a prefix of the rest is put too, so a prefix of the text is
 pub front-prefix : (before mid now : Option (List ℕ)) (text rest : List ℕ) → PutsFront before mid text rest → AppendsPrefix mid now rest → AppendsPrefix before now text
 front-prefix before mid now text rest p q = subst (AppendsPrefix before now) (sym p.whole) (prefix_past before mid now p.front rest p.same q)
-
--- a round of a loop: room was made behind the line, and a piece added there
-pub front-step : (before mid now : Option (List ℕ)) (text line room piece added : List ℕ) → PutsFront before mid text line → PutsFront mid now line room → added ≡ room ++ piece → PutsFront before now (text ++ piece) added
-front-step before mid now text line room piece added p q e =
-    subst (PutsFront before now (text ++ piece)) (sym e) (front-more before now text room piece (front-then before mid now text line room p q))
-
--- such a round failed: a prefix of the whole text is put
-pub front-failed : (before mid now : Option (List ℕ)) (text line rest : List ℕ) → PutsFront before mid text line → AppendsPrefix mid now line → AppendsPrefix before now (text ++ rest)
-front-failed before mid now text line rest p q = prefix_front before now text rest (front-prefix before mid now text line p q)
 
 pub OnErr_of : {T E P : Type 0} → (r : Result T E) → P → OnErr r P
 OnErr_of (Ok x) p = tt

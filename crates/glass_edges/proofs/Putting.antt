@@ -43,11 +43,6 @@ add-failed before mid now line text piece end whole rest so_far failed is =
     let all = prefix_front before now ((line ++ text) ++ piece) end here in
     subst (AppendsPrefix before now) (ap (λ xs. xs ++ end) (append_assoc line text piece) ∙ append_assoc line (text ++ piece) end ∙ ap (λ xs. line ++ xs) (sym is)) all
 
--- the first piece failed
-pub add-first-failed : (before now : Option (List ℕ)) (line piece end whole : List ℕ) → AppendsPrefix before now (line ++ piece) → whole ≡ piece ++ end → AppendsPrefix before now (line ++ whole)
-add-first-failed before now line piece end whole failed is =
-    subst (AppendsPrefix before now) (append_assoc line piece end ∙ ap (λ xs. line ++ xs) (sym is)) (prefix_front before now (line ++ piece) end failed)
-
 -- ---- a text of three parts
 
 pub put-two : (before x y : Option (List ℕ)) (a b : List ℕ) → x ≡ appended before a → y ≡ appended x b → y ≡ appended before (a ++ b)
@@ -63,7 +58,3 @@ failed-second before x now a b c whole is first p = subst (AppendsPrefix before 
 pub failed-third : (before x y now : Option (List ℕ)) (a b c whole : List ℕ) → whole ≡ a ++ b ++ c → x ≡ appended before a → y ≡ appended x b → AppendsPrefix y now c → AppendsPrefix before now whole
 failed-third before x y now a b c whole is first second p =
     subst (AppendsPrefix before now) (sym is) (prefix_past before y now (a ++ b) c (put-two before x y a b first second) p)
-
--- none failed
-pub put-three : (before x y now : Option (List ℕ)) (a b c whole : List ℕ) → whole ≡ a ++ b ++ c → x ≡ appended before a → y ≡ appended x b → now ≡ appended y c → now ≡ appended before whole
-put-three before x y now a b c whole is first second third = put-two before y now (a ++ b) c (put-two before x y a b first second) third ∙ ap (appended before) (sym is)

@@ -8,6 +8,7 @@ pub mod MemoryStore
 pub mod Numbers
 pub mod Refusals
 pub mod Sealed
+pub mod Writes
 -- what stores keep, and what the steps inside say: for proofs alone
 pub mod Entries
 pub mod FileBytes

@@ -4,6 +4,7 @@
 //! and files, and the fixed buffer in which every line of text is made.
 #![tactic(auto)]
 
+mod all_bytes;
 mod decimal;
 mod entries;
 mod file_bytes;
@@ -25,6 +26,7 @@ mod shelf;
 mod sink;
 mod stream_sink;
 
+pub use all_bytes::put_all;
 pub use decimal::{is_numeral, value_of};
 pub use file_name::is_file_name;
 pub use file_shelf::FileShelf;
@@ -39,5 +41,5 @@ pub use numbers::u32_at;
 pub use refused::{Fault, NoMemory};
 pub use sealed::stored_digest;
 pub use shelf::{Fetched, Shelf};
-pub use sink::{Sink, put_all};
+pub use sink::Sink;
 pub use stream_sink::StreamSink;

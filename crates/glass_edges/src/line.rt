@@ -3,7 +3,8 @@
 ghost use Rattle.std.specs.Prelude.{◌≡◌, ℕ, ◌+◌, ◌<◌, ◌≤◌, ◌↔◌, IsTrue, List, [], ◌++◌, length, decimal, Ok, OnOk, OnErr};
 ghost use Rattle.std.specs.Fmt.{signed_decimal};
 ghost use Rattle.glass_edges.specs.Causes.{HasCause};
-ghost use Rattle.glass_edges.specs.Contents.{appended, AppendsPrefix, PutsFront, TellsBytes, line_room};
+ghost use Rattle.glass_edges.specs.Contents.{TellsBytes, line_room};
+ghost use Rattle.glass_edges.specs.Writes.{Writes, WritesFront};
 
 use crate::{Fault, Sink, put_all};
 use std::marker::Model;
@@ -103,9 +104,7 @@ impl Line {
     /// Puts the text and makes it empty. At an error, which counts a fault, the output has taken a
     /// prefix of it, and the line keeps all of it.
     pub fn put<O: Sink>(&mut self, out: &mut O) -> Result<(), Fault>
-        ensures whole { OnOk result (O.taken out.new ≡ appended (O.taken out.old) self.old) }
-        ensures prefix { OnErr result (AppendsPrefix (O.taken out.old) (O.taken out.new) self.old) }
-        ensures cause { HasCause (O.faults out.old) (O.faults out.new) result }
+        ensures written { Writes O.Sink out.old out.new self.old result }
         ensures emptied { OnOk result (self.new ≡ []) }
         ensures kept { OnErr result (self.new ≡ self.old) }
     {
@@ -120,9 +119,7 @@ impl Line {
     pub fn make_room<O: Sink>(&mut self, out: &mut O, count: usize) -> Result<(), Fault>
         requires { count ≤ line_room }
         ensures room { OnOk result (length self.new + count ≤ line_room) }
-        ensures front { OnOk result (PutsFront (O.taken out.old) (O.taken out.new) self.old self.new) }
-        ensures prefix { OnErr result (AppendsPrefix (O.taken out.old) (O.taken out.new) self.old) }
-        ensures cause { HasCause (O.faults out.old) (O.faults out.new) result }
+        ensures written { WritesFront O.Sink out.old out.new self.old self.new result }
         ensures stays { length self.old + count ≤ line_room
             → (result ≡ Ok tt) × (self.new ≡ self.old) × (out.new ≡ out.old) }
     {
@@ -136,9 +133,7 @@ impl Line {
     /// them fit nothing is put. At an error, which counts a fault, the output has taken a prefix of the
     /// text and these bytes.
     pub fn extend<O: Sink>(&mut self, out: &mut O, bytes: &[u8]) -> Result<(), Fault>
-        ensures front { OnOk result (PutsFront (O.taken out.old) (O.taken out.new) (self.old ++ bytes.now) self.new) }
-        ensures prefix { OnErr result (AppendsPrefix (O.taken out.old) (O.taken out.new) (self.old ++ bytes.now)) }
-        ensures cause { HasCause (O.faults out.old) (O.faults out.new) result }
+        ensures written { WritesFront O.Sink out.old out.new (self.old ++ bytes.now) self.new result }
         ensures stays { length self.old + length bytes.now ≤ line_room
             → (result ≡ Ok tt) × (self.new ≡ self.old ++ bytes.now) × (out.new ≡ out.old) }
     {
@@ -161,10 +156,8 @@ impl Line {
         byte_at: F,
     ) -> Result<(), Fault>
         requires { (k : ℕ) → k < count → F.pre byte_at k }
-        ensures front { (text : List ℕ) → TellsBytes (F.post byte_at) count text
-            → OnOk result (PutsFront (O.taken out.old) (O.taken out.new) (self.old ++ text) self.new) }
-        ensures prefix { (text : List ℕ) → TellsBytes (F.post byte_at) count text
-            → OnErr result (AppendsPrefix (O.taken out.old) (O.taken out.new) (self.old ++ text)) }
+        ensures written { (text : List ℕ) → TellsBytes (F.post byte_at) count text
+            → WritesFront O.Sink out.old out.new (self.old ++ text) self.new result }
         ensures cause { HasCause (O.faults out.old) (O.faults out.new) result }
     {
         'bytes: for k in 0..count {

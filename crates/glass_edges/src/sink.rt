@@ -1,8 +1,8 @@
 //! Outputs that take bytes.
 
-ghost use Rattle.std.specs.Prelude.{◌≡◌, ℕ, ◌<◌, ◌≤◌, List, [], length, take, Option, Ok, IfOk, OnOk, OnErr};
+ghost use Rattle.std.specs.Prelude.{◌≡◌, ℕ, ◌<◌, ◌≤◌, List, length, take, Option, IfOk, OnErr};
 ghost use Rattle.glass_edges.specs.Causes.{HasCause};
-ghost use Rattle.glass_edges.specs.Contents.{appended, AppendsPrefix};
+ghost use Rattle.glass_edges.specs.Contents.{appended};
 
 use crate::Fault;
 
@@ -22,20 +22,4 @@ pub trait Sink {
         ensures some { IfOk result (λ n. 0 < length piece.now → 0 < n) }
         ensures kept { OnErr result (taken self.new ≡ taken self.old) }
         ensures cause { HasCause (faults self.old) (faults self.new) result };
-}
-
-/// Puts all of the bytes, piece by piece; where there are none it makes no put. It ends at the first
-/// error, which counts a fault: the output has then taken a prefix of them.
-#[tactic(auto, using(crate::proofs::Puts::appended_rest, crate::proofs::Puts::rest_left))]
-pub fn put_all<S: Sink>(sink: &mut S, bytes: &[u8]) -> Result<(), Fault>
-    ensures whole { OnOk result (S.taken sink.new ≡ appended (S.taken sink.old) bytes.now) }
-    ensures prefix { OnErr result (AppendsPrefix (S.taken sink.old) (S.taken sink.new) bytes.now) }
-    ensures cause { HasCause (S.faults sink.old) (S.faults sink.new) result }
-    ensures nothing { bytes.now ≡ [] → (result ≡ Ok tt) × (sink.new ≡ sink.old) }
-{
-    let mut at = 0;
-    'pieces: while at < bytes.len() {
-        at += sink.put(&bytes[at..])?;
-    }
-    Ok(())
 }

@@ -2,7 +2,6 @@ pub mod SpinText
 pub mod Fetching
 pub mod SwapPairs
 pub mod PrintedBytes
-pub mod LongLines
 pub mod StoppedRuns
 pub mod OpenedRuns
 pub mod DemoRuns

@@ -1,6 +1,8 @@
 -- An output and a store of files at one moment, as far as they are observable.
 use Rattle.std.specs.Prelude.{ℕ, List, Option}
 use Rattle.glass_edges.specs.Contents.{Files}
+use Rattle.glass_edges.specs.declared.shelf.Shelf.{Ghosts as Shelf}
+use Rattle.glass_edges.specs.declared.sink.Sink.{Ghosts as Sink}
 
 -- what an output has taken, and how often it has failed
 pub record Output : Type 0 where
@@ -14,10 +16,10 @@ pub record Store : Type 0 where
   pub faults : ℕ
   pub lengths : List ℕ → ℕ → Option ℕ
 
--- an output, by its trait's two meanings
-abbrev pub output : {S : Type 0} → (S → Option (List ℕ)) → (S → ℕ) → S → Output
-output taken faults s = record { taken = taken s; faults = faults s }
+-- an output, by what its trait says of it
+abbrev pub output : {S : Type 0} → Sink S → S → Output
+output sink s = record { taken = sink.taken s; faults = sink.faults s }
 
--- a store, by its trait's three meanings
-abbrev pub store : {S : Type 0} → (S → Option Files) → (S → ℕ) → (S → List ℕ → ℕ → Option ℕ) → S → Store
-store holds faults lengths s = record { holds = holds s; faults = faults s; lengths = lengths s }
+-- a store, by what its trait says of it
+abbrev pub store : {S : Type 0} → Shelf S → S → Store
+store shelf s = record { holds = shelf.holds s; faults = shelf.faults s; lengths = shelf.lengths s }

@@ -1,9 +1,8 @@
 //! The command `age`: each replica of a run is swept from its opening state, without exchange, and its spins
 //! are compared with those that it had after a waiting time.
 
-ghost use Rattle.std.specs.Prelude.{◌≡◌, Some, IfOk, OnOk, OnErr};
-ghost use Rattle.glass_edges.specs.Causes.{HasCause};
-ghost use Rattle.glass_edges.specs.Contents.{appended, AppendsPrefix};
+ghost use Rattle.std.specs.Prelude.{Some, IfOk};
+ghost use Rattle.glass_edges.specs.Writes.{Writes};
 ghost use Rattle.plane_sweep.specs.Packed.{StandFits, StandsFor};
 ghost use Rattle.run_plan.specs.RunFile.{AreLawfulOrders};
 ghost use Rattle.scalar_rule.specs.Opening.{opening};
@@ -32,8 +31,8 @@ pub(crate) fn age<R: Threads + Sync, H: Shelf, O: Sink>(
 ) -> Ending
     requires { IsLawfulAge order.now }
     ensures { Ends (Some (commands.Age (read_age_order order.now))) result
-        (store H.holds H.faults H.lengths shelf.old) (store H.holds H.faults H.lengths shelf.new)
-        (output O.taken O.faults out.old) (output O.taken O.faults out.new) }
+        (store H.Shelf shelf.old) (store H.Shelf shelf.new)
+        (output O.Sink out.old) (output O.Sink out.new) }
 {
     let planned = match gather_plan(alloc, shelf, order.run) {
         Ok(planned) => planned,
@@ -69,11 +68,8 @@ fn put_aging<R: Threads + Sync, O: Sink>(
     requires fits { StandFits planned.now.plan aging }
     requires orders { AreLawfulOrders planned.now.orders }
     requires order { IsLawfulAge order.now }
-    ensures whole { OnOk result (O.taken out.new ≡ appended (O.taken out.old)
-        (age_text planned.now (read_age_order order.now).wait (read_age_order order.now).times)) }
-    ensures prefix { OnErr result (AppendsPrefix (O.taken out.old) (O.taken out.new)
-        (age_text planned.now (read_age_order order.now).wait (read_age_order order.now).times)) }
-    ensures cause { HasCause (O.faults out.old) (O.faults out.new) result }
+    ensures { Writes O.Sink out.old out.new
+        (age_text planned.now (read_age_order order.now).wait (read_age_order order.now).times) result }
 {
     // The text of a packed state is that of the states that it stands for.
     text_is_of_the_states();

@@ -28,8 +28,8 @@ pub(crate) fn average<H: Shelf, O: Sink>(
 ) -> Ending
     requires { IsLawfulAverage order.now }
     ensures { Ends (Some (commands.Average (read_average_order order.now))) result
-        (store H.holds H.faults H.lengths shelf.old) (store H.holds H.faults H.lengths shelf.new)
-        (output O.taken O.faults out.old) (output O.taken O.faults out.new) }
+        (store H.Shelf shelf.old) (store H.Shelf shelf.new)
+        (output O.Sink out.old) (output O.Sink out.new) }
 {
     let averages = match gather_averages(alloc, shelf, order) {
         Ok(averages) => averages,
@@ -53,7 +53,7 @@ fn gather_averages<H: Shelf>(
     ensures passed { OnOk result (H.faults shelf.new ≡ H.faults shelf.old) }
     ensures stopped { IfErr result (λ ending. (o : outside.Output)
         → Ends (Some (commands.Average (read_average_order order.now))) ending
-        (store H.holds H.faults H.lengths shelf.old) (store H.holds H.faults H.lengths shelf.new) o o) }
+        (store H.Shelf shelf.old) (store H.Shelf shelf.new) o o) }
     ensures same { H.holds shelf.new ≡ H.holds shelf.old }
     ensures later { H.faults shelf.old ≤ H.faults shelf.new }
 {
@@ -77,7 +77,7 @@ fn gather_report<H: Shelf>(
     ensures passed { OnOk result (H.faults shelf.new ≡ H.faults shelf.old) }
     ensures stopped { IfErr result (λ ending. (o : outside.Output)
         → Ends (Some (commands.Average (read_average_order order.now))) ending
-        (store H.holds H.faults H.lengths shelf.old) (store H.holds H.faults H.lengths shelf.new) o o) }
+        (store H.Shelf shelf.old) (store H.Shelf shelf.new) o o) }
     ensures same { H.holds shelf.new ≡ H.holds shelf.old }
     ensures later { H.faults shelf.old ≤ H.faults shelf.new }
 {

@@ -46,14 +46,14 @@ pub(crate) fn finish_banks<R: Threads + Wait + Sync, H: Shelf, O: Sink, G: Gate 
     requires order { IsLawfulOrder order.now }
     requires ready { AreReady (name_bytes order.now.save) opened }
     ensures ending { IsOfOpenRun (name_bytes order.now.save) result }
-    ensures out { Printed result (output O.taken O.faults out.old) (output O.taken O.faults out.new) }
+    ensures out { Printed result (output O.Sink out.old) (output O.Sink out.new) }
     ensures files { Kept (name_bytes order.now.save) result
-        (store H.holds H.faults H.lengths shelf.old) (store H.holds H.faults H.lengths shelf.new) }
+        (store H.Shelf shelf.old) (store H.Shelf shelf.new) }
     ensures wrote { (planned : model.PlannedBanks) (starts : List (ℕ → Sample)) (until : ℕ)
         → AreRunsOf planned starts until opened.banks
         → Wrote (name_bytes order.now.save) (Some (Ok (BanksWork planned starts until))) result
-        (store H.holds H.faults H.lengths shelf.old) (store H.holds H.faults H.lengths shelf.new)
-        (output O.taken O.faults out.old) (output O.taken O.faults out.new) }
+        (store H.Shelf shelf.old) (store H.Shelf shelf.new)
+        (output O.Sink out.old) (output O.Sink out.new) }
     ensures later { O.faults out.old ≤ O.faults out.new }
     ensures later_store { H.faults shelf.old ≤ H.faults shelf.new }
 {
@@ -83,11 +83,11 @@ fn save_run<H: Shelf>(
     requires plans { map arc_value plans.now ≡ plans_of (runs_of done.old) }
     requires saved { name_bytes order.now.save ≢ None → All (λ (d : DoneView). d.run.saves ≢ saves.Never) done.old }
     ensures placed { OnOk result (Saved (name_bytes order.now.save) (runs_checkpoint (runs_of done.old))
-        (store H.holds H.faults H.lengths shelf.old) (store H.holds H.faults H.lengths shelf.new)) }
+        (store H.Shelf shelf.old) (store H.Shelf shelf.new)) }
     ensures unsought { OnOk result (Unsought (name_bytes order.now.save)
-        (store H.holds H.faults H.lengths shelf.old) (store H.holds H.faults H.lengths shelf.new)) }
+        (store H.Shelf shelf.old) (store H.Shelf shelf.new)) }
     ensures others { OnErr result (Unplaced (name_bytes order.now.save)
-        (store H.holds H.faults H.lengths shelf.old) (store H.holds H.faults H.lengths shelf.new)) }
+        (store H.Shelf shelf.old) (store H.Shelf shelf.new)) }
     ensures named { OnErr result (name_bytes order.now.save ≢ None) }
     ensures cause { HasCause (H.faults shelf.old) (H.faults shelf.new) result }
 {

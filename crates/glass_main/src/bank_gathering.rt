@@ -38,7 +38,7 @@ pub(crate) fn gather_plans<H: Shelf>(
 ) -> Result<Plans, Ending>
     ensures asked { Gathers (option_map (model.plans_at many name.now) (H.holds shelf.old))
         (IsReached many name.now (H.holds shelf.old)) result
-        (store H.holds H.faults H.lengths shelf.old) (store H.holds H.faults H.lengths shelf.new) }
+        (store H.Shelf shelf.old) (store H.Shelf shelf.new) }
     ensures orders { IfOk result HasLawfulOrders }
 {
     let file = gather_run_file(alloc, shelf, name, many)?;
@@ -55,7 +55,7 @@ fn gather_after_run_file<H: Shelf>(
     requires lawful { IsLawfulRunFile file.now }
     ensures asked { Gathers (option_map (model.plans_after_file file.now) (H.holds shelf.old))
         (IsReachedAfter file.now (H.holds shelf.old)) result
-        (store H.holds H.faults H.lengths shelf.old) (store H.holds H.faults H.lengths shelf.new) }
+        (store H.Shelf shelf.old) (store H.Shelf shelf.new) }
     ensures orders { IfOk result HasLawfulOrders }
 {
     if file.orders.samples <= BANK_SAMPLES {
@@ -78,7 +78,7 @@ fn gather_banks<H: Shelf>(
     requires several { 64 < file.now.orders.samples }
     ensures asked { Gathers (option_map (model.banks_after_file file.now) (H.holds shelf.old))
         (IsReachedAfter file.now (H.holds shelf.old)) result
-        (store H.holds H.faults H.lengths shelf.old) (store H.holds H.faults H.lengths shelf.new) }
+        (store H.Shelf shelf.old) (store H.Shelf shelf.new) }
 {
     let rules = gather_rules(alloc, shelf, file)?;
     gather_after_rules(alloc, shelf, file, &rules)
@@ -97,7 +97,7 @@ fn gather_after_rules<H: Shelf>(
     requires rules { rule_table file.now.kind rules.now.bytes ≡ Ok rules.now.rules }
     ensures asked { Gathers (option_map (model.banks_after_rules file.now rules.now.rules) (H.holds shelf.old))
         (IsReachedAfterRules file.now rules.now.rules (H.holds shelf.old)) result
-        (store H.holds H.faults H.lengths shelf.old) (store H.holds H.faults H.lengths shelf.new) }
+        (store H.Shelf shelf.old) (store H.Shelf shelf.new) }
 {
     let swaps = gather_swaps(alloc, shelf, file, &rules.rules)?;
     gather_after_tables(alloc, shelf, file, rules, &swaps)
@@ -118,8 +118,7 @@ fn gather_after_tables<H: Shelf>(
     requires swaps { swap_table (length rules.now.rules.rows) swaps.now.bytes ≡ Ok swaps.now.swaps }
     requires pairs { length swaps.now.swaps + 1 ≡ length rules.now.rules.rows }
     ensures asked { Gathers (option_map (model.banks_after_tables file.now rules.now.rules swaps.now.swaps) (H.holds shelf.old))
-        (Fetches Role.Couplings) result
-        (store H.holds H.faults H.lengths shelf.old) (store H.holds H.faults H.lengths shelf.new) }
+        (Fetches Role.Couplings) result (store H.Shelf shelf.old) (store H.Shelf shelf.new) }
 {
     let stored = gather_stored(alloc, shelf, &file.couplings)?;
     match read_banks(alloc, file, rules, swaps, stored.as_slice()) {
@@ -164,8 +163,7 @@ fn gather_stored<H: Shelf>(
     source: &CouplingSource,
 ) -> Result<Items<u8>, Ending>
     ensures { Gathers (option_map (model.stored_at source.now) (H.holds shelf.old))
-        (Fetches Role.Couplings) result
-        (store H.holds H.faults H.lengths shelf.old) (store H.holds H.faults H.lengths shelf.new) }
+        (Fetches Role.Couplings) result (store H.Shelf shelf.old) (store H.Shelf shelf.new) }
 {
     match source {
         CouplingSource::Plus => Ok(Items::of(Vec::new(alloc))),

@@ -34,7 +34,7 @@ pub(crate) fn gather_stands<H: Shelf>(
 ) -> Result<Items<Stand>, Ending>
     ensures asked { Begins (name_bytes name.entry) (BanksStand planned.now.plans)
         (option_map (model.banks_beginning_at (name_bytes name.entry) planned.now until) (H.holds shelf.old))
-        result (store H.holds H.faults H.lengths shelf.old) (store H.holds H.faults H.lengths shelf.new) }
+        result (store H.Shelf shelf.old) (store H.Shelf shelf.new) }
     ensures resumable { IfOk result (AreResumable planned.now.plans until) }
     ensures bytes { IfOk result (λ stands. ResumesBytes (name_bytes name.entry) (H.holds shelf.old)) }
 {
@@ -85,7 +85,7 @@ fn gather_checkpoint<H: Shelf>(
 ) -> Result<Items<Stand>, Ending>
     ensures asked { Begins (Some name.now) (BanksStand planned.now.plans)
         (option_map (model.banks_checkpoint_at planned.now until name.now) (H.holds shelf.old))
-        result (store H.holds H.faults H.lengths shelf.old) (store H.holds H.faults H.lengths shelf.new) }
+        result (store H.Shelf shelf.old) (store H.Shelf shelf.new) }
     ensures resumable { IfOk result (AreResumable planned.now.plans until) }
     ensures bytes { IfOk result (λ stands. HasBytes (H.holds shelf.old) name.now) }
 {

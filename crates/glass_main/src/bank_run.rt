@@ -52,8 +52,8 @@ pub(crate) fn run_banks<R: Threads + Wait + Sync, H: Shelf, O: Sink, G: Gate + S
     requires planned { IfSome (option_map (plans_at (has_banks asked.order.stop_after) asked.order.run.now)
         (H.holds shelf.old)) (λ said. said ≡ Ok (Plans.Banks asked.planned)) }
     ensures ends { Ends (Some (commands.Run (read_run_order asked.entry.order))) result
-        (store H.holds H.faults H.lengths shelf.old) (store H.holds H.faults H.lengths shelf.new)
-        (output O.taken O.faults out.old) (output O.taken O.faults out.new) }
+        (store H.Shelf shelf.old) (store H.Shelf shelf.new)
+        (output O.Sink out.old) (output O.Sink out.new) }
     ensures bytes { result ≡ Ending.Done → ResumesBytes (name_bytes asked.entry.order.from) (H.holds shelf.old) }
 {
     // What the banks print and save is the serial dynamics'.

@@ -1,9 +1,8 @@
 //! The command `check`: a run file, its tables and couplings are read, and the digest of its plan, or of the
 //! plans of its banks, printed.
 
-ghost use Rattle.std.specs.Prelude.{◌≡◌, ◌+◌, ◌≤◌, [], ◌++◌, length, Some, OnOk, OnErr};
-ghost use Rattle.glass_edges.specs.Causes.{HasCause};
-ghost use Rattle.glass_edges.specs.Contents.{appended, AppendsPrefix};
+ghost use Rattle.std.specs.Prelude.{◌≡◌, ◌+◌, ◌≤◌, [], ◌++◌, length, Some};
+ghost use Rattle.glass_edges.specs.Writes.{Writes};
 ghost use Rattle.command_words.specs.CommandLine.{Check};
 ghost use Rattle.glass_main.specs.Outside.{output, store};
 ghost use Rattle.glass_main.specs.Statuses.{Ends};
@@ -28,8 +27,8 @@ pub(crate) fn check<H: Shelf, O: Sink>(
     name: &str,
 ) -> Ending
     ensures { Ends (Some (Check name.now)) result
-        (store H.holds H.faults H.lengths shelf.old) (store H.holds H.faults H.lengths shelf.new)
-        (output O.taken O.faults out.old) (output O.taken O.faults out.new) }
+        (store H.Shelf shelf.old) (store H.Shelf shelf.new)
+        (output O.Sink out.old) (output O.Sink out.new) }
 {
     let plans = match gather_plans(alloc, shelf, name, true) {
         Ok(plans) => plans,
@@ -43,9 +42,7 @@ pub(crate) fn check<H: Shelf, O: Sink>(
 
 // Prints the line of a run's plans.
 fn put_plans<O: Sink>(out: &mut O, plans: &Plans) -> Result<(), Fault>
-    ensures whole { OnOk result (O.taken out.new ≡ appended (O.taken out.old) (check_text plans.now)) }
-    ensures prefix { OnErr result (AppendsPrefix (O.taken out.old) (O.taken out.new) (check_text plans.now)) }
-    ensures cause { HasCause (O.faults out.old) (O.faults out.new) result }
+    ensures { Writes O.Sink out.old out.new (check_text plans.now) result }
 {
     match plans {
         Plans::One(planned) => put_one(out, planned),
@@ -55,9 +52,7 @@ fn put_plans<O: Sink>(out: &mut O, plans: &Plans) -> Result<(), Fault>
 
 // Prints the line of a run of one bank.
 fn put_one<O: Sink>(out: &mut O, planned: &Planned) -> Result<(), Fault>
-    ensures whole { OnOk result (O.taken out.new ≡ appended (O.taken out.old) (check_text (Plans.One planned.now))) }
-    ensures prefix { OnErr result (AppendsPrefix (O.taken out.old) (O.taken out.new) (check_text (Plans.One planned.now))) }
-    ensures cause { HasCause (O.faults out.old) (O.faults out.new) result }
+    ensures { Writes O.Sink out.old out.new (check_text (Plans.One planned.now)) result }
 {
     let plan = &planned.plan;
     put_plan(out, plan, planned.orders.samples, &digest(plan))
@@ -66,9 +61,7 @@ fn put_one<O: Sink>(out: &mut O, planned: &Planned) -> Result<(), Fault>
 // Prints the line of a run of several banks, by the plan of the first and the digest of all.
 #[tactic(auto, unfolding(crate::specs::Texts::banks_line))]
 fn put_banks<O: Sink>(out: &mut O, planned: &PlannedBanks) -> Result<(), Fault>
-    ensures whole { OnOk result (O.taken out.new ≡ appended (O.taken out.old) (check_text (Plans.Banks planned.now))) }
-    ensures prefix { OnErr result (AppendsPrefix (O.taken out.old) (O.taken out.new) (check_text (Plans.Banks planned.now))) }
-    ensures cause { HasCause (O.faults out.old) (O.faults out.new) result }
+    ensures { Writes O.Sink out.old out.new (check_text (Plans.Banks planned.now)) result }
 {
     let digest = digest_banks(&planned.plans);
     put_plan(out, &planned.plans[0], planned.orders.samples, &digest)
@@ -76,11 +69,7 @@ fn put_banks<O: Sink>(out: &mut O, planned: &PlannedBanks) -> Result<(), Fault>
 
 // Prints the line of a plan, for so many samples, with a digest.
 fn put_plan<O: Sink>(out: &mut O, plan: &Plan, samples: u32, digest: &[u8; 32]) -> Result<(), Fault>
-    ensures whole { OnOk result (O.taken out.new ≡ appended (O.taken out.old)
-        (plan_line plan.now samples digest.now)) }
-    ensures prefix { OnErr result (AppendsPrefix (O.taken out.old) (O.taken out.new)
-        (plan_line plan.now samples digest.now)) }
-    ensures cause { HasCause (O.faults out.old) (O.faults out.new) result }
+    ensures { Writes O.Sink out.old out.new (plan_line plan.now samples digest.now) result }
 {
     let mut line = Line::new();
     add_sizes(&mut line, plan, samples);

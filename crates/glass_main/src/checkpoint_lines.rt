@@ -18,8 +18,7 @@ use run_checkpoint::CheckpointRefused;
 /// Writes why the checkpoint was refused.
 #[tactic(auto, unfolding(crate::specs::Lines::checkpoint_line, crate::specs::Lines::memory_line))]
 pub(crate) fn say_checkpoint<E: Sink>(err: &mut E, refused: &CheckpointRefused)
-    ensures { Says (checkpoint_line refused.now) (output E.taken E.faults err.old)
-        (output E.taken E.faults err.new) }
+    ensures { Says (checkpoint_line refused.now) (output E.Sink err.old) (output E.Sink err.new) }
 {
     let file = Role::Checkpoint;
     match *refused {
@@ -60,7 +59,7 @@ pub(crate) fn say_checkpoint<E: Sink>(err: &mut E, refused: &CheckpointRefused)
 fn say_other_plan<E: Sink>(err: &mut E, stored: &[u8; 32], mine: &[u8; 32])
     ensures { Says (file_front Role.Checkpoint ++ codes " is of another plan: " ++ encode_lower stored.now
         ++ codes " stored, " ++ encode_lower mine.now ++ codes " here\n")
-        (output E.taken E.faults err.old) (output E.taken E.faults err.new) }
+        (output E.Sink err.old) (output E.Sink err.new) }
 {
     let before = b" is of another plan: ";
     say_digests(err, Role::Checkpoint, before, stored, mine, b" here\n");
@@ -68,7 +67,7 @@ fn say_other_plan<E: Sink>(err: &mut E, stored: &[u8; 32], mine: &[u8; 32])
 
 fn say_place<E: Sink>(err: &mut E, slot: u32)
     ensures { Says (file_front Role.Checkpoint ++ codes " has a wrong place at slot " ++ decimal slot
-        ++ codes "\n") (output E.taken E.faults err.old) (output E.taken E.faults err.new) }
+        ++ codes "\n") (output E.Sink err.old) (output E.Sink err.new) }
 {
     let before = b" has a wrong place at slot ";
     say_file_number(err, Role::Checkpoint, before, slot as u64, b"\n");
@@ -77,7 +76,7 @@ fn say_place<E: Sink>(err: &mut E, slot: u32)
 fn say_label<E: Sink>(err: &mut E, slot: u32, copy: u32, sample: u32)
     ensures { Says (file_front Role.Checkpoint ++ codes " has a wrong replica at slot " ++ decimal slot
         ++ codes ", copy " ++ decimal copy ++ codes ", sample " ++ decimal sample ++ codes "\n")
-        (output E.taken E.faults err.old) (output E.taken E.faults err.new) }
+        (output E.Sink err.old) (output E.Sink err.new) }
 {
     let mut line = Line::new();
     add_file(&mut line, Role::Checkpoint);
@@ -91,7 +90,7 @@ fn say_label<E: Sink>(err: &mut E, slot: u32, copy: u32, sample: u32)
 fn say_bank<E: Sink>(err: &mut E, bank: u32, epoch: u64, first: u64)
     ensures { Says (file_front Role.Checkpoint ++ codes " has bank " ++ decimal bank
         ++ codes " at epoch " ++ decimal epoch ++ codes ", not " ++ decimal first ++ codes "\n")
-        (output E.taken E.faults err.old) (output E.taken E.faults err.new) }
+        (output E.Sink err.old) (output E.Sink err.new) }
 {
     let mut line = Line::new();
     add_file(&mut line, Role::Checkpoint);

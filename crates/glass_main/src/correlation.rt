@@ -34,8 +34,8 @@ pub(crate) fn correlation_lines<H: Shelf, O: Sink>(
     order: &LinesOrder<'_>,
 ) -> Ending
     ensures ends { Ends (Some (commands.Lines (read_lines_order order.now))) result
-        (store H.holds H.faults H.lengths shelf.old) (store H.holds H.faults H.lengths shelf.new)
-        (output O.taken O.faults out.old) (output O.taken O.faults out.new) }
+        (store H.Shelf shelf.old) (store H.Shelf shelf.new)
+        (output O.Sink out.old) (output O.Sink out.new) }
     ensures bytes { result ≡ Ending.Done → HasBytes (H.holds shelf.old) order.now.checkpoint.now }
 {
     let saved = match gather_saved(alloc, shelf, order) {
@@ -58,7 +58,7 @@ fn gather_saved<H: Shelf>(
 ) -> Result<SavedState, Ending>
     ensures asked { Gathers (option_map (model.saved_at (read_lines_order order.now)) (H.holds shelf.old))
         (IsReachedSaved order.now.run.now (H.holds shelf.old)) result
-        (store H.holds H.faults H.lengths shelf.old) (store H.holds H.faults H.lengths shelf.new) }
+        (store H.Shelf shelf.old) (store H.Shelf shelf.new) }
     ensures level { IfErr result (λ ending. IfRefused ending IsOfOneEpoch) }
     ensures orders { IfOk result (λ saved. AreLawfulOrders saved.planned.orders) }
     ensures fits { IfOk result (λ saved. StandFits saved.planned.plan saved.base) }
@@ -78,8 +78,7 @@ fn gather_stand<H: Shelf>(
     name: &str,
 ) -> Result<Stand, Ending>
     ensures asked { Gathers (option_map (model.stand_at plan.now name.now) (H.holds shelf.old))
-        (Fetches Role.Checkpoint) result
-        (store H.holds H.faults H.lengths shelf.old) (store H.holds H.faults H.lengths shelf.new) }
+        (Fetches Role.Checkpoint) result (store H.Shelf shelf.old) (store H.Shelf shelf.new) }
     ensures level { IfErr result (λ ending. IfRefused ending IsOfOneEpoch) }
     ensures fits { IfOk result (StandFits plan.now) }
     ensures bytes { IfOk result (λ base. HasBytes (H.holds shelf.old) name.now) }

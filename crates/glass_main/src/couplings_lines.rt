@@ -13,8 +13,7 @@ use glass_edges::Sink;
 /// Writes why the couplings file was refused.
 #[tactic(auto, unfolding(crate::specs::Lines::couplings_line, crate::specs::Lines::memory_line))]
 pub(crate) fn say_couplings<E: Sink>(err: &mut E, refused: &CouplingsRefused)
-    ensures { Says (couplings_line refused.now) (output E.taken E.faults err.old)
-        (output E.taken E.faults err.new) }
+    ensures { Says (couplings_line refused.now) (output E.Sink err.old) (output E.Sink err.new) }
 {
     let file = Role::Couplings;
     match *refused {

@@ -1,9 +1,8 @@
 //! The command `demo`: a large run whose plan is made from a number, and its summary.
 
-ghost use Rattle.std.specs.Prelude.{◌≡◌, ◌≤◌, Some, IfOk, OnOk, OnErr};
+ghost use Rattle.std.specs.Prelude.{◌≡◌, ◌≤◌, Some, IfOk};
 ghost use Rattle.std.specs.Arc.{arc_value};
-ghost use Rattle.glass_edges.specs.Causes.{HasCause};
-ghost use Rattle.glass_edges.specs.Contents.{appended, AppendsPrefix};
+ghost use Rattle.glass_edges.specs.Writes.{Writes};
 ghost use Rattle.spin_model.specs.Limits.{greatest_demo};
 ghost use Rattle.command_words.specs.CommandLine as commands;
 ghost use Rattle.glass_main.specs.DemoRun.{IsDemoRun};
@@ -39,8 +38,8 @@ pub(crate) fn demo<R: Threads + Wait + Sync, H: Shelf, O: Sink, G: Gate + Sync>(
 ) -> Ending
     requires { n ≤ greatest_demo }
     ensures ends { Ends (Some (commands.Demo n)) result
-        (store H.holds H.faults H.lengths _shelf.old) (store H.holds H.faults H.lengths _shelf.new)
-        (output O.taken O.faults out.old) (output O.taken O.faults out.new) }
+        (store H.Shelf _shelf.old) (store H.Shelf _shelf.new)
+        (output O.Sink out.old) (output O.Sink out.new) }
     ensures untouched { _shelf.new ≡ _shelf.old }
 {
     let opened = match open_demo(alloc, n) {
@@ -88,9 +87,7 @@ fn put_demo<R: Threads + Wait + Sync, O: Sink, G: Gate + Sync>(
 ) -> Result<(), Fault>
     requires plan { arc_value opened.plan ≡ opened.run.plan }
     requires run { IsDemoRun n opened.run }
-    ensures whole { OnOk result (O.taken out.new ≡ appended (O.taken out.old) (demo_text n)) }
-    ensures prefix { OnErr result (AppendsPrefix (O.taken out.old) (O.taken out.new) (demo_text n)) }
-    ensures cause { HasCause (O.faults out.old) (O.faults out.new) result }
+    ensures { Writes O.Sink out.old out.new (demo_text n) result }
 {
     let Opened { plan, run, .. } = opened;
     let done = drive(rt, run, &plan, PIECES, gate);

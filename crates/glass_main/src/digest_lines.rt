@@ -14,7 +14,7 @@ use glass_edges::{Line, Sink};
 pub(crate) fn say_damage<E: Sink>(err: &mut E, role: Role, stored: &[u8; 32], computed: &[u8; 32])
     ensures { Says (file_front role ++ codes " is damaged: " ++ encode_lower stored.now
         ++ codes " stored, " ++ encode_lower computed.now ++ codes " computed\n")
-        (output E.taken E.faults err.old) (output E.taken E.faults err.new) }
+        (output E.Sink err.old) (output E.Sink err.new) }
 {
     say_digests(
         err,
@@ -37,8 +37,7 @@ pub(crate) fn say_digests<E: Sink>(
 )
     requires { length before.now + length after.now ≤ 80 }
     ensures { Says (file_front role ++ before.now ++ encode_lower stored.now ++ codes " stored, "
-        ++ encode_lower other.now ++ after.now)
-        (output E.taken E.faults err.old) (output E.taken E.faults err.new) }
+        ++ encode_lower other.now ++ after.now) (output E.Sink err.old) (output E.Sink err.new) }
 {
     let mut line = Line::new();
     add_file(&mut line, role);

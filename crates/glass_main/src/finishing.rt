@@ -3,7 +3,7 @@
 ghost use Rattle.std.specs.Prelude.{◌≡◌, ◌≢◌, ℕ, ◌≤◌, Option, Some, None, Ok, OnOk, OnErr};
 ghost use Rattle.std.specs.Arc.{arc_value};
 ghost use Rattle.glass_edges.specs.Causes.{HasCause};
-ghost use Rattle.glass_edges.specs.Contents.{appended, AppendsPrefix};
+ghost use Rattle.glass_edges.specs.Writes.{Writes};
 ghost use Rattle.glass_engine.specs.Runs.{IsEnd};
 ghost use Rattle.glass_main.specs.Beginnings.{Beginning};
 ghost use Rattle.glass_main.specs.Opened.{saves_as, text_at, bytes_at, IsRunOf, IsOfOpenRun};
@@ -49,14 +49,14 @@ pub(crate) fn finish_run<R: Threads + Wait + Sync, H: Shelf, O: Sink, G: Gate + 
     requires plan { arc_value opened.plan ≡ opened.run.plan }
     requires saves { opened.run.saves ≡ saves_as order.now.stop_after (name_bytes order.now.save) }
     ensures ending { IsOfOpenRun (name_bytes order.now.save) result }
-    ensures out { Printed result (output O.taken O.faults out.old) (output O.taken O.faults out.new) }
+    ensures out { Printed result (output O.Sink out.old) (output O.Sink out.new) }
     ensures files { Kept (name_bytes order.now.save) result
-        (store H.holds H.faults H.lengths shelf.old) (store H.holds H.faults H.lengths shelf.new) }
+        (store H.Shelf shelf.old) (store H.Shelf shelf.new) }
     ensures wrote { (planned : model.Planned) (from : Beginning) (until : ℕ)
         → IsRunOf order.now.stop_after planned from until opened.run
         → Wrote (name_bytes order.now.save) (Some (Ok (RunWork planned from until order.now.stop_after))) result
-        (store H.holds H.faults H.lengths shelf.old) (store H.holds H.faults H.lengths shelf.new)
-        (output O.taken O.faults out.old) (output O.taken O.faults out.new) }
+        (store H.Shelf shelf.old) (store H.Shelf shelf.new)
+        (output O.Sink out.old) (output O.Sink out.new) }
     ensures later { O.faults out.old ≤ O.faults out.new }
     ensures later_store { H.faults shelf.old ≤ H.faults shelf.new }
 {
@@ -84,14 +84,10 @@ fn put_run<R: Threads + Sync, O: Sink>(
     out: &mut O,
 ) -> Result<(), Fault>
     requires ended { IsEnd done.now.run done.now.ended }
-    ensures whole { (stop_after : Option ℕ) (planned : model.Planned) (from : Beginning) (until : ℕ)
+    ensures written { (stop_after : Option ℕ) (planned : model.Planned) (from : Beginning) (until : ℕ)
         → IsRunOf stop_after planned from until done.now.run
-        → OnOk result (O.taken out.new ≡ appended (O.taken out.old)
-        (text_at stop_after planned from until done.now.ended.stand)) }
-    ensures prefix { (stop_after : Option ℕ) (planned : model.Planned) (from : Beginning) (until : ℕ)
-        → IsRunOf stop_after planned from until done.now.run
-        → OnErr result (AppendsPrefix (O.taken out.old) (O.taken out.new)
-        (text_at stop_after planned from until done.now.ended.stand)) }
+        → Writes O.Sink out.old out.new
+        (text_at stop_after planned from until done.now.ended.stand) result }
     ensures cause { HasCause (O.faults out.old) (O.faults out.new) result }
 {
     // The report of a run that isn't to stop is that of the rule to its last epoch, and from states at one
@@ -115,11 +111,11 @@ fn save_run<H: Shelf>(
         → IsRunOf order.now.stop_after planned from until done.old.run
         → OnOk result (Saved (name_bytes order.now.save)
         (bytes_at order.now.stop_after planned from until done.old.ended.stand)
-        (store H.holds H.faults H.lengths shelf.old) (store H.holds H.faults H.lengths shelf.new)) }
+        (store H.Shelf shelf.old) (store H.Shelf shelf.new)) }
     ensures unsought { OnOk result (Unsought (name_bytes order.now.save)
-        (store H.holds H.faults H.lengths shelf.old) (store H.holds H.faults H.lengths shelf.new)) }
+        (store H.Shelf shelf.old) (store H.Shelf shelf.new)) }
     ensures others { OnErr result (Unplaced (name_bytes order.now.save)
-        (store H.holds H.faults H.lengths shelf.old) (store H.holds H.faults H.lengths shelf.new)) }
+        (store H.Shelf shelf.old) (store H.Shelf shelf.new)) }
     ensures named { OnErr result (name_bytes order.now.save ≢ None) }
     ensures cause { HasCause (H.faults shelf.old) (H.faults shelf.new) result }
 {

@@ -51,7 +51,7 @@ pub(crate) fn gather_plan<H: Shelf>(
 ) -> Result<Planned, Ending>
     ensures asked { Gathers (option_map (model.plan_at name.now) (H.holds shelf.old))
         (IsReached false name.now (H.holds shelf.old)) result
-        (store H.holds H.faults H.lengths shelf.old) (store H.holds H.faults H.lengths shelf.new) }
+        (store H.Shelf shelf.old) (store H.Shelf shelf.new) }
     ensures orders { IfOk result (λ planned. AreLawfulOrders planned.orders) }
 {
     let file = gather_run_file(alloc, shelf, name, false)?;
@@ -69,7 +69,7 @@ pub(crate) fn gather_after_file<H: Shelf>(
     requires orders { AreLawfulOrders file.now.orders }
     ensures asked { Gathers (option_map (model.plan_after_file file.now) (H.holds shelf.old))
         (IsReachedAfter file.now (H.holds shelf.old)) result
-        (store H.holds H.faults H.lengths shelf.old) (store H.holds H.faults H.lengths shelf.new) }
+        (store H.Shelf shelf.old) (store H.Shelf shelf.new) }
     ensures orders { IfOk result (λ planned. AreLawfulOrders planned.orders) }
 {
     let ReadRules { rules, .. } = gather_rules(alloc, shelf, file)?;
@@ -88,7 +88,7 @@ fn gather_after_rules<H: Shelf>(
     requires orders { AreLawfulOrders file.now.orders }
     ensures asked { Gathers (option_map (model.plan_after_rules file.now rules) (H.holds shelf.old))
         (IsReachedAfterRules file.now rules (H.holds shelf.old)) result
-        (store H.holds H.faults H.lengths shelf.old) (store H.holds H.faults H.lengths shelf.new) }
+        (store H.Shelf shelf.old) (store H.Shelf shelf.new) }
     ensures orders { IfOk result (λ planned. AreLawfulOrders planned.orders) }
 {
     let ReadSwaps { swaps, .. } = gather_swaps(alloc, shelf, file, &rules)?;
@@ -115,8 +115,7 @@ pub(crate) fn gather_run_file<H: Shelf>(
     many: bool,
 ) -> Result<RunFile, Ending>
     ensures asked { Gathers (option_map (model.run_file_at many name.now) (H.holds shelf.old))
-        (Fetches Role.RunFile) result
-        (store H.holds H.faults H.lengths shelf.old) (store H.holds H.faults H.lengths shelf.new) }
+        (Fetches Role.RunFile) result (store H.Shelf shelf.old) (store H.Shelf shelf.new) }
     ensures lawful { IfOk result IsLawfulRunFile }
     ensures orders { many ≡ false → IfOk result (λ file. AreLawfulOrders file.orders) }
 {
@@ -150,7 +149,7 @@ pub(crate) fn gather_rules<H: Shelf>(
 ) -> Result<ReadRules, Ending>
     ensures asked { Gathers (option_map (model.rules_at file.now) (H.holds shelf.old))
         (Fetches Role.RuleTable) (rules_read result)
-        (store H.holds H.faults H.lengths shelf.old) (store H.holds H.faults H.lengths shelf.new) }
+        (store H.Shelf shelf.old) (store H.Shelf shelf.new) }
     ensures read { IfOk result (λ read. rule_table file.now.kind read.bytes ≡ Ok read.rules) }
 {
     let bytes = gather_bytes(alloc, shelf, Role::RuleTable, file.rules.as_str())?;
@@ -171,7 +170,7 @@ pub(crate) fn gather_swaps<H: Shelf>(
 ) -> Result<ReadSwaps, Ending>
     ensures asked { Gathers (option_map (model.swaps_at file.now rules.now) (H.holds shelf.old))
         (Fetches Role.SwapTable) (swaps_read result)
-        (store H.holds H.faults H.lengths shelf.old) (store H.holds H.faults H.lengths shelf.new) }
+        (store H.Shelf shelf.old) (store H.Shelf shelf.new) }
     ensures read { IfOk result (λ read. swap_table (length rules.now.rows) read.bytes ≡ Ok read.swaps) }
     ensures pairs { IfOk result (λ read. length read.swaps + 1 ≡ length rules.now.rows) }
 {
@@ -191,8 +190,7 @@ fn gather_couplings<H: Shelf>(
     file: &RunFile,
 ) -> Result<Couplings, Ending>
     ensures asked { Gathers (option_map (model.couplings_at file.now) (H.holds shelf.old))
-        (Fetches Role.Couplings) result
-        (store H.holds H.faults H.lengths shelf.old) (store H.holds H.faults H.lengths shelf.new) }
+        (Fetches Role.Couplings) result (store H.Shelf shelf.old) (store H.Shelf shelf.new) }
     ensures size { IfOk result (λ couplings. couplings.size ≡ file.now.lattice) }
 {
     let made = match &file.couplings {
@@ -216,8 +214,7 @@ fn gather_couplings_file<H: Shelf>(
     name: &str,
 ) -> Result<Couplings, Ending>
     ensures asked { Gathers (option_map (model.couplings_file_at lattice name.now) (H.holds shelf.old))
-        (Fetches Role.Couplings) result
-        (store H.holds H.faults H.lengths shelf.old) (store H.holds H.faults H.lengths shelf.new) }
+        (Fetches Role.Couplings) result (store H.Shelf shelf.old) (store H.Shelf shelf.new) }
     ensures size { IfOk result (λ couplings. couplings.size ≡ lattice) }
 {
     let bytes = gather_bytes(alloc, shelf, Role::Couplings, name)?;
@@ -256,8 +253,7 @@ pub(crate) fn gather_bytes<H: Shelf>(
     name: &str,
 ) -> Result<Items<u8>, Ending>
     ensures asked { Gathers (option_map (model.bytes_at role name.now) (H.holds shelf.old))
-        (Fetches role) result
-        (store H.holds H.faults H.lengths shelf.old) (store H.holds H.faults H.lengths shelf.new) }
+        (Fetches role) result (store H.Shelf shelf.old) (store H.Shelf shelf.new) }
     // A fetch is refused for no format, and so for none of a checkpoint that is not at one epoch.
     ensures level { IfErr result (λ ending. IfRefused ending IsOfOneEpoch) }
     ensures bytes { IfOk result AreBytes }
@@ -275,8 +271,7 @@ fn fetch_bytes<H: Shelf>(
     name: &str,
 ) -> Result<Items<u8>, Ending>
     ensures asked { Gathers (option_map (model.bytes_at role name.now) (H.holds shelf.old))
-        (Fetches role) result
-        (store H.holds H.faults H.lengths shelf.old) (store H.holds H.faults H.lengths shelf.new) }
+        (Fetches role) result (store H.Shelf shelf.old) (store H.Shelf shelf.new) }
     ensures level { IfErr result (λ ending. IfRefused ending IsOfOneEpoch) }
 {
     gathered(role, shelf.fetch(alloc, name, role.limit()))

@@ -18,7 +18,7 @@ use glass_edges::{Line, Sink, put_all};
 /// Writes the line of an ending on the error output. A fault of that output changes nothing else.
 #[tactic(auto, unfolding(crate::specs::Lines::line_of, crate::specs::Lines::memory_line))]
 pub(crate) fn tell<E: Sink>(err: &mut E, ending: &Ending)
-    ensures { Told ending.now (output E.taken E.faults err.old) (output E.taken E.faults err.new) }
+    ensures { Told ending.now (output E.Sink err.old) (output E.Sink err.new) }
 {
     match ending {
         Ending::Done => {}
@@ -34,7 +34,7 @@ pub(crate) fn tell<E: Sink>(err: &mut E, ending: &Ending)
 /// the status.
 pub fn no_memory<E: Sink>(err: &mut E) -> u8
     ensures status { result ≡ status_of Ending.NoMemory }
-    ensures err { Told Ending.NoMemory (output E.taken E.faults err.old) (output E.taken E.faults err.new) }
+    ensures err { Told Ending.NoMemory (output E.Sink err.old) (output E.Sink err.new) }
 {
     tell(err, &Ending::NoMemory);
     status(&Ending::NoMemory)
@@ -42,8 +42,7 @@ pub fn no_memory<E: Sink>(err: &mut E) -> u8
 
 #[tactic(auto, unfolding(crate::specs::Lines::refusal_line))]
 fn say_refusal<E: Sink>(err: &mut E, refusal: &Refusal)
-    ensures { Says (refusal_line refusal.now) (output E.taken E.faults err.old)
-        (output E.taken E.faults err.new) }
+    ensures { Says (refusal_line refusal.now) (output E.Sink err.old) (output E.Sink err.new) }
 {
     match refusal {
         Refusal::Words => say(err, b"glass: the command line is not understood\n"),
@@ -68,7 +67,7 @@ fn say_refusal<E: Sink>(err: &mut E, refusal: &Refusal)
 fn say_role<E: Sink>(err: &mut E, before: &[u8], role: Role, after: &[u8])
     requires { length before.now + length after.now ≤ 100 }
     ensures { Says (before.now ++ role_name role ++ after.now)
-        (output E.taken E.faults err.old) (output E.taken E.faults err.new) }
+        (output E.Sink err.old) (output E.Sink err.new) }
 {
     let mut line = Line::new();
     line.add(before);
@@ -91,8 +90,7 @@ pub(crate) fn add_file(line: &mut Line, role: Role)
 /// Writes a line on a file.
 pub(crate) fn say_end<E: Sink>(err: &mut E, role: Role, end: &[u8])
     requires { length end.now ≤ 100 }
-    ensures { Says (file_front role ++ end.now)
-        (output E.taken E.faults err.old) (output E.taken E.faults err.new) }
+    ensures { Says (file_front role ++ end.now) (output E.Sink err.old) (output E.Sink err.new) }
 {
     let mut line = Line::new();
     add_file(&mut line, role);
@@ -110,7 +108,7 @@ pub(crate) fn say_file_number<E: Sink>(
 )
     requires { length before.now + length after.now ≤ 100 }
     ensures { Says (file_front role ++ before.now ++ decimal number ++ after.now)
-        (output E.taken E.faults err.old) (output E.taken E.faults err.new) }
+        (output E.Sink err.old) (output E.Sink err.new) }
 {
     let mut line = Line::new();
     add_file(&mut line, role);
@@ -145,8 +143,7 @@ pub(crate) fn say_file_numbers<E: Sink>(
 )
     requires { length before.now + length between.now + length after.now ≤ 100 }
     ensures { Says (file_front role ++ before.now ++ decimal numbers.first ++ between.now
-        ++ decimal numbers.second ++ after.now)
-        (output E.taken E.faults err.old) (output E.taken E.faults err.new) }
+        ++ decimal numbers.second ++ after.now) (output E.Sink err.old) (output E.Sink err.new) }
 {
     let mut line = Line::new();
     add_file(&mut line, role);
@@ -166,7 +163,7 @@ pub(crate) fn say_other_number<E: Sink>(
 )
     requires { length between.now ≤ 80 }
     ensures { Says (file_front role ++ codes " has " ++ decimal found ++ between.now ++ decimal wanted
-        ++ codes "\n") (output E.taken E.faults err.old) (output E.taken E.faults err.new) }
+        ++ codes "\n") (output E.Sink err.old) (output E.Sink err.new) }
 {
     let numbers = Numbers::of(found, wanted);
     say_file_numbers(err, role, numbers, b" has ", between, b"\n");
@@ -182,7 +179,7 @@ pub(crate) fn say_number<E: Sink>(
 )
     requires { length line.old + length before.now + length after.now ≤ 200 }
     ensures { Says (line.old ++ before.now ++ decimal number ++ after.now)
-        (output E.taken E.faults err.old) (output E.taken E.faults err.new) }
+        (output E.Sink err.old) (output E.Sink err.new) }
 {
     line.add(before);
     line.number(number);
@@ -193,7 +190,7 @@ pub(crate) fn say_number<E: Sink>(
 /// Writes a line, the end of which is lost where the error output fails.
 #[tactic(auto, unfolding(crate::specs::Statuses::Says))]
 pub(crate) fn say<E: Sink>(err: &mut E, line: &[u8])
-    ensures { Says line.now (output E.taken E.faults err.old) (output E.taken E.faults err.new) }
+    ensures { Says line.now (output E.Sink err.old) (output E.Sink err.new) }
 {
     match put_all(err, line) {
         Ok(()) => {}

@@ -1,8 +1,7 @@
 //! The command `plain`: one replica of the ferromagnet, its energy and its spins.
 
-ghost use Rattle.std.specs.Prelude.{◌≡◌, ◌+◌, ◌≤◌, [], ◌++◌, length, Some, OnOk, OnErr};
-ghost use Rattle.glass_edges.specs.Causes.{HasCause};
-ghost use Rattle.glass_edges.specs.Contents.{appended, AppendsPrefix};
+ghost use Rattle.std.specs.Prelude.{◌≡◌, ◌+◌, ◌≤◌, [], ◌++◌, length, Some};
+ghost use Rattle.glass_edges.specs.Writes.{Writes};
 ghost use Rattle.scalar_rule.specs.Sums.{energy};
 ghost use Rattle.spin_model.specs.Couplings.{plus};
 ghost use Rattle.spin_model.specs.Lattice.{volume};
@@ -28,8 +27,8 @@ pub(crate) fn plain<H: Shelf, O: Sink>(
     order: &PlainOrder,
 ) -> Ending
     ensures ends { Ends (Some (Plain (read_order order.now))) result
-        (store H.holds H.faults H.lengths _shelf.old) (store H.holds H.faults H.lengths _shelf.new)
-        (output O.taken O.faults out.old) (output O.taken O.faults out.new) }
+        (store H.Shelf _shelf.old) (store H.Shelf _shelf.new)
+        (output O.Sink out.old) (output O.Sink out.new) }
     ensures untouched { _shelf.new ≡ _shelf.old }
 {
     match plain_run(
@@ -52,10 +51,7 @@ fn put_plain<O: Sink>(out: &mut O, order: &PlainOrder, run: &PlainOut) -> Result
     requires spins { run.now.spins ≡ plain_spins (read_order order.now) }
     requires energy { run.now.energy ≡ energy order.now.lattice (plus 0) run.now.spins }
     requires sites { length run.now.spins ≡ volume order.now.lattice }
-    ensures whole { OnOk result (O.taken out.new ≡ appended (O.taken out.old) (plain_text (read_order order.now))) }
-    ensures prefix { OnErr result
-        (AppendsPrefix (O.taken out.old) (O.taken out.new) (plain_text (read_order order.now))) }
-    ensures cause { HasCause (O.faults out.old) (O.faults out.new) result }
+    ensures { Writes O.Sink out.old out.new (plain_text (read_order order.now)) result }
 {
     let mut line = Line::new();
     add_header(&mut line, order);

@@ -1,9 +1,8 @@
 //! The lines of a refused run file.
 
-ghost use Rattle.std.specs.Prelude.{◌≡◌, ◌+◌, ◌≤◌, ◌++◌, codes, decimal, length, map, OnOk, OnErr};
+ghost use Rattle.std.specs.Prelude.{◌≡◌, ◌+◌, ◌≤◌, ◌++◌, codes, decimal, length, map};
 ghost use Rattle.std.specs.Fmt.{signed_decimal};
-ghost use Rattle.glass_edges.specs.Causes.{HasCause};
-ghost use Rattle.glass_edges.specs.Contents.{appended, AppendsPrefix, PutsFront};
+ghost use Rattle.glass_edges.specs.Writes.{Writes, WritesFront};
 ghost use Rattle.run_plan.specs.RunFile.{name_of};
 ghost use Rattle.glass_main.specs.Lines.{plan_line, printable};
 ghost use Rattle.glass_main.specs.Outside.{output};
@@ -17,8 +16,7 @@ use run_plan::{Key, PlanRefused};
 /// Writes why a run file was refused, or the amount of what it orders.
 #[tactic(auto, unfolding(crate::specs::Lines::plan_line, crate::specs::Lines::memory_line))]
 pub(crate) fn say_plan<E: Sink>(err: &mut E, refused: &PlanRefused)
-    ensures { Says (plan_line refused.now) (output E.taken E.faults err.old)
-        (output E.taken E.faults err.new) }
+    ensures { Says (plan_line refused.now) (output E.Sink err.old) (output E.Sink err.new) }
 {
     match refused {
         PlanRefused::Toml => say(err, b"glass: the run file is not TOML\n"),
@@ -42,7 +40,7 @@ pub(crate) fn say_plan<E: Sink>(err: &mut E, refused: &PlanRefused)
 fn say_key<E: Sink>(err: &mut E, key: Key, after: &[u8])
     requires { length after.now ≤ 100 }
     ensures { Says (codes "glass: key " ++ name_of key ++ after.now)
-        (output E.taken E.faults err.old) (output E.taken E.faults err.new) }
+        (output E.Sink err.old) (output E.Sink err.new) }
 {
     let mut line = Line::new();
     line.add(b"glass: key ");
@@ -54,8 +52,7 @@ fn say_key<E: Sink>(err: &mut E, key: Key, after: &[u8])
 // The line of an integer that isn't lawful.
 fn say_range<E: Sink>(err: &mut E, key: Key, value: i64)
     ensures { Says (codes "glass: key " ++ name_of key ++ codes " is out of range: "
-        ++ signed_decimal value ++ codes "\n")
-        (output E.taken E.faults err.old) (output E.taken E.faults err.new) }
+        ++ signed_decimal value ++ codes "\n") (output E.Sink err.old) (output E.Sink err.new) }
 {
     let mut line = Line::new();
     line.add(b"glass: key ");
@@ -70,7 +67,7 @@ fn say_range<E: Sink>(err: &mut E, key: Key, value: i64)
 fn say_count<E: Sink>(err: &mut E, before: &[u8], count: u64)
     requires { length before.now ≤ 100 }
     ensures { Says (before.now ++ decimal count ++ codes "\n")
-        (output E.taken E.faults err.old) (output E.taken E.faults err.new) }
+        (output E.Sink err.old) (output E.Sink err.new) }
 {
     say_number(err, &mut Line::new(), before, count, b"\n");
 }
@@ -87,7 +84,7 @@ fn name(key: Key) -> &'static [u8]
 #[tactic(auto, unfolding(crate::specs::Statuses::Says))]
 fn say_unknown<E: Sink>(err: &mut E, key: &str)
     ensures { Says (codes "glass: unknown key " ++ map printable key.now ++ codes "\n")
-        (output E.taken E.faults err.old) (output E.taken E.faults err.new) }
+        (output E.Sink err.old) (output E.Sink err.new) }
 {
     let mut line = Line::new();
     line.add(b"glass: unknown key ");
@@ -99,11 +96,8 @@ fn say_unknown<E: Sink>(err: &mut E, key: &str)
 
 // Puts what the buffer has, the key behind it, and a line feed.
 fn put_key<E: Sink>(err: &mut E, line: &mut Line, key: &[u8]) -> Result<(), Fault>
-    ensures whole { OnOk result (E.taken err.new
-        ≡ appended (E.taken err.old) (line.old ++ map printable key.now ++ codes "\n")) }
-    ensures prefix { OnErr result (AppendsPrefix (E.taken err.old) (E.taken err.new)
-        (line.old ++ map printable key.now ++ codes "\n")) }
-    ensures cause { HasCause (E.faults err.old) (E.faults err.new) result }
+    ensures { Writes E.Sink err.old err.new
+        (line.old ++ map printable key.now ++ codes "\n") result }
 {
     put_printable(err, line, key)?;
     end_line(err, line)
@@ -111,11 +105,8 @@ fn put_key<E: Sink>(err: &mut E, line: &mut Line, key: &[u8]) -> Result<(), Faul
 
 // Adds the bytes as they are printed; what does not fit goes out in pieces.
 fn put_printable<E: Sink>(err: &mut E, line: &mut Line, bytes: &[u8]) -> Result<(), Fault>
-    ensures front { OnOk result (PutsFront (E.taken err.old) (E.taken err.new)
-        (line.old ++ map printable bytes.now) line.new) }
-    ensures prefix { OnErr result (AppendsPrefix (E.taken err.old) (E.taken err.new)
-        (line.old ++ map printable bytes.now)) }
-    ensures cause { HasCause (E.faults err.old) (E.faults err.new) result }
+    ensures { WritesFront E.Sink err.old err.new
+        (line.old ++ map printable bytes.now) line.new result }
 {
     'bytes: for b in bytes {
         line.make_room(err, 1)?;

@@ -1,9 +1,8 @@
 //! The command `potts`: the four-state Potts glass of 64 samples, and the energies and colours of the
 //! first of them.
 
-ghost use Rattle.std.specs.Prelude.{◌≡◌, ◌≤◌, Some, IfOk, OnOk, OnErr};
-ghost use Rattle.glass_edges.specs.Causes.{HasCause};
-ghost use Rattle.glass_edges.specs.Contents.{appended, AppendsPrefix};
+ghost use Rattle.std.specs.Prelude.{◌≡◌, ◌≤◌, Some, IfOk};
+ghost use Rattle.glass_edges.specs.Writes.{Writes};
 ghost use Rattle.command_words.specs.CommandLine as commands;
 ghost use Rattle.glass_main.specs.Outside.{output, store};
 ghost use Rattle.glass_main.specs.PottsRun.{couplings_made, potts_opened, potts_report, potts_swept};
@@ -27,8 +26,8 @@ pub(crate) fn potts<H: Shelf, O: Sink>(
 ) -> Ending
     requires { IsLawfulPotts order.now }
     ensures ends { Ends (Some (commands.Potts (read_potts_order order.now))) result
-        (store H.holds H.faults H.lengths _shelf.old) (store H.holds H.faults H.lengths _shelf.new)
-        (output O.taken O.faults out.old) (output O.taken O.faults out.new) }
+        (store H.Shelf _shelf.old) (store H.Shelf _shelf.new)
+        (output O.Sink out.old) (output O.Sink out.new) }
     ensures untouched { _shelf.new ≡ _shelf.old }
 {
     let glass = match open_glass(alloc, order) {
@@ -66,11 +65,7 @@ fn make_couplings(alloc: Global, order: &PottsOrder) -> Result<Couplings, NoMemo
 fn put_glass<O: Sink>(out: &mut O, mut glass: Glass, order: &PottsOrder) -> Result<(), Fault>
     requires samples { order.now.samples ≤ 64 }
     requires glass { glass ≡ potts_opened (read_potts_order order.now) }
-    ensures whole { OnOk result (O.taken out.new
-        ≡ appended (O.taken out.old) (potts_report (read_potts_order order.now))) }
-    ensures prefix { OnErr result (AppendsPrefix (O.taken out.old) (O.taken out.new)
-        (potts_report (read_potts_order order.now))) }
-    ensures cause { HasCause (O.faults out.old) (O.faults out.new) result }
+    ensures { Writes O.Sink out.old out.new (potts_report (read_potts_order order.now)) result }
 {
     sweep_glass(&mut glass, &order.row, order.sweeps);
     write_potts(&glass, order.sweeps, order.seed, order.samples, out)

@@ -13,8 +13,7 @@ use sample_average::ReportRefused;
 /// Writes why the report was refused.
 #[tactic(auto, unfolding(crate::specs::Lines::report_line, crate::specs::Lines::memory_line))]
 pub(crate) fn say_report<E: Sink>(err: &mut E, refused: &ReportRefused)
-    ensures { Says (report_line refused.now) (output E.taken E.faults err.old)
-        (output E.taken E.faults err.new) }
+    ensures { Says (report_line refused.now) (output E.Sink err.old) (output E.Sink err.new) }
 {
     match *refused {
         ReportRefused::Line { line } => {
@@ -28,7 +27,7 @@ pub(crate) fn say_report<E: Sink>(err: &mut E, refused: &ReportRefused)
 fn say_blocks<E: Sink>(err: &mut E, blocks: u32, samples: u32)
     ensures { Says (file_front Role.Report ++ codes " has " ++ decimal samples
         ++ codes " samples, too few for " ++ decimal blocks ++ codes " blocks\n")
-        (output E.taken E.faults err.old) (output E.taken E.faults err.new) }
+        (output E.Sink err.old) (output E.Sink err.new) }
 {
     let mut line = Line::new();
     add_file(&mut line, Role::Report);

@@ -35,7 +35,7 @@ pub(crate) fn gather_base<H: Shelf>(
     requires until { until ≤ last_epoch }
     ensures asked { Begins (name_bytes name.entry) (IsBaseOf planned.now.plan)
         (option_map (model.beginning_at (name_bytes name.entry) planned.now until) (H.holds shelf.old))
-        result (store H.holds H.faults H.lengths shelf.old) (store H.holds H.faults H.lengths shelf.new) }
+        result (store H.Shelf shelf.old) (store H.Shelf shelf.new) }
     ensures resumable { IfOk result (IsResumable planned.now until) }
     ensures bytes { IfOk result (λ base. ResumesBytes (name_bytes name.entry) (H.holds shelf.old)) }
 {
@@ -81,7 +81,7 @@ fn gather_checkpoint<H: Shelf>(
     requires until { until ≤ last_epoch }
     ensures asked { Begins (Some name.now) (IsBaseOf planned.now.plan)
         (option_map (model.checkpoint_at planned.now until name.now) (H.holds shelf.old))
-        result (store H.holds H.faults H.lengths shelf.old) (store H.holds H.faults H.lengths shelf.new) }
+        result (store H.Shelf shelf.old) (store H.Shelf shelf.new) }
     ensures resumable { IfOk result (IsResumable planned.now until) }
     ensures bytes { IfOk result (λ base. HasBytes (H.holds shelf.old) name.now) }
 {

@@ -50,8 +50,8 @@ pub(crate) fn run<R: Threads + Wait + Sync, H: Shelf, O: Sink, G: Gate + Sync>(
 ) -> Ending
     requires { IsLawfulOrder order.now }
     ensures ends { Ends (Some (commands.Run (read_run_order order.now))) result
-        (store H.holds H.faults H.lengths shelf.old) (store H.holds H.faults H.lengths shelf.new)
-        (output O.taken O.faults out.old) (output O.taken O.faults out.new) }
+        (store H.Shelf shelf.old) (store H.Shelf shelf.new)
+        (output O.Sink out.old) (output O.Sink out.new) }
     ensures bytes { result ≡ Ending.Done → ResumesBytes (name_bytes order.now.from) (H.holds shelf.old) }
 {
     let plans = match gather_plans(alloc, shelf, order.run, has_banks(order)) {
@@ -87,8 +87,8 @@ fn run_one<R: Threads + Wait + Sync, H: Shelf, O: Sink, G: Gate + Sync>(
     requires planned { IfSome (option_map (model.plans_at (model.has_banks asked.order.stop_after) asked.order.run.now)
         (H.holds shelf.old)) (λ said. said ≡ Ok (Plans.One asked.planned)) }
     ensures ends { Ends (Some (commands.Run (read_run_order asked.entry.order))) result
-        (store H.holds H.faults H.lengths shelf.old) (store H.holds H.faults H.lengths shelf.new)
-        (output O.taken O.faults out.old) (output O.taken O.faults out.new) }
+        (store H.Shelf shelf.old) (store H.Shelf shelf.new)
+        (output O.Sink out.old) (output O.Sink out.new) }
     ensures bytes { result ≡ Ending.Done → ResumesBytes (name_bytes asked.entry.order.from) (H.holds shelf.old) }
 {
     let Asked { order, planned } = asked;

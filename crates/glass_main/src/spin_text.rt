@@ -1,8 +1,7 @@
 //! Spins as hexadecimal digits.
 
-ghost use Rattle.std.specs.Prelude.{◌≡◌, ◌+◌, ◌*◌, ◌<◌, ◌≤◌, ◌++◌, length, OnOk, OnErr};
-ghost use Rattle.glass_edges.specs.Causes.{HasCause};
-ghost use Rattle.glass_edges.specs.Contents.{appended, AppendsPrefix, PutsFront};
+ghost use Rattle.std.specs.Prelude.{◌≡◌, ◌+◌, ◌*◌, ◌<◌, ◌≤◌, ◌++◌, length};
+ghost use Rattle.glass_edges.specs.Writes.{Writes, WritesFront};
 ghost use Rattle.scalar_rule.specs.SpinDigits.{four_spins, spin_digits};
 ghost use Rattle.spin_model.specs.Lattice.{volume};
 ghost use Rattle.glass_main.specs.Texts.{spin_line};
@@ -35,12 +34,7 @@ pub(crate) fn put_spin_line<O: Sink>(
 ) -> Result<(), Fault>
     requires sites { length spins.now ≡ volume lattice.now }
     requires room { length line.old ≤ 200 }
-    ensures whole { OnOk result
-        (O.taken out.new ≡ appended (O.taken out.old) (line.old ++ spin_line lattice.now spins.now)) }
-    ensures prefix { OnErr result
-        (AppendsPrefix (O.taken out.old) (O.taken out.new)
-        (line.old ++ spin_line lattice.now spins.now)) }
-    ensures cause { HasCause (O.faults out.old) (O.faults out.new) result }
+    ensures { Writes O.Sink out.old out.new (line.old ++ spin_line lattice.now spins.now) result }
 {
     line.add(b"spin,");
     put_digits(out, line, lattice, spins)?;
@@ -55,13 +49,8 @@ fn put_digits<O: Sink>(
     spins: &[bool],
 ) -> Result<(), Fault>
     requires { length spins.now ≡ volume lattice.now }
-    ensures front { OnOk result
-        (PutsFront (O.taken out.old) (O.taken out.new)
-        (line.old ++ spin_digits lattice.now spins.now) line.new) }
-    ensures prefix { OnErr result
-        (AppendsPrefix (O.taken out.old) (O.taken out.new)
-        (line.old ++ spin_digits lattice.now spins.now)) }
-    ensures cause { HasCause (O.faults out.old) (O.faults out.new) result }
+    ensures { WritesFront O.Sink out.old out.new
+        (line.old ++ spin_digits lattice.now spins.now) line.new result }
 {
     line.extend_by(out, spins.len() / 4, |k| four_spins(spins, 4 * k))
 }

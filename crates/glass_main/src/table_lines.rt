@@ -13,8 +13,7 @@ use threshold_table::TableRefused;
 /// Writes why the table that is read as this was refused.
 #[tactic(auto, unfolding(crate::specs::Lines::table_line, crate::specs::Lines::memory_line))]
 pub(crate) fn say_table<E: Sink>(err: &mut E, table: Role, refused: &TableRefused)
-    ensures { Says (table_line table refused.now) (output E.taken E.faults err.old)
-        (output E.taken E.faults err.new) }
+    ensures { Says (table_line table refused.now) (output E.Sink err.old) (output E.Sink err.new) }
 {
     match *refused {
         TableRefused::Csv => say_end(err, table, b" is not CSV\n"),
@@ -30,8 +29,7 @@ pub(crate) fn say_table<E: Sink>(err: &mut E, table: Role, refused: &TableRefuse
 
 fn say_fields<E: Sink>(err: &mut E, table: Role, at: u64, found: u64, wanted: u64)
     ensures { Says (record_front table at ++ codes " has " ++ decimal found ++ codes " fields, not "
-        ++ decimal wanted ++ codes "\n")
-        (output E.taken E.faults err.old) (output E.taken E.faults err.new) }
+        ++ decimal wanted ++ codes "\n") (output E.Sink err.old) (output E.Sink err.new) }
 {
     let mut line = Line::new();
     add_record(&mut line, table, at);
@@ -42,7 +40,7 @@ fn say_fields<E: Sink>(err: &mut E, table: Role, at: u64, found: u64, wanted: u6
 
 fn say_no_number<E: Sink>(err: &mut E, table: Role, at: u64, field: u64)
     ensures { Says (field_front table at field ++ codes " is not a number\n")
-        (output E.taken E.faults err.old) (output E.taken E.faults err.new) }
+        (output E.Sink err.old) (output E.Sink err.new) }
 {
     let mut line = Line::new();
     add_field(&mut line, table, at, field);
@@ -52,7 +50,7 @@ fn say_no_number<E: Sink>(err: &mut E, table: Role, at: u64, field: u64)
 
 fn say_too_great<E: Sink>(err: &mut E, table: Role, at: u64, field: u64, value: u64)
     ensures { Says (field_front table at field ++ codes " is too great: " ++ decimal value ++ codes "\n")
-        (output E.taken E.faults err.old) (output E.taken E.faults err.new) }
+        (output E.Sink err.old) (output E.Sink err.new) }
 {
     let mut line = Line::new();
     add_field(&mut line, table, at, field);

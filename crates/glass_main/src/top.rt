@@ -58,9 +58,9 @@ pub fn glass<R: Threads + Wait + Sync, H: Shelf, O: Sink, E: Sink, G: Gate + Syn
 ) -> u8
     // The status is that of an ending, whose cause and leavings are the named ones.
     ensures answers { Answers (command_of (texts words.now)) result
-        (store H.holds H.faults H.lengths shelf.old) (store H.holds H.faults H.lengths shelf.new)
-        (output O.taken O.faults out.old) (output O.taken O.faults out.new)
-        (output E.taken E.faults err.old) (output E.taken E.faults err.new) }
+        (store H.Shelf shelf.old) (store H.Shelf shelf.new)
+        (output O.Sink out.old) (output O.Sink out.new)
+        (output E.Sink err.old) (output E.Sink err.new) }
     ensures words { (result ≡ 2) ↔ (command_of (texts words.now) ≡ None) }
     ensures untouched { ReadsNoFile (command_of (texts words.now)) → shelf.new ≡ shelf.old }
 
@@ -70,17 +70,16 @@ pub fn glass<R: Threads + Wait + Sync, H: Shelf, O: Sink, E: Sink, G: Gate + Syn
         ↔ SaysRun (texts words.now) order }
 
     // A fault that was counted is told by the status.
-    ensures faults { TellsFaults result
-        (store H.holds H.faults H.lengths shelf.old) (store H.holds H.faults H.lengths shelf.new)
-        (output O.taken O.faults out.old) (output O.taken O.faults out.new)
-        (output E.taken E.faults err.old) (output E.taken E.faults err.new) }
+    ensures faults { TellsFaults result (store H.Shelf shelf.old) (store H.Shelf shelf.new)
+        (output O.Sink out.old) (output O.Sink out.new)
+        (output E.Sink err.old) (output E.Sink err.new) }
 
     // With status 0 the output got the text that the request asks for, and the store its checkpoint.
     ensures done { result ≡ 0 → IfSome (request (texts words.now) (H.holds shelf.old)) (λ asked.
         Does (saved_name (command_of (texts words.now))) asked
-        (store H.holds H.faults H.lengths shelf.old) (store H.holds H.faults H.lengths shelf.new)
-        (output O.taken O.faults out.old) (output O.taken O.faults out.new)
-        (output E.taken E.faults err.old) (output E.taken E.faults err.new)) }
+        (store H.Shelf shelf.old) (store H.Shelf shelf.new)
+        (output O.Sink out.old) (output O.Sink out.new)
+        (output E.Sink err.old) (output E.Sink err.new)) }
 
     // And what was asked for is lawful: the plans and the orders of a run, what it began with, and its last
     // epoch, as the laws on runs that go on from one another ask.
@@ -93,9 +92,8 @@ pub fn glass<R: Threads + Wait + Sync, H: Shelf, O: Sink, E: Sink, G: Gate + Syn
     // Where the store did not fail a refusal is told, and where the output did not either the work is
     // done, but for want of memory.
     ensures complete { IfSome (request (texts words.now) (H.holds shelf.old)) (λ asked.
-        Completes asked result
-        (store H.holds H.faults H.lengths shelf.old) (store H.holds H.faults H.lengths shelf.new)
-        (output O.taken O.faults out.old) (output O.taken O.faults out.new)) }
+        Completes asked result (store H.Shelf shelf.old) (store H.Shelf shelf.new)
+        (output O.Sink out.old) (output O.Sink out.new)) }
 {
     let ending = answer(rt, alloc, words, shelf, out, gate);
     tell(err, &ending);
@@ -112,8 +110,8 @@ fn answer<R: Threads + Wait + Sync, H: Shelf, O: Sink, G: Gate + Sync>(
     gate: &G,
 ) -> Ending
     ensures ends { Ends (command_of (texts words.now)) result
-        (store H.holds H.faults H.lengths shelf.old) (store H.holds H.faults H.lengths shelf.new)
-        (output O.taken O.faults out.old) (output O.taken O.faults out.new) }
+        (store H.Shelf shelf.old) (store H.Shelf shelf.new)
+        (output O.Sink out.old) (output O.Sink out.new) }
     ensures untouched { ReadsNoFile (command_of (texts words.now)) → shelf.new ≡ shelf.old }
     ensures bytes { result ≡ Ending.Done → ReadsBytes (command_of (texts words.now)) (H.holds shelf.old) }
 {

@@ -1,8 +1,8 @@
 //! The text of the link overlaps and correlation lines, which goes to the output many lines at a time.
 
-ghost use Rattle.std.specs.Prelude.{◌≡◌, ◌+◌, ◌*◌, ◌<◌, ◌≤◌, pos, ◌-ℤ◌, [], ◌++◌, length, OnOk, OnErr};
-ghost use Rattle.glass_edges.specs.Causes.{HasCause};
-ghost use Rattle.glass_edges.specs.Contents.{appended, AppendsPrefix, PutsFront, line_room};
+ghost use Rattle.std.specs.Prelude.{◌≡◌, ◌+◌, ◌*◌, ◌<◌, ◌≤◌, pos, ◌-ℤ◌, [], ◌++◌, length};
+ghost use Rattle.glass_edges.specs.Contents.{line_room};
+ghost use Rattle.glass_edges.specs.Writes.{Writes, WritesFront};
 ghost use Rattle.multispin_word.specs.Planes.{number};
 ghost use Rattle.overlap_lines.specs.CountedText as counted;
 ghost use Rattle.overlap_lines.specs.LineText as text;
@@ -37,11 +37,8 @@ pub fn write_lines<O: Sink>(
     requires fits { StandFits plan.now base.now }
     requires some { 1 ≤ samples }
     requires few { samples ≤ 64 }
-    ensures whole { OnOk result (O.taken out.new ≡ appended (O.taken out.old)
-        (text.lines_text plan.now samples base.now.epoch (λ b. part plan.now.size b base.now))) }
-    ensures prefix { OnErr result (AppendsPrefix (O.taken out.old) (O.taken out.new)
-        (text.lines_text plan.now samples base.now.epoch (λ b. part plan.now.size b base.now))) }
-    ensures cause { HasCause (O.faults out.old) (O.faults out.new) result }
+    ensures { Writes O.Sink out.old out.new
+        (text.lines_text plan.now samples base.now.epoch (λ b. part plan.now.size b base.now)) result }
 {
     let mut counts = [[[0u64; 20]; COUNTS]; SLOTS];
     count_slots(&mut counts, base, plan);
@@ -58,11 +55,8 @@ fn put_text<O: Sink>(
     epoch: u64,
 ) -> Result<(), Fault>
     requires { samples ≤ 64 }
-    ensures whole { OnOk result (O.taken out.new ≡ appended (O.taken out.old)
-        (counted.counted_text plan.now counts.now samples epoch)) }
-    ensures prefix { OnErr result (AppendsPrefix (O.taken out.old) (O.taken out.new)
-        (counted.counted_text plan.now counts.now samples epoch)) }
-    ensures cause { HasCause (O.faults out.old) (O.faults out.new) result }
+    ensures { Writes O.Sink out.old out.new
+        (counted.counted_text plan.now counts.now samples epoch) result }
 {
     let mut line = Line::new();
     add_header(&mut line, plan, samples, epoch);
@@ -98,11 +92,8 @@ fn add_samples<O: Sink>(
 ) -> Result<(), Fault>
     requires sized { length counts.now ≡ SLOTS }
     requires few { samples ≤ 64 }
-    ensures front { OnOk result (PutsFront (O.taken out.old) (O.taken out.new)
-        (line.old ++ counted.counted_samples plan.now counts.now samples) line.new) }
-    ensures prefix { OnErr result (AppendsPrefix (O.taken out.old) (O.taken out.new)
-        (line.old ++ counted.counted_samples plan.now counts.now samples)) }
-    ensures cause { HasCause (O.faults out.old) (O.faults out.new) result }
+    ensures { WritesFront O.Sink out.old out.new
+        (line.old ++ counted.counted_samples plan.now counts.now samples) line.new result }
 {
     'samples: for b in 0..samples {
         add_sample(out, line, counts, plan, b)?;
@@ -120,11 +111,8 @@ fn add_sample<O: Sink>(
 ) -> Result<(), Fault>
     requires sized { length counts.now ≡ SLOTS }
     requires sample { sample < 64 }
-    ensures front { OnOk result (PutsFront (O.taken out.old) (O.taken out.new)
-        (line.old ++ counted.counted_sample plan.now counts.now sample) line.new) }
-    ensures prefix { OnErr result (AppendsPrefix (O.taken out.old) (O.taken out.new)
-        (line.old ++ counted.counted_sample plan.now counts.now sample)) }
-    ensures cause { HasCause (O.faults out.old) (O.faults out.new) result }
+    ensures { WritesFront O.Sink out.old out.new
+        (line.old ++ counted.counted_sample plan.now counts.now sample) line.new result }
 {
     let lattice = plan.lattice();
     'slots: for t in 0..plan.slots() {
@@ -151,11 +139,8 @@ fn add_slot<O: Sink>(
 ) -> Result<(), Fault>
     requires sized { length counts.now ≡ COUNTS }
     requires sample { slot.sample < 64 }
-    ensures front { OnOk result (PutsFront (O.taken out.old) (O.taken out.new)
-        (line.old ++ counted.counted_slot lattice.now slot.sample slot.number counts.now) line.new) }
-    ensures prefix { OnErr result (AppendsPrefix (O.taken out.old) (O.taken out.new)
-        (line.old ++ counted.counted_slot lattice.now slot.sample slot.number counts.now)) }
-    ensures cause { HasCause (O.faults out.old) (O.faults out.new) result }
+    ensures { WritesFront O.Sink out.old out.new
+        (line.old ++ counted.counted_slot lattice.now slot.sample slot.number counts.now) line.new result }
 {
     let sum = sum_of(&counts[0], slot.sample, 3 * lattice.sites());
     add_link(out, line, slot, sum)?;
@@ -177,11 +162,8 @@ fn add_direction<O: Sink>(
     requires sized { length counts.now ≡ COUNTS }
     requires sample { slot.sample < 64 }
     requires direction { d < 3 }
-    ensures front { OnOk result (PutsFront (O.taken out.old) (O.taken out.new)
-        (line.old ++ counted.counted_direction lattice.now slot.sample slot.number counts.now d) line.new) }
-    ensures prefix { OnErr result (AppendsPrefix (O.taken out.old) (O.taken out.new)
-        (line.old ++ counted.counted_direction lattice.now slot.sample slot.number counts.now d)) }
-    ensures cause { HasCause (O.faults out.old) (O.faults out.new) result }
+    ensures { WritesFront O.Sink out.old out.new
+        (line.old ++ counted.counted_direction lattice.now slot.sample slot.number counts.now d) line.new result }
 {
     let sites = lattice.sites();
     'distances: for k in 0..lattice.size() / 2 {
@@ -202,11 +184,8 @@ fn sum_of(count: &[u64; 20], sample: u32, terms: u32) -> i64
 
 // Adds the line of a link overlap.
 fn add_link<O: Sink>(out: &mut O, line: &mut Line, slot: SampleSlot, sum: i64) -> Result<(), Fault>
-    ensures front { OnOk result (PutsFront (O.taken out.old) (O.taken out.new)
-        (line.old ++ text.link_line slot.sample slot.number sum) line.new) }
-    ensures prefix { OnErr result (AppendsPrefix (O.taken out.old) (O.taken out.new)
-        (line.old ++ text.link_line slot.sample slot.number sum)) }
-    ensures cause { HasCause (O.faults out.old) (O.faults out.new) result }
+    ensures { WritesFront O.Sink out.old out.new
+        (line.old ++ text.link_line slot.sample slot.number sum) line.new result }
 {
     line.make_room(out, LINK_ROOM)?;
     fill_link(line, slot, sum);
@@ -237,11 +216,8 @@ fn add_line<O: Sink>(
     r: u32,
     sum: i64,
 ) -> Result<(), Fault>
-    ensures front { OnOk result (PutsFront (O.taken out.old) (O.taken out.new)
-        (line.old ++ text.line_line slot.sample slot.number d r sum) line.new) }
-    ensures prefix { OnErr result (AppendsPrefix (O.taken out.old) (O.taken out.new)
-        (line.old ++ text.line_line slot.sample slot.number d r sum)) }
-    ensures cause { HasCause (O.faults out.old) (O.faults out.new) result }
+    ensures { WritesFront O.Sink out.old out.new
+        (line.old ++ text.line_line slot.sample slot.number d r sum) line.new result }
 {
     line.make_room(out, SUM_ROOM)?;
     fill_line(line, slot, d, r, sum);

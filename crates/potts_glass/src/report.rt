@@ -1,8 +1,7 @@
 //! The report of a run. Each line goes to the output through a fixed buffer.
 
-ghost use Rattle.std.specs.Prelude.{◌≡◌, ◌+◌, ◌<◌, ◌≤◌, [], ◌++◌, pos, length, slice_index, slice_index_or, OnOk, OnErr};
-ghost use Rattle.glass_edges.specs.Causes.{HasCause};
-ghost use Rattle.glass_edges.specs.Contents.{appended, AppendsPrefix, PutsFront};
+ghost use Rattle.std.specs.Prelude.{◌≡◌, ◌+◌, ◌<◌, ◌≤◌, [], ◌++◌, pos, length, slice_index, slice_index_or};
+ghost use Rattle.glass_edges.specs.Writes.{Writes, WritesFront};
 ghost use Rattle.spin_model.specs.Lattice.{volume};
 ghost use Rattle.spin_model.specs.Steps.{table};
 ghost use Rattle.potts_glass.specs.PottsStates.{state_of, energy_of};
@@ -26,11 +25,7 @@ pub fn write_potts<O: Sink>(
     out: &mut O,
 ) -> Result<(), Fault>
     requires { samples ≤ 64 }
-    ensures whole { OnOk result (O.taken out.new
-        ≡ appended (O.taken out.old) (potts_text potts.now sweeps seed samples)) }
-    ensures prefix { OnErr result (AppendsPrefix (O.taken out.old) (O.taken out.new)
-        (potts_text potts.now sweeps seed samples)) }
-    ensures cause { HasCause (O.faults out.old) (O.faults out.new) result }
+    ensures { Writes O.Sink out.old out.new (potts_text potts.now sweeps seed samples) result }
 {
     put_header(potts.size(), sweeps, seed, samples, out)?;
     put_samples(potts, samples, out)?;
@@ -45,11 +40,7 @@ fn put_header<O: Sink>(
     samples: u32,
     out: &mut O,
 ) -> Result<(), Fault>
-    ensures whole { OnOk result (O.taken out.new
-        ≡ appended (O.taken out.old) (header_line size sweeps seed samples)) }
-    ensures prefix { OnErr result (AppendsPrefix (O.taken out.old) (O.taken out.new)
-        (header_line size sweeps seed samples)) }
-    ensures cause { HasCause (O.faults out.old) (O.faults out.new) result }
+    ensures { Writes O.Sink out.old out.new (header_line size sweeps seed samples) result }
 {
     let mut line = Line::new();
     add_header(&mut line, size, sweeps, seed, samples);
@@ -76,11 +67,7 @@ fn add_header(line: &mut Line, size: u32, sweeps: u32, seed: u64, samples: u32)
 // Puts the lines of the samples.
 fn put_samples<O: Sink>(potts: &Potts, samples: u32, out: &mut O) -> Result<(), Fault>
     requires { samples ≤ 64 }
-    ensures whole { OnOk result (O.taken out.new
-        ≡ appended (O.taken out.old) (samples_text potts.now samples)) }
-    ensures prefix { OnErr result (AppendsPrefix (O.taken out.old) (O.taken out.new)
-        (samples_text potts.now samples)) }
-    ensures cause { HasCause (O.faults out.old) (O.faults out.new) result }
+    ensures { Writes O.Sink out.old out.new (samples_text potts.now samples) result }
 {
     let mut energies = [0i32; 64];
     potts.energies(&mut energies);
@@ -96,11 +83,7 @@ fn put_with<O: Sink>(
 ) -> Result<(), Fault>
     requires samples { samples ≤ 64 }
     requires energies { energies.now ≡ table (energy_of potts.now) 64 }
-    ensures whole { OnOk result (O.taken out.new
-        ≡ appended (O.taken out.old) (samples_text potts.now samples)) }
-    ensures prefix { OnErr result (AppendsPrefix (O.taken out.old) (O.taken out.new)
-        (samples_text potts.now samples)) }
-    ensures cause { HasCause (O.faults out.old) (O.faults out.new) result }
+    ensures { Writes O.Sink out.old out.new (samples_text potts.now samples) result }
 {
     'samples: for b in 0..samples {
         put_sample(potts, b, energies, out)?;
@@ -117,11 +100,7 @@ fn put_sample<O: Sink>(
 ) -> Result<(), Fault>
     requires sample { sample < 64 }
     requires energies { energies.now ≡ table (energy_of potts.now) 64 }
-    ensures whole { OnOk result (O.taken out.new
-        ≡ appended (O.taken out.old) (sample_text potts.now sample)) }
-    ensures prefix { OnErr result (AppendsPrefix (O.taken out.old) (O.taken out.new)
-        (sample_text potts.now sample)) }
-    ensures cause { HasCause (O.faults out.old) (O.faults out.new) result }
+    ensures { Writes O.Sink out.old out.new (sample_text potts.now sample) result }
 {
     put_energy(sample, energies, out)?;
     put_colours(potts, sample, out)
@@ -130,11 +109,8 @@ fn put_sample<O: Sink>(
 // Puts a sample's energy.
 fn put_energy<O: Sink>(sample: u32, energies: &[i32; 64], out: &mut O) -> Result<(), Fault>
     requires { sample < 64 }
-    ensures whole { OnOk result (O.taken out.new ≡ appended (O.taken out.old)
-        (energy_line sample (slice_index_or energies.now sample (pos 0)))) }
-    ensures prefix { OnErr result (AppendsPrefix (O.taken out.old) (O.taken out.new)
-        (energy_line sample (slice_index_or energies.now sample (pos 0)))) }
-    ensures cause { HasCause (O.faults out.old) (O.faults out.new) result }
+    ensures { Writes O.Sink out.old out.new
+        (energy_line sample (slice_index_or energies.now sample (pos 0))) result }
 {
     let mut line = Line::new();
     add_energy(&mut line, sample, energies);
@@ -159,11 +135,8 @@ fn add_energy(line: &mut Line, sample: u32, energies: &[i32; 64])
 #[tactic(auto, unfolding(crate::specs::PottsText::colours_line))]
 fn put_colours<O: Sink>(potts: &Potts, sample: u32, out: &mut O) -> Result<(), Fault>
     requires { sample < 64 }
-    ensures whole { OnOk result (O.taken out.new ≡ appended (O.taken out.old)
-        (colours_line potts.now.couplings.size sample (state_of potts.now sample))) }
-    ensures prefix { OnErr result (AppendsPrefix (O.taken out.old) (O.taken out.new)
-        (colours_line potts.now.couplings.size sample (state_of potts.now sample))) }
-    ensures cause { HasCause (O.faults out.old) (O.faults out.new) result }
+    ensures { Writes O.Sink out.old out.new
+        (colours_line potts.now.couplings.size sample (state_of potts.now sample)) result }
 {
     let mut line = Line::new();
     add_head(&mut line, sample);
@@ -192,11 +165,8 @@ fn put_digits<O: Sink>(
     out: &mut O,
 ) -> Result<(), Fault>
     requires { sample < 64 }
-    ensures front { OnOk result (PutsFront (O.taken out.old) (O.taken out.new)
-        (line.old ++ colour_digits potts.now.couplings.size (state_of potts.now sample)) line.new) }
-    ensures prefix { OnErr result (AppendsPrefix (O.taken out.old) (O.taken out.new)
-        (line.old ++ colour_digits potts.now.couplings.size (state_of potts.now sample))) }
-    ensures cause { HasCause (O.faults out.old) (O.faults out.new) result }
+    ensures { WritesFront O.Sink out.old out.new
+        (line.old ++ colour_digits potts.now.couplings.size (state_of potts.now sample)) line.new result }
 {
     line.extend_by(out, potts.sites() as usize, |site| {
         digit(potts, sample, site as u32)

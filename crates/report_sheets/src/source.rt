@@ -1,8 +1,7 @@
 //! Where the rows of a report come from.
 
-ghost use Rattle.std.specs.Prelude.{◌≡◌, ℕ, ◌≤◌, List, [], ◌++◌, OnOk, OnErr};
-ghost use Rattle.glass_edges.specs.Causes.{HasCause};
-ghost use Rattle.glass_edges.specs.Contents.{AppendsPrefix, PutsFront};
+ghost use Rattle.std.specs.Prelude.{◌≡◌, ℕ, ◌≤◌, List, [], ◌++◌};
+ghost use Rattle.glass_edges.specs.Writes.{WritesFront};
 
 use glass_edges::{Fault, Line, Sink};
 
@@ -43,11 +42,8 @@ pub trait RowSource {
         requires begin { begin self.now ≤ from }
         requires window { from ≤ to }
         requires end { to ≤ end self.now }
-        ensures front { OnOk result (PutsFront (O.taken out.old) (O.taken out.new)
-            (line.old ++ text self.now from to) line.new) }
-        ensures prefix { OnErr result (AppendsPrefix (O.taken out.old) (O.taken out.new)
-            (line.old ++ text self.now from to)) }
-        ensures cause { HasCause (O.faults out.old) (O.faults out.new) result };
+        ensures { WritesFront O.Sink out.old out.new
+            (line.old ++ text self.now from to) line.new result };
 
     /// Between an epoch and itself there is none.
     ghost empty: { (rows : Self) (e : ℕ) → text rows e e ≡ [] };

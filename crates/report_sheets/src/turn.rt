@@ -1,8 +1,7 @@
 //! One round goes out while the next is filled.
 
-ghost use Rattle.std.specs.Prelude.{◌≡◌, ◌<◌, ◌≤◌, All, length, OnOk, OnErr};
-ghost use Rattle.glass_edges.specs.Causes.{HasCause};
-ghost use Rattle.glass_edges.specs.Contents.{appended, AppendsPrefix};
+ghost use Rattle.std.specs.Prelude.{◌≡◌, ◌<◌, ◌≤◌, All, length};
+ghost use Rattle.glass_edges.specs.Writes.{Writes};
 ghost use Rattle.std.specs.Thread.{IsSync};
 ghost use Rattle.report_sheets.specs.Sheets.{HasItsRows, CanTurn};
 
@@ -41,11 +40,8 @@ pub(crate) fn fill_and_put<R: Threads + Sync, O: Sink, S: RowSource + Sync>(
     requires held { All (HasItsRows (S.text rows.now)) sheets.old }
     ensures filled { All (HasItsRows (S.text rows.now)) sheets.new }
     ensures count { length sheets.new ≡ length sheets.old }
-    ensures whole { OnOk result (O.taken out.new ≡ appended (O.taken out.old)
-        (S.text rows.now turn.now.done.first turn.now.done.last)) }
-    ensures prefix { OnErr result (AppendsPrefix (O.taken out.old) (O.taken out.new)
-        (S.text rows.now turn.now.done.first turn.now.done.last)) }
-    ensures cause { HasCause (O.faults out.old) (O.faults out.new) result }
+    ensures written { Writes O.Sink out.old out.new
+        (S.text rows.now turn.now.done.first turn.now.done.last) result }
 {
     // One thread less where there is no part for it.
     let next = number.saturating_add(1);
@@ -77,11 +73,8 @@ fn fill_both<R: Threads + Sync, O: Sink, S: RowSource + Sync>(
     ensures own_count { length own.new ≡ length own.old }
     ensures others { All (HasItsRows (S.text rows.now)) others.new }
     ensures others_count { length others.new ≡ length others.old }
-    ensures whole { OnOk result (O.taken out.new ≡ appended (O.taken out.old)
-        (S.text rows.now turn.now.done.first turn.now.done.last)) }
-    ensures prefix { OnErr result (AppendsPrefix (O.taken out.old) (O.taken out.new)
-        (S.text rows.now turn.now.done.first turn.now.done.last)) }
-    ensures cause { HasCause (O.faults out.old) (O.faults out.new) result }
+    ensures written { Writes O.Sink out.old out.new
+        (S.text rows.now turn.now.done.first turn.now.done.last) result }
 {
     let (_, put) = thread::join_mut(
         rt,
@@ -96,11 +89,8 @@ fn fill_both<R: Threads + Sync, O: Sink, S: RowSource + Sync>(
                 × All (HasItsRows (S.text rows.now)) others.now }
             ensures { All (HasItsRows (S.text rows.entry.now)) others.exit.now
                 × (length others.exit.now ≡ length others.entry.now)
-                × OnOk result (O.taken out.exit.now ≡ appended (O.taken out.entry.now)
-                (S.text rows.entry.now turn.entry.now.done.first turn.entry.now.done.last))
-                × OnErr result (AppendsPrefix (O.taken out.entry.now) (O.taken out.exit.now)
-                (S.text rows.entry.now turn.entry.now.done.first turn.entry.now.done.last))
-                × HasCause (O.faults out.entry.now) (O.faults out.exit.now) result }
+                × Writes O.Sink out.entry.now out.exit.now
+                (S.text rows.entry.now turn.entry.now.done.first turn.entry.now.done.last) result }
         { fill_and_put(rt, rows, turn, next, out, others) },
     );
     put
@@ -131,11 +121,8 @@ impl Turn<'_> {
     #[inline(never)]
     fn put<O: Sink, S: RowSource>(&self, out: &mut O, rows: &S) -> Result<(), Fault>
         requires turn { CanTurn S.ready S.text S.begin S.end rows.now self.now }
-        ensures whole { OnOk result (O.taken out.new ≡ appended (O.taken out.old)
-            (S.text rows.now self.now.done.first self.now.done.last)) }
-        ensures prefix { OnErr result (AppendsPrefix (O.taken out.old) (O.taken out.new)
-            (S.text rows.now self.now.done.first self.now.done.last)) }
-        ensures cause { HasCause (O.faults out.old) (O.faults out.new) result }
+        ensures { Writes O.Sink out.old out.new
+            (S.text rows.now self.now.done.first self.now.done.last) result }
     {
         'parts: for k in 0..self.filled.len() as u64 {
             let from = self.done.start(k);
@@ -161,10 +148,7 @@ fn put_part<O: Sink, S: RowSource>(
     requires window { from ≤ to }
     requires end { to ≤ S.end rows.now }
     requires filled { All (HasItsRows (S.text rows.now)) sheets.now }
-    ensures whole { OnOk result (O.taken out.new ≡ appended (O.taken out.old) (S.text rows.now from to)) }
-    ensures prefix { OnErr result (AppendsPrefix (O.taken out.old) (O.taken out.new)
-        (S.text rows.now from to)) }
-    ensures cause { HasCause (O.faults out.old) (O.faults out.new) result }
+    ensures { Writes O.Sink out.old out.new (S.text rows.now from to) result }
 {
     'sheets: for k in 0..sheets.len() {
         if let Some(text) = sheets[k].text(from, to) {

@@ -1,8 +1,7 @@
 //! How rows go to an output: straight, or by sheets.
 
-ghost use Rattle.std.specs.Prelude.{◌≡◌, ◌≤◌, false, length, All, OnOk, OnErr};
-ghost use Rattle.glass_edges.specs.Causes.{HasCause};
-ghost use Rattle.glass_edges.specs.Contents.{appended, AppendsPrefix};
+ghost use Rattle.std.specs.Prelude.{◌≡◌, ◌≤◌, false, length, All};
+ghost use Rattle.glass_edges.specs.Writes.{Writes};
 ghost use Rattle.report_sheets.specs.Views.{SheetView};
 
 use crate::round::Pace;
@@ -21,11 +20,8 @@ use std::thread::Threads;
 /// Where the output failed; it has then taken a prefix of them.
 pub fn put_rows<O: Sink, S: RowSource>(out: &mut O, rows: &S) -> Result<(), Fault>
     requires { S.ready rows.now }
-    ensures whole { OnOk result (O.taken out.new
-        ≡ appended (O.taken out.old) (S.text rows.now (S.begin rows.now) (S.end rows.now))) }
-    ensures prefix { OnErr result (AppendsPrefix (O.taken out.old) (O.taken out.new)
-        (S.text rows.now (S.begin rows.now) (S.end rows.now))) }
-    ensures cause { HasCause (O.faults out.old) (O.faults out.new) result }
+    ensures { Writes O.Sink out.old out.new
+        (S.text rows.now (S.begin rows.now) (S.end rows.now)) result }
 {
     put_between(out, rows, rows.first(), rows.last())
 }
@@ -44,11 +40,8 @@ pub fn put_rows_by<R: Threads + Sync, O: Sink, S: RowSource + Sync>(
     rows: &S,
 ) -> Result<(), Fault>
     requires { S.ready rows.now }
-    ensures whole { OnOk result (O.taken out.new
-        ≡ appended (O.taken out.old) (S.text rows.now (S.begin rows.now) (S.end rows.now))) }
-    ensures prefix { OnErr result (AppendsPrefix (O.taken out.old) (O.taken out.new)
-        (S.text rows.now (S.begin rows.now) (S.end rows.now))) }
-    ensures cause { HasCause (O.faults out.old) (O.faults out.new) result }
+    ensures { Writes O.Sink out.old out.new
+        (S.text rows.now (S.begin rows.now) (S.end rows.now)) result }
 {
     let half = sheets.sheets.len() / 2;
     if half == 0 {
@@ -97,10 +90,7 @@ pub(crate) fn put_between<O: Sink, S: RowSource>(
     requires begin { S.begin rows.now ≤ from }
     requires window { from ≤ to }
     requires end { to ≤ S.end rows.now }
-    ensures whole { OnOk result (O.taken out.new ≡ appended (O.taken out.old) (S.text rows.now from to)) }
-    ensures prefix { OnErr result (AppendsPrefix (O.taken out.old) (O.taken out.new)
-        (S.text rows.now from to)) }
-    ensures cause { HasCause (O.faults out.old) (O.faults out.new) result }
+    ensures { Writes O.Sink out.old out.new (S.text rows.now from to) result }
 {
     let mut line = Line::new();
     rows.add(out, &mut line, from, to)?;

@@ -1,9 +1,9 @@
 //! The short lines: header, row and end.
 
 ghost use Rattle.std.specs.Fmt.{signed_decimal};
-ghost use Rattle.std.specs.Prelude.{◌≡◌, ◌+◌, ◌≤◌, [], ◌++◌, length, codes, decimal, OnOk, OnErr};
-ghost use Rattle.glass_edges.specs.Causes.{HasCause};
-ghost use Rattle.glass_edges.specs.Contents.{appended, AppendsPrefix, PutsFront, line_room};
+ghost use Rattle.std.specs.Prelude.{◌≡◌, ◌+◌, ◌≤◌, [], ◌++◌, length, codes, decimal};
+ghost use Rattle.glass_edges.specs.Contents.{line_room};
+ghost use Rattle.glass_edges.specs.Writes.{Writes, WritesFront};
 ghost use Rattle.report_text.specs.Lines.{end_line, header_line, kind_text, row_line};
 
 use glass_edges::{Fault, Line, Sink};
@@ -25,11 +25,7 @@ pub fn header<O: Sink>(
     from: u64,
     to: u64,
 ) -> Result<(), Fault>
-    ensures whole { OnOk result (O.taken out.new ≡
-        appended (O.taken out.old) (header_line plan.now samples from to)) }
-    ensures prefix { OnErr result
-        (AppendsPrefix (O.taken out.old) (O.taken out.new) (header_line plan.now samples from to)) }
-    ensures cause { HasCause (O.faults out.old) (O.faults out.new) result }
+    ensures { Writes O.Sink out.old out.new (header_line plan.now samples from to) result }
 {
     let mut line = Line::new();
     add_header(&mut line, plan, samples, from, to);
@@ -81,11 +77,7 @@ pub fn row<O: Sink>(
     slot: u32,
     values: &Record,
 ) -> Result<(), Fault>
-    ensures whole { OnOk result (O.taken out.new ≡
-        appended (O.taken out.old) (row_line epoch sample slot values.now)) }
-    ensures prefix { OnErr result
-        (AppendsPrefix (O.taken out.old) (O.taken out.new) (row_line epoch sample slot values.now)) }
-    ensures cause { HasCause (O.faults out.old) (O.faults out.new) result }
+    ensures { Writes O.Sink out.old out.new (row_line epoch sample slot values.now) result }
 {
     let mut line = Line::new();
     fill_row(&mut line, epoch, sample, slot, values);
@@ -106,11 +98,8 @@ pub fn add_row<O: Sink>(
     slot: u32,
     values: &Record,
 ) -> Result<(), Fault>
-    ensures front { OnOk result (PutsFront (O.taken out.old) (O.taken out.new)
-        (text.old ++ row_line epoch sample slot values.now) text.new) }
-    ensures prefix { OnErr result (AppendsPrefix (O.taken out.old) (O.taken out.new)
-        (text.old ++ row_line epoch sample slot values.now)) }
-    ensures cause { HasCause (O.faults out.old) (O.faults out.new) result }
+    ensures { WritesFront O.Sink out.old out.new
+        (text.old ++ row_line epoch sample slot values.now) text.new result }
 {
     text.make_room(out, ROW_ROOM)?;
     fill_row(text, epoch, sample, slot, values);
@@ -174,10 +163,7 @@ fn add_label(line: &mut Line, label: u8)
 /// Where the output failed; it has then taken a prefix of the line.
 #[tactic(auto, unfolding(crate::specs::Lines::end_line))]
 pub fn end<O: Sink>(out: &mut O, epoch: u64) -> Result<(), Fault>
-    ensures whole { OnOk result (O.taken out.new ≡ appended (O.taken out.old) (end_line epoch)) }
-    ensures prefix { OnErr result
-        (AppendsPrefix (O.taken out.old) (O.taken out.new) (end_line epoch)) }
-    ensures cause { HasCause (O.faults out.old) (O.faults out.new) result }
+    ensures { Writes O.Sink out.old out.new (end_line epoch) result }
 {
     let mut line = Line::new();
     line.add(b"end,");

@@ -1,8 +1,7 @@
 //! The line of a replica's spins.
 
-ghost use Rattle.std.specs.Prelude.{◌≡◌, ◌+◌, ◌*◌, ◌%◌, ◌<◌, ◌≤◌, ◌++◌, length, OnOk, OnErr};
-ghost use Rattle.glass_edges.specs.Causes.{HasCause};
-ghost use Rattle.glass_edges.specs.Contents.{appended, AppendsPrefix, PutsFront};
+ghost use Rattle.std.specs.Prelude.{◌≡◌, ◌+◌, ◌*◌, ◌%◌, ◌<◌, ◌≤◌, ◌++◌, length};
+ghost use Rattle.glass_edges.specs.Writes.{Writes, WritesFront};
 ghost use Rattle.scalar_rule.specs.Neighbours.{spin};
 ghost use Rattle.scalar_rule.specs.SpinDigits.{four_spins as digit_at, spin_digits};
 ghost use Rattle.spin_model.specs.Lattice.{volume};
@@ -31,11 +30,8 @@ pub fn spins<O: Sink>(
     lattice: Lattice,
 ) -> Result<(), Fault>
     requires { FitsReplica lattice replica.now }
-    ensures whole { OnOk result (O.taken out.new ≡ appended (O.taken out.old)
-        (spins_line lattice sample slot copy (spins_of lattice (sample % 64) replica.now.planes))) }
-    ensures prefix { OnErr result (AppendsPrefix (O.taken out.old) (O.taken out.new)
-        (spins_line lattice sample slot copy (spins_of lattice (sample % 64) replica.now.planes))) }
-    ensures cause { HasCause (O.faults out.old) (O.faults out.new) result }
+    ensures { Writes O.Sink out.old out.new
+        (spins_line lattice sample slot copy (spins_of lattice (sample % 64) replica.now.planes)) result }
 {
     let mut line = Line::new();
     add_head(&mut line, sample, slot, copy);
@@ -70,13 +66,8 @@ fn put_digits<O: Sink>(
 ) -> Result<(), Fault>
     requires sample { b < 64 }
     requires fits { FitsReplica lattice.now replica.now }
-    ensures front { OnOk result
-        (PutsFront (O.taken out.old) (O.taken out.new)
-        (line.old ++ spin_digits lattice.now (spins_of lattice.now b replica.now.planes)) line.new) }
-    ensures prefix { OnErr result
-        (AppendsPrefix (O.taken out.old) (O.taken out.new)
-        (line.old ++ spin_digits lattice.now (spins_of lattice.now b replica.now.planes))) }
-    ensures cause { HasCause (O.faults out.old) (O.faults out.new) result }
+    ensures { WritesFront O.Sink out.old out.new
+        (line.old ++ spin_digits lattice.now (spins_of lattice.now b replica.now.planes)) line.new result }
 {
     line.extend_by(out, lattice.sites() as usize / 4, |k| {
         four_spins(replica, lattice, 4 * k as u32, b)

@@ -1,8 +1,6 @@
 //! The lines of the summary of a run whose plan is made from a number.
 
-ghost use Rattle.std.specs.Prelude.{◌≡◌, OnOk, OnErr};
-ghost use Rattle.glass_edges.specs.Causes.{HasCause};
-ghost use Rattle.glass_edges.specs.Contents.{appended, AppendsPrefix};
+ghost use Rattle.glass_edges.specs.Writes.{Writes};
 ghost use Rattle.report_text.specs.Lines as lines;
 
 use glass_edges::{Fault, Line, Sink};
@@ -22,11 +20,7 @@ pub fn summary_header<O: Sink>(
     samples: u32,
     until: u64,
 ) -> Result<(), Fault>
-    ensures whole { OnOk result (O.taken out.new ≡
-        appended (O.taken out.old) (lines.summary_line n plan.now samples until)) }
-    ensures prefix { OnErr result (AppendsPrefix (O.taken out.old) (O.taken out.new)
-        (lines.summary_line n plan.now samples until)) }
-    ensures cause { HasCause (O.faults out.old) (O.faults out.new) result }
+    ensures { Writes O.Sink out.old out.new (lines.summary_line n plan.now samples until) result }
 {
     let mut line = Line::new();
     line.add(b"demo 1 n=");
@@ -51,11 +45,7 @@ pub fn summary_header<O: Sink>(
 /// Where the output failed; it has then taken a prefix of the line.
 #[tactic(auto, unfolding(crate::specs::Lines::slot_line))]
 pub fn slot_line<O: Sink>(out: &mut O, slot: u32, energy: i64, away: u32) -> Result<(), Fault>
-    ensures whole { OnOk result (O.taken out.new ≡
-        appended (O.taken out.old) (lines.slot_line slot energy away)) }
-    ensures prefix { OnErr result
-        (AppendsPrefix (O.taken out.old) (O.taken out.new) (lines.slot_line slot energy away)) }
-    ensures cause { HasCause (O.faults out.old) (O.faults out.new) result }
+    ensures { Writes O.Sink out.old out.new (lines.slot_line slot energy away) result }
 {
     let mut line = Line::new();
     line.add(b"slot,");

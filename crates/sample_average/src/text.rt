@@ -1,8 +1,7 @@
 //! The sums of a report as text.
 
-ghost use Rattle.std.specs.Prelude.{◌≡◌, ◌<◌, ◌≤◌, [], ◌++◌, length, OnOk, OnErr};
-ghost use Rattle.glass_edges.specs.Causes.{HasCause};
-ghost use Rattle.glass_edges.specs.Contents.{appended, AppendsPrefix};
+ghost use Rattle.std.specs.Prelude.{◌≡◌, ◌<◌, ◌≤◌, [], ◌++◌, length};
+ghost use Rattle.glass_edges.specs.Writes.{Writes};
 ghost use Rattle.sample_average.specs.Averages.{averages_text, first_line, pieces, rows_without, slot_rows, slot_text, sum_line, sums_of, sums_text, without_line};
 
 use crate::averages::Averages;
@@ -17,9 +16,7 @@ use glass_edges::{Fault, Line, Sink, put_all};
 ///
 /// Where the output failed; it has then taken a prefix of the text.
 pub fn write_averages<O: Sink>(averages: &Averages, out: &mut O) -> Result<(), Fault>
-    ensures whole { OnOk result (O.taken out.new ≡ appended (O.taken out.old) (averages_text averages.now)) }
-    ensures prefix { OnErr result (AppendsPrefix (O.taken out.old) (O.taken out.new) (averages_text averages.now)) }
-    ensures cause { HasCause (O.faults out.old) (O.faults out.new) result }
+    ensures { Writes O.Sink out.old out.new (averages_text averages.now) result }
 {
     put_numbers(averages, out)?;
     put_slots(averages, out)?;
@@ -28,11 +25,8 @@ pub fn write_averages<O: Sink>(averages: &Averages, out: &mut O) -> Result<(), F
 
 // Puts the line of the report's numbers.
 fn put_numbers<O: Sink>(averages: &Averages, out: &mut O) -> Result<(), Fault>
-    ensures whole { OnOk result (O.taken out.new
-        ≡ appended (O.taken out.old) (first_line averages.now.header averages.now.blocks (length averages.now.rows))) }
-    ensures prefix { OnErr result (AppendsPrefix (O.taken out.old) (O.taken out.new)
-        (first_line averages.now.header averages.now.blocks (length averages.now.rows))) }
-    ensures cause { HasCause (O.faults out.old) (O.faults out.new) result }
+    ensures { Writes O.Sink out.old out.new
+        (first_line averages.now.header averages.now.blocks (length averages.now.rows)) result }
 {
     let header = averages.header();
     let rows = averages.rows().len();
@@ -41,9 +35,7 @@ fn put_numbers<O: Sink>(averages: &Averages, out: &mut O) -> Result<(), Fault>
 
 // Puts the line of these numbers.
 fn put_first<O: Sink>(header: &Header, blocks: u32, rows: usize, out: &mut O) -> Result<(), Fault>
-    ensures whole { OnOk result (O.taken out.new ≡ appended (O.taken out.old) (first_line header.now blocks rows)) }
-    ensures prefix { OnErr result (AppendsPrefix (O.taken out.old) (O.taken out.new) (first_line header.now blocks rows)) }
-    ensures cause { HasCause (O.faults out.old) (O.faults out.new) result }
+    ensures { Writes O.Sink out.old out.new (first_line header.now blocks rows) result }
 {
     let mut line = Line::new();
     add_first(&mut line, header, blocks, rows);
@@ -71,11 +63,8 @@ fn add_first(line: &mut Line, header: &Header, blocks: u32, rows: usize)
 
 // Puts the lines of every slot.
 fn put_slots<O: Sink>(averages: &Averages, out: &mut O) -> Result<(), Fault>
-    ensures whole { OnOk result (O.taken out.new
-        ≡ appended (O.taken out.old) (pieces (slot_text averages.now) averages.now.header.slots)) }
-    ensures prefix { OnErr result (AppendsPrefix (O.taken out.old) (O.taken out.new)
-        (pieces (slot_text averages.now) averages.now.header.slots)) }
-    ensures cause { HasCause (O.faults out.old) (O.faults out.new) result }
+    ensures { Writes O.Sink out.old out.new
+        (pieces (slot_text averages.now) averages.now.header.slots) result }
 {
     'slots: for slot in 0..averages.header().slots {
         put_slot(averages, slot, out)?;
@@ -86,9 +75,7 @@ fn put_slots<O: Sink>(averages: &Averages, out: &mut O) -> Result<(), Fault>
 // Puts the lines of a slot.
 fn put_slot<O: Sink>(averages: &Averages, slot: u32, out: &mut O) -> Result<(), Fault>
     requires { slot < averages.now.header.slots }
-    ensures whole { OnOk result (O.taken out.new ≡ appended (O.taken out.old) (slot_text averages.now slot)) }
-    ensures prefix { OnErr result (AppendsPrefix (O.taken out.old) (O.taken out.new) (slot_text averages.now slot)) }
-    ensures cause { HasCause (O.faults out.old) (O.faults out.new) result }
+    ensures { Writes O.Sink out.old out.new (slot_text averages.now slot) result }
 {
     put_sum(averages, slot, out)?;
     put_blocks(averages, slot, out)
@@ -98,11 +85,8 @@ fn put_slot<O: Sink>(averages: &Averages, slot: u32, out: &mut O) -> Result<(), 
 #[tactic(auto, unfolding(crate::specs::Averages::sum_line))]
 fn put_sum<O: Sink>(averages: &Averages, slot: u32, out: &mut O) -> Result<(), Fault>
     requires { slot < averages.now.header.slots }
-    ensures whole { OnOk result (O.taken out.new
-        ≡ appended (O.taken out.old) (sum_line slot (sums_of (slot_rows averages.now slot)))) }
-    ensures prefix { OnErr result (AppendsPrefix (O.taken out.old) (O.taken out.new)
-        (sum_line slot (sums_of (slot_rows averages.now slot)))) }
-    ensures cause { HasCause (O.faults out.old) (O.faults out.new) result }
+    ensures { Writes O.Sink out.old out.new
+        (sum_line slot (sums_of (slot_rows averages.now slot))) result }
 {
     let mut line = Line::new();
     line.add(b"sum,");
@@ -115,11 +99,8 @@ fn put_sum<O: Sink>(averages: &Averages, slot: u32, out: &mut O) -> Result<(), F
 // Puts the sums over the rows of a slot outside each block.
 fn put_blocks<O: Sink>(averages: &Averages, slot: u32, out: &mut O) -> Result<(), Fault>
     requires { slot < averages.now.header.slots }
-    ensures whole { OnOk result (O.taken out.new ≡ appended (O.taken out.old)
-        (pieces (λ block. without_line slot block (sums_of (rows_without averages.now slot block))) averages.now.blocks)) }
-    ensures prefix { OnErr result (AppendsPrefix (O.taken out.old) (O.taken out.new)
-        (pieces (λ block. without_line slot block (sums_of (rows_without averages.now slot block))) averages.now.blocks)) }
-    ensures cause { HasCause (O.faults out.old) (O.faults out.new) result }
+    ensures { Writes O.Sink out.old out.new
+        (pieces (λ block. without_line slot block (sums_of (rows_without averages.now slot block))) averages.now.blocks) result }
 {
     'parts: for block in 0..averages.blocks() {
         put_without(averages, slot, block, out)?;
@@ -137,11 +118,8 @@ fn put_without<O: Sink>(
 ) -> Result<(), Fault>
     requires slot { slot < averages.now.header.slots }
     requires block { block < averages.now.blocks }
-    ensures whole { OnOk result (O.taken out.new
-        ≡ appended (O.taken out.old) (without_line slot block (sums_of (rows_without averages.now slot block)))) }
-    ensures prefix { OnErr result (AppendsPrefix (O.taken out.old) (O.taken out.new)
-        (without_line slot block (sums_of (rows_without averages.now slot block)))) }
-    ensures cause { HasCause (O.faults out.old) (O.faults out.new) result }
+    ensures { Writes O.Sink out.old out.new
+        (without_line slot block (sums_of (rows_without averages.now slot block))) result }
 {
     let mut line = Line::new();
     line.add(b"without,");

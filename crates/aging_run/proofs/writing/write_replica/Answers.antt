@@ -1,15 +1,14 @@
-use Rattle.std.proofs.Common.{◌≡◌, ℕ, ◌+◌, List, take, drop, get_or, flat_map, arith, refl, sym, ap, ◌∙◌, subst}
-use Rattle.glass_edges.specs.Contents.{appended, AppendsPrefix}
-use Rattle.glass_edges.proofs.Puts.{OnErr_of}
+use Rattle.std.proofs.Common.{◌≡◌, ◌+◌, get_or, arith, refl, sym, ap, ◌∙◌}
 use Rattle.plane_sweep.specs.Packed.{part_copy}
 use Rattle.scalar_rule.specs.declared.plain_copy.PlainCopy.{PlainCopy}
 use Rattle.spin_model.specs.Lattice.{volume}
 use Rattle.aging_run.specs.Aging.{time_lines, overlaps_at}
 use Rattle.aging_run.specs.Measuring.{overlap_in}
 use Rattle.aging_run.proofs.Listed.{listed-more, listed-at}
-use Rattle.glass_edges.proofs.Putting.{put-none, put-more, put-failed}
+use Rattle.glass_edges.proofs.Writing.{writes-none, writes-more, writes-stopped, writes-same}
 use Rattle.aging_run.proofs.Times.{before-first, before-next, before-earlier, swept-same, swept-on, measured, HasSwept}
 use Rattle.aging_run.proofs.writing.write_replica.Goals as goal
+use Rattle.aging_run.proofs.writing.write_replica.Goals.{After-sites}
 
 pub keep-requires : goal.keep-requires
 keep-requires g c = record {
@@ -21,8 +20,7 @@ keep-requires g c = record {
 
 pub times-init : goal.times-init
 times-init g c = record {
-  text = put-none _ _ refl;
-  passed = refl;
+  written = writes-none refl;
   swept = swept-same c.args.order.now.plan.now c.args.place.slot _ (c.args.order.now.wait + 0) c.args.replica.now c.sweep_often.new.replica c.sweep_often.ensures.swept (omega (arith, c.requires.wait));
   spins = λ b small. c.keep.ensures.spins c.args.order.now.plan.now.size b c.sweep_often.ensures.fits ∙ ap (λ (r : PlainCopy). r.spins) (c.sweep_often.ensures.swept b small);
   fits = c.sweep_often.ensures.fits;
@@ -41,69 +39,40 @@ agreeing-totals-requires g c = record {
   second = c.sweep_often-in-times.ensures.fits;
 }
 
+-- the replica has made the sweeps to this time
+swept-now : (g : _) (c : After-sites g)
+    → HasSwept c.args.order.now.plan.now c.args.place.slot (c.args.order.now.wait + get_or c.args.order.now.times.now c.times.k 0) c.args.replica.now c.sweep_often-in-times.new.replica
+swept-now g c =
+    let times = c.args.order.now.times.now in
+    let earlier = before-earlier times c.times.k c.requires.times c.times-test.true in
+    let short = c.requires.times.each c.times.k 0 c.times-test.true in
+    let last = c.times.invariant.last in
+    swept-on c.args.order.now.plan.now c.args.place.slot (c.args.order.now.wait + c.times.done) _ (c.args.order.now.wait + get_or times c.times.k 0) c.args.replica.now c.times.replica c.sweep_often-in-times.new.replica
+    c.times.invariant.swept c.sweep_often-in-times.ensures.swept (omega arith)
+
+-- the lines that are put are those at this time
+lines : (g : _) (c : After-sites g)
+    → time_lines c.args.place.slot c.args.place.copy (get_or c.args.order.now.times.now c.times.k 0) (overlap_in c.agreeing-totals.result.words c.sites.result) c.args.order.now.samples
+    ≡ time_lines c.args.place.slot c.args.place.copy (get_or c.args.order.now.times.now c.times.k 0)
+    (overlaps_at c.args.order.now.plan.now c.args.place.slot c.args.order.now.wait (λ b. part_copy c.args.order.now.plan.now.size b c.args.replica.now) (get_or c.args.order.now.times.now c.times.k 0)) c.args.order.now.samples
+lines g c =
+    let order = c.args.order.now in
+    measured order.plan.now c.args.place.slot c.args.place.copy order.wait (get_or order.times.now c.times.k 0) c.sites.result order.samples c.agreeing-totals.result.words c.args.replica.now c.keep.new.kept c.sweep_often-in-times.new.replica c.requires.samples
+    (λ b small. c.agreeing-totals.ensures.value order.plan.now.size b c.times.invariant.room small) (c.sites.ensures.value ∙ ap volume c.lattice-lattice.ensures.value) c.times.invariant.spins (swept-now g c)
+
 pub times-preserved : goal.times-preserved
 times-preserved g c =
-    let order = c.args.order.now in
-    let plan = order.plan.now in
-    let place = c.args.place in
-    let old = c.args.replica.now in
-    let now = c.sweep_often-in-times.new.replica in
-    let kept = c.keep.new.kept in
-    let k = c.times.k in
-    let time = get_or order.times.now k 0 in
-    let earlier = before-earlier order.times.now k c.requires.times c.times-test.true in
-    let short = c.requires.times.each k 0 c.times-test.true in
-    let last = c.times.invariant.last in
-    let swept : HasSwept plan place.slot (order.wait + time) old now =
-    swept-on plan place.slot (order.wait + c.times.done) _ (order.wait + time) old c.times.replica now c.times.invariant.swept c.sweep_often-in-times.ensures.swept (omega arith) in
-    let words = c.agreeing-totals.result.words in
-    let sites = c.sites.result in
-    let told : List ℕ = time_lines place.slot place.copy time (overlap_in words sites) order.samples in
-    let item : ℕ → List ℕ = λ t. time_lines place.slot place.copy t (overlaps_at plan place.slot order.wait (λ b. part_copy plan.size b old) t) order.samples in
-    let lines : told ≡ item time =
-    measured plan place.slot place.copy order.wait time sites order.samples words old kept now c.requires.samples
-    (λ b small. c.agreeing-totals.ensures.value plan.size b c.times.invariant.room small) (c.sites.ensures.value ∙ ap volume c.lattice-lattice.ensures.value) c.times.invariant.spins swept in
-    let before = g.O.Sink.taken c.args.out.now in
-    let mid = g.O.Sink.taken c.times.out in
-    let after = g.O.Sink.taken c.write_time.new.out in
-    let Put : List ℕ → Type 0 = λ xs. after ≡ appended mid xs in
-    let put = subst Put lines c.in_ok-write_time.ensures.whole in
+    let at = (goal.at.times-preserved g c).After-sites in
     record {
-      text = put-more before mid after (flat_map item (take k order.times.now)) (item time) (flat_map item (take (k + 1) order.times.now)) c.times.invariant.text put
-          (listed-more item order.times.now k c.times-test.true);
-      passed = c.in_ok-write_time.ensures.cause.passed ∙ c.times.invariant.passed;
-      swept = swept;
+      written = writes-more c.times.invariant.written (writes-same (lines g at) c.in_ok-write_time.ensures) (listed-more _ c.args.order.now.times.now c.times.k c.times-test.true);
+      swept = swept-now g at;
       spins = c.times.invariant.spins;
       fits = c.sweep_often-in-times.ensures.fits;
       room = c.times.invariant.room;
-      last = sym (before-next order.times.now k);
+      last = sym (before-next c.args.order.now.times.now c.times.k);
     }
 
-pub returns-in_err-write_time-clause-prefix : goal.returns-in_err-write_time-clause-prefix
-returns-in_err-write_time-clause-prefix g c =
-    let order = c.args.order.now in
-    let plan = order.plan.now in
-    let place = c.args.place in
-    let old = c.args.replica.now in
-    let now = c.sweep_often-in-times.new.replica in
-    let kept = c.keep.new.kept in
-    let k = c.times.k in
-    let time = get_or order.times.now k 0 in
-    let earlier = before-earlier order.times.now k c.requires.times c.times-test.true in
-    let short = c.requires.times.each k 0 c.times-test.true in
-    let last = c.times.invariant.last in
-    let swept : HasSwept plan place.slot (order.wait + time) old now =
-    swept-on plan place.slot (order.wait + c.times.done) _ (order.wait + time) old c.times.replica now c.times.invariant.swept c.sweep_often-in-times.ensures.swept (omega arith) in
-    let words = c.agreeing-totals.result.words in
-    let sites = c.sites.result in
-    let told : List ℕ = time_lines place.slot place.copy time (overlap_in words sites) order.samples in
-    let item : ℕ → List ℕ = λ t. time_lines place.slot place.copy t (overlaps_at plan place.slot order.wait (λ b. part_copy plan.size b old) t) order.samples in
-    let lines : told ≡ item time =
-    measured plan place.slot place.copy order.wait time sites order.samples words old kept now c.requires.samples
-    (λ b small. c.agreeing-totals.ensures.value plan.size b c.times.invariant.room small) (c.sites.ensures.value ∙ ap volume c.lattice-lattice.ensures.value) c.times.invariant.spins swept in
-    let before = g.O.Sink.taken c.args.out.now in
-    let mid = g.O.Sink.taken c.times.out in
-    let after = g.O.Sink.taken c.write_time.new.out in
-    let failed = subst (AppendsPrefix mid after) lines c.in_err-write_time.ensures.prefix in
-    OnErr_of _ (put-failed before mid after (flat_map item (take k order.times.now)) (item time) (flat_map item (drop (k + 1) order.times.now)) (flat_map item order.times.now) c.times.invariant.text failed
-    (listed-at item order.times.now k c.times-test.true))
+pub returns-in_err-write_time-clause-written : goal.returns-in_err-write_time-clause-written
+returns-in_err-write_time-clause-written g c =
+    let at = (goal.at.returns-in_err-write_time-clause-written g c).After-sites in
+    writes-stopped _ c.from_residual.ensures.0 c.times.invariant.written (writes-same (lines g at) c.in_err-write_time.ensures) (listed-at _ c.args.order.now.times.now c.times.k c.times-test.true)

@@ -26,8 +26,8 @@ pub returns-in-Ok-save_run-clause-wrote : goal.returns-in-Ok-save_run-clause-wro
 returns-in-Ok-save_run-clause-wrote g c = λ planned starts until are.
     let text = c.driven.ensures.report ∙ are.report c.drive_banks-done.result c.drive_banks-done.ensures.runs c.drive_banks-done.ensures.ended in
     let bytes = ap runs_checkpoint c.drive_banks-done.ensures.runs ∙ are.checkpoint in
-    let held : Store = store g.H.Shelf.holds g.H.Shelf.faults g.H.Shelf.lengths c.args.shelf.now in
-    let holds : Store = store g.H.Shelf.holds g.H.Shelf.faults g.H.Shelf.lengths c.save_run.new.shelf in
+    let held : Store = store g.H.Shelf c.args.shelf.now in
+    let holds : Store = store g.H.Shelf c.save_run.new.shelf in
     let S : List ℕ → Type 0 = λ b. Saved (name_bytes c.args.order.now.save) b held holds in (
       are.states c.drive_banks-done.result c.drive_banks-done.ensures.runs c.drive_banks-done.ensures.ended,
       (c.in-Ok.ensures.whole ∙ ap (appended (g.O.Sink.taken c.args.out.now)) text, subst S bytes c.in-Ok-save_run.ensures.placed),

@@ -27,7 +27,7 @@ returns-in-Err-clause-ends g c =
     let planned = c.args.asked.planned in
     let e = until_of order planned.orders in
     let same : c.until_of-until.result ≡ e = until-by order (banks_view c.planned.inside) planned c.until_of-until.result c.until_of-until.ensures.value c.planned.view_is in
-    let B : ℕ → Type 0 = λ e. Begins order.from (BanksStand planned.plans) (option_map (banks_beginning_at order.from planned e) (g.H.Shelf.holds c.args.shelf.now)) (Err c.in-Err.ending) (store g.H.Shelf.holds g.H.Shelf.faults g.H.Shelf.lengths c.args.shelf.now) (store g.H.Shelf.holds g.H.Shelf.faults g.H.Shelf.lengths c.gather_stands.new.shelf) in
+    let B : ℕ → Type 0 = λ e. Begins order.from (BanksStand planned.plans) (option_map (banks_beginning_at order.from planned e) (g.H.Shelf.holds c.args.shelf.now)) (Err c.in-Err.ending) (store g.H.Shelf c.args.shelf.now) (store g.H.Shelf c.gather_stands.new.shelf) in
     ends-unbegun order (Banks planned) (banks_beginning_at order.from planned e) (banks_work planned e) (λ files. refl) (BanksStand planned.plans) c.in-Err.ending _ _ _
     c.requires.planned (subst B same c.in-Err.ensures.asked)
 
@@ -39,7 +39,7 @@ returns-in-Err-open_run-clause-ends g c =
     let e = until_of order planned.orders in
     let same : c.until_of-until.result ≡ e = until-by order (banks_view c.planned.inside) planned c.until_of-until.result c.until_of-until.ensures.value c.planned.view_is in
     let r = c.in-Ok.ensures.resumable in
-    let B : ℕ → Type 0 = λ e. Begins order.from (BanksStand planned.plans) (option_map (banks_beginning_at order.from planned e) (g.H.Shelf.holds c.args.shelf.now)) (Ok stands) (store g.H.Shelf.holds g.H.Shelf.faults g.H.Shelf.lengths c.args.shelf.now) (store g.H.Shelf.holds g.H.Shelf.faults g.H.Shelf.lengths c.gather_stands.new.shelf) in
+    let B : ℕ → Type 0 = λ e. Begins order.from (BanksStand planned.plans) (option_map (banks_beginning_at order.from planned e) (g.H.Shelf.holds c.args.shelf.now)) (Ok stands) (store g.H.Shelf c.args.shelf.now) (store g.H.Shelf c.gather_stands.new.shelf) in
     let begun = has-begun order (Banks planned) (banks_beginning_at order.from planned e) (banks_work planned e) (λ files. refl) (BanksStand planned.plans) stands _ _ c.requires.planned (subst B same c.in-Ok.ensures.asked) in
     let U : List (ℕ → Sample) → ℕ → Type 0 = λ starts n. IsUnopened (banks_work planned n starts) c.in-Err-open_run.ending in
     let parts = banks_parts planned.plans stands in
@@ -56,11 +56,11 @@ returns-clause-ends g c =
     let e = until_of order planned.orders in
     let same : c.until_of-until.result ≡ e = until-by order (banks_view c.planned.inside) planned c.until_of-until.result c.until_of-until.ensures.value c.planned.view_is in
     let opened = c.in-Ok-open_run.opened in
-    let B : ℕ → Type 0 = λ e. Begins order.from (BanksStand planned.plans) (option_map (banks_beginning_at order.from planned e) (g.H.Shelf.holds c.args.shelf.now)) (Ok stands) (store g.H.Shelf.holds g.H.Shelf.faults g.H.Shelf.lengths c.args.shelf.now) (store g.H.Shelf.holds g.H.Shelf.faults g.H.Shelf.lengths c.gather_stands.new.shelf) in
+    let B : ℕ → Type 0 = λ e. Begins order.from (BanksStand planned.plans) (option_map (banks_beginning_at order.from planned e) (g.H.Shelf.holds c.args.shelf.now)) (Ok stands) (store g.H.Shelf c.args.shelf.now) (store g.H.Shelf c.gather_stands.new.shelf) in
     let begun = has-begun order (Banks planned) (banks_beginning_at order.from planned e) (banks_work planned e) (λ files. refl) (BanksStand planned.plans) stands _ _ c.requires.planned (subst B same c.in-Ok.ensures.asked) in
     let W : ℕ → Type 0 = λ e. (starts : List (ℕ → Sample)) → BanksStand planned.plans starts stands
-    → Wrote order.save (Some (Ok (BanksWork planned starts e))) c.finish_banks.result (store g.H.Shelf.holds g.H.Shelf.faults g.H.Shelf.lengths c.gather_stands.new.shelf) (store g.H.Shelf.holds g.H.Shelf.faults g.H.Shelf.lengths c.finish_banks.new.shelf)
-    (output g.O.Sink.taken g.O.Sink.faults c.args.out.now) (output g.O.Sink.taken g.O.Sink.faults c.finish_banks.new.out) in
+    → Wrote order.save (Some (Ok (BanksWork planned starts e))) c.finish_banks.result (store g.H.Shelf c.gather_stands.new.shelf) (store g.H.Shelf c.finish_banks.new.shelf)
+    (output g.O.Sink c.args.out.now) (output g.O.Sink c.finish_banks.new.out) in
     let wrote : W until = λ starts b. c.finish_banks.ensures.wrote planned starts until
     (c.in-Ok-open_run.ensures.runs c.banks_report_is_serial.ensures c.banks_checkpoint_is_serial.ensures starts b) in
     let none : (starts : List (ℕ → Sample)) → BanksStand planned.plans starts stands → banks_amount_refusal planned.plans planned.orders (starts_at starts) e ≡ None =

@@ -15,7 +15,7 @@ returns-in-Err-clause-wrote g c = λ planned from e is.
     let done = subst R (sym c.drive-done.ensures.run) is in
     let P : List ℕ → List ℕ → Type 0 = λ text bytes. AppendsPrefix (g.O.Sink.taken c.args.out.now) (g.O.Sink.taken c.put_run.new.out) text in
     run-gives stop_after planned from e c.drive-done.result.ended.stand P (run-comes stop_after planned from e c.args.opened.run c.drive-done.result.ended is c.drive-done.ensures.ended)
-    (c.in-Err.ensures.prefix stop_after planned from e done)
+    (c.in-Err.ensures.written stop_after planned from e done).prefix
 
 -- what is given is named, since it would be found with the store and the output written out
 pub returns-in-Ok-save_run-clause-wrote : goal.returns-in-Ok-save_run-clause-wrote
@@ -23,13 +23,13 @@ returns-in-Ok-save_run-clause-wrote g c = λ planned from e is.
     let stop_after = c.args.order.now.stop_after in
     let R : RunView → Type 0 = λ r. IsRunOf stop_after planned from e r in
     let done = subst R (sym c.drive-done.ensures.run) is in
-    let held : Store = store g.H.Shelf.holds g.H.Shelf.faults g.H.Shelf.lengths c.args.shelf.now in
-    let holds : Store = store g.H.Shelf.holds g.H.Shelf.faults g.H.Shelf.lengths c.save_run.new.shelf in
-    let before : Output = output g.O.Sink.taken g.O.Sink.faults c.args.out.now in
-    let now : Output = output g.O.Sink.taken g.O.Sink.faults c.put_run.new.out in
+    let held : Store = store g.H.Shelf c.args.shelf.now in
+    let holds : Store = store g.H.Shelf c.save_run.new.shelf in
+    let before : Output = output g.O.Sink c.args.out.now in
+    let now : Output = output g.O.Sink c.put_run.new.out in
     let P : List ℕ → List ℕ → Type 0 = IsGiven (name_bytes c.args.order.now.save) held holds before now in
     run-gives stop_after planned from e c.drive-done.result.ended.stand P (run-comes stop_after planned from e c.args.opened.run c.drive-done.result.ended is c.drive-done.ensures.ended)
-    (c.in-Ok.ensures.whole stop_after planned from e done, c.in-Ok-save_run.ensures.placed planned from e done)
+    ((c.in-Ok.ensures.written stop_after planned from e done).whole, c.in-Ok-save_run.ensures.placed planned from e done)
 
 pub returns-clause-ending : goal.returns-clause-ending
 returns-clause-ending g c = c.in-Err-save_run.ensures.named
@@ -41,4 +41,4 @@ returns-clause-wrote g c = λ planned from e is.
     let done = subst R (sym c.drive-done.ensures.run) is in
     let P : List ℕ → List ℕ → Type 0 = λ text bytes. g.O.Sink.taken c.put_run.new.out ≡ appended (g.O.Sink.taken c.args.out.now) text in
     run-gives stop_after planned from e c.drive-done.result.ended.stand P (run-comes stop_after planned from e c.args.opened.run c.drive-done.result.ended is c.drive-done.ensures.ended)
-    (c.in-Ok.ensures.whole stop_after planned from e done)
+    (c.in-Ok.ensures.written stop_after planned from e done).whole

@@ -16,5 +16,5 @@ returns-in-Some-clause-placed g c = λ planned from e is.
     let kind = c.requires.saves ∙ ap (λ n. saves_as stop_after (name_bytes n)) c.in-Some.is in
     let same = bytes-of c.whole_checkpoint_is_the_rules.ensures c.level_checkpoint_is_serial.ensures stop_after c.in-Some.name.now planned from e c.args.done.now.run c.args.done.now.ended kind is c.requires.ended in
     let bytes = bytes_at stop_after planned from e stand in
-    let P : Option (Bor (List ℕ)) → Type 0 = λ n. OnOk c.save.result (Saved (name_bytes n) bytes (store g.H.Shelf.holds g.H.Shelf.faults g.H.Shelf.lengths c.args.shelf.now) (store g.H.Shelf.holds g.H.Shelf.faults g.H.Shelf.lengths c.save.new.shelf)) in
+    let P : Option (Bor (List ℕ)) → Type 0 = λ n. OnOk c.save.result (Saved (name_bytes n) bytes (store g.H.Shelf c.args.shelf.now) (store g.H.Shelf c.save.new.shelf)) in
     subst P (sym c.in-Some.is) (on_ok_weaker c.save.result (λ placed. subst (Placed (g.H.Shelf.holds c.args.shelf.now) (g.H.Shelf.holds c.save.new.shelf) c.in-Some.name.now) same placed) c.save.ensures.placed)

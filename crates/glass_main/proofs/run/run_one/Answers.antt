@@ -24,7 +24,7 @@ returns-in-Err-clause-ends g c =
     let planned = c.args.asked.planned in
     let e = until_of order planned.orders in
     let same : c.until_of-until.result ≡ e = c.until_of-until.ensures.value in
-    let B : ℕ → Type 0 = λ e. Begins order.from (IsBaseOf planned.plan) (option_map (beginning_at order.from planned e) (g.H.Shelf.holds c.args.shelf.now)) (Err c.in-Err.ending) (store g.H.Shelf.holds g.H.Shelf.faults g.H.Shelf.lengths c.args.shelf.now) (store g.H.Shelf.holds g.H.Shelf.faults g.H.Shelf.lengths c.gather_base.new.shelf) in
+    let B : ℕ → Type 0 = λ e. Begins order.from (IsBaseOf planned.plan) (option_map (beginning_at order.from planned e) (g.H.Shelf.holds c.args.shelf.now)) (Err c.in-Err.ending) (store g.H.Shelf c.args.shelf.now) (store g.H.Shelf c.gather_base.new.shelf) in
     ends-unbegun order (One planned) (beginning_at order.from planned e) (run_work order.stop_after planned e) (λ files. refl) (IsBaseOf planned.plan) c.in-Err.ending _ _ _
     c.requires.planned (subst B same c.in-Err.ensures.asked)
 
@@ -35,7 +35,7 @@ returns-in-Err-open_run-clause-ends g c =
     let base = c.in-Ok.base in
     let e = until_of order planned.orders in
     let same : c.until_of-until.result ≡ e = c.until_of-until.ensures.value in
-    let B : ℕ → Type 0 = λ e. Begins order.from (IsBaseOf planned.plan) (option_map (beginning_at order.from planned e) (g.H.Shelf.holds c.args.shelf.now)) (Ok base) (store g.H.Shelf.holds g.H.Shelf.faults g.H.Shelf.lengths c.args.shelf.now) (store g.H.Shelf.holds g.H.Shelf.faults g.H.Shelf.lengths c.gather_base.new.shelf) in
+    let B : ℕ → Type 0 = λ e. Begins order.from (IsBaseOf planned.plan) (option_map (beginning_at order.from planned e) (g.H.Shelf.holds c.args.shelf.now)) (Ok base) (store g.H.Shelf c.args.shelf.now) (store g.H.Shelf c.gather_base.new.shelf) in
     let begun = has-begun order (One planned) (beginning_at order.from planned e) (run_work order.stop_after planned e) (λ files. refl) (IsBaseOf planned.plan) base _ _ c.requires.planned (subst B same c.in-Ok.ensures.asked) in
     let U : Beginning → ℕ → Type 0 = λ from n. IsUnopened (run_work order.stop_after planned n from) c.in-Err-open_run.ending in
     ends-unopened order (One planned) (beginning_at order.from planned e) (run_work order.stop_after planned e) (λ files. refl) (IsBaseOf planned.plan) base (Uneven base) c.in-Err-open_run.ending _ _ _ begun
@@ -50,12 +50,12 @@ returns-clause-ends g c =
     let until = c.until_of-until.result in
     let e = until_of order planned.orders in
     let same : c.until_of-until.result ≡ e = c.until_of-until.ensures.value in
-    let B : ℕ → Type 0 = λ e. Begins order.from (IsBaseOf planned.plan) (option_map (beginning_at order.from planned e) (g.H.Shelf.holds c.args.shelf.now)) (Ok base) (store g.H.Shelf.holds g.H.Shelf.faults g.H.Shelf.lengths c.args.shelf.now) (store g.H.Shelf.holds g.H.Shelf.faults g.H.Shelf.lengths c.gather_base.new.shelf) in
+    let B : ℕ → Type 0 = λ e. Begins order.from (IsBaseOf planned.plan) (option_map (beginning_at order.from planned e) (g.H.Shelf.holds c.args.shelf.now)) (Ok base) (store g.H.Shelf c.args.shelf.now) (store g.H.Shelf c.gather_base.new.shelf) in
     let begun = has-begun order (One planned) (beginning_at order.from planned e) (run_work order.stop_after planned e) (λ files. refl) (IsBaseOf planned.plan) base _ _ c.requires.planned (subst B same c.in-Ok.ensures.asked) in
     let A : ℕ → Type 0 = λ e. amount_refusal planned.plan planned.orders (floor_of (positions_of base)) e ≡ None in
     let W : ℕ → Type 0 = λ e. (from : Beginning) → IsBaseOf planned.plan from base
-    → Wrote order.save (Some (Ok (RunWork planned from e order.stop_after))) c.finish_run.result (store g.H.Shelf.holds g.H.Shelf.faults g.H.Shelf.lengths c.gather_base.new.shelf) (store g.H.Shelf.holds g.H.Shelf.faults g.H.Shelf.lengths c.finish_run.new.shelf)
-    (output g.O.Sink.taken g.O.Sink.faults c.args.out.now) (output g.O.Sink.taken g.O.Sink.faults c.finish_run.new.out) in
+    → Wrote order.save (Some (Ok (RunWork planned from e order.stop_after))) c.finish_run.result (store g.H.Shelf c.gather_base.new.shelf) (store g.H.Shelf c.finish_run.new.shelf)
+    (output g.O.Sink c.args.out.now) (output g.O.Sink c.finish_run.new.out) in
     let wrote : W until = λ from b. c.finish_run.ensures.wrote planned from until (run-of order.stop_after planned base until order.save c.in-Ok-open_run.opened from c.in-Ok-open_run.ensures.opened b) in
     let none : A e = subst A same c.in-Ok-open_run.ensures.accepted in
     ends-finished order (One planned) (beginning_at order.from planned e) (run_work order.stop_after planned e) (λ files. refl) (IsBaseOf planned.plan) base (λ from. RunWork planned from e order.stop_after)

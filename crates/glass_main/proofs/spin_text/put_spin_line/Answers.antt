@@ -1,26 +1,18 @@
-use Rattle.std.proofs.Common.{codes, subst}
-use Rattle.glass_edges.specs.Contents.{AppendsPrefix}
-use Rattle.glass_edges.proofs.Puts.{prefix_front, OnErr_of}
+use Rattle.std.proofs.Common.{codes, sym}
+use Rattle.glass_edges.proofs.Writing.{fronts-added, fronts-broken, fronts-put, writes-same}
 use Rattle.scalar_rule.specs.SpinDigits.{spin_digits}
 use Rattle.glass_main.specs.Texts.{spin_line}
-use Rattle.glass_main.proofs.LongLines.{whole-ended, prefix-ended}
 use Rattle.glass_main.proofs.SpinText.{three_pieces}
 use Rattle.glass_main.proofs.spin_text.put_spin_line.Goals as goal
 
-pub returns-in_err-put_digits-clause-prefix : goal.returns-in_err-put_digits-clause-prefix
+pub returns-in_err-put_digits : goal.returns-in_err-put_digits
 unfolding spin_line
-returns-in_err-put_digits-clause-prefix g c =
-    OnErr_of _ (subst (AppendsPrefix _ _) (three_pieces c.args.line.now _ (spin_digits c.args.lattice.now c.args.spins.now) _ c.add.new.self c.add.ensures)
-    (prefix_front _ _ _ _ c.in_err-put_digits.ensures.prefix))
+returns-in_err-put_digits g c =
+    fronts-broken (codes "\n") c.from_residual.ensures.0 c.in_err-put_digits.ensures
+    (sym (three_pieces c.args.line.now _ (spin_digits c.args.lattice.now c.args.spins.now) _ c.add.new.self c.add.ensures))
 
-pub returns-clause-whole : goal.returns-clause-whole
+pub returns : goal.returns
 unfolding spin_line
-returns-clause-whole g c =
-    whole-ended c.end_line.result _ _ _ _ _ (codes "\n") _ c.in_ok-put_digits.ensures.front
-    (three_pieces c.args.line.now _ (spin_digits c.args.lattice.now c.args.spins.now) _ c.add.new.self c.add.ensures) c.end_line.ensures.whole
-
-pub returns-clause-prefix : goal.returns-clause-prefix
-unfolding spin_line
-returns-clause-prefix g c =
-    prefix-ended c.end_line.result _ _ _ _ _ (codes "\n") _ c.in_ok-put_digits.ensures.front
-    (three_pieces c.args.line.now _ (spin_digits c.args.lattice.now c.args.spins.now) _ c.add.new.self c.add.ensures) c.end_line.ensures.prefix
+returns g c =
+    writes-same (three_pieces c.args.line.now _ (spin_digits c.args.lattice.now c.args.spins.now) _ c.add.new.self c.add.ensures)
+    (fronts-put (fronts-added (codes "\n") c.in_ok-put_digits.ensures) c.end_line.ensures)

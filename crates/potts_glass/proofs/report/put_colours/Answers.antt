@@ -1,31 +1,28 @@
 -- What is put behind the head of the line is a prefix of it at each error.
-use Rattle.std.proofs.Common.{◌≡◌, ◌++◌, ap, ◌∙◌, subst, codes}
-use Rattle.std.proofs.lemmas.Result.{on_err_weaker}
-use Rattle.glass_edges.specs.Contents.{AppendsPrefix}
-use Rattle.glass_edges.proofs.Puts.{front-then, front-more, front-prefix, front-failed, OnErr_of}
+use Rattle.std.proofs.Common.{◌++◌, refl, ap, ◌∙◌, codes}
+use Rattle.glass_edges.specs.Writes.{HasPutFront}
+use Rattle.glass_edges.proofs.Writing.{fronts-same, fronts-then, fronts-placed, fronts-broken, fronts-put}
 use Rattle.potts_glass.specs.PottsStates.{state_of}
 use Rattle.potts_glass.specs.PottsText.{colour_digits, colours_head, colours_line}
 use Rattle.potts_glass.proofs.report.put_colours.Goals as goal
+use Rattle.potts_glass.proofs.report.put_colours.Goals.{In_ok-put_digits}
 
-pub returns-in_err-make_room-clause-prefix : goal.returns-in_err-make_room-clause-prefix
-unfolding colours_line
-returns-in_err-make_room-clause-prefix g c =
-    let words = colours_head c.args.sample in
+-- the head and the digits are put, but for what is in the line
+digits-put : (g : _) (c : In_ok-put_digits g)
+    → HasPutFront g.O.Sink c.args.out.now c.put_digits.new.out (colours_head c.args.sample ++ colour_digits c.args.potts.now.couplings.size (state_of c.args.potts.now c.args.sample)) c.put_digits.new.line
+digits-put g c =
+    let head = colours_head c.args.sample in
     let digits = colour_digits c.args.potts.now.couplings.size (state_of c.args.potts.now c.args.sample) in
-    let before = g.O.Sink.taken c.args.out.now in
-    let now = g.O.Sink.taken c.make_room.new.out in
-    let head : c.add_head.new.line ≡ words = c.add_head.ensures ∙ ap (λ xs. xs ++ words) c.new-line.ensures in
-    OnErr_of _ (subst (λ xs. AppendsPrefix before now (xs ++ digits ++ codes "\n")) head
-    (front-failed _ _ _ _ _ (codes "\n") c.in_ok-put_digits.ensures.front c.in_err-make_room.ensures.prefix))
+    fronts-same (ap (λ xs. xs ++ digits) (c.add_head.ensures ∙ ap (λ xs. xs ++ head) c.new-line.ensures)) c.in_ok-put_digits.ensures
 
-pub returns-clause-prefix : goal.returns-clause-prefix
+pub returns-in_err-make_room : goal.returns-in_err-make_room
 unfolding colours_line
-returns-clause-prefix g c =
-    let words = colours_head c.args.sample in
-    let digits = colour_digits c.args.potts.now.couplings.size (state_of c.args.potts.now c.args.sample) in
-    let before = g.O.Sink.taken c.args.out.now in
-    let now = g.O.Sink.taken c.put.new.out in
-    let head : c.add_head.new.line ≡ words = c.add_head.ensures ∙ ap (λ xs. xs ++ words) c.new-line.ensures in
-    let front = front-then _ _ _ _ _ _ c.in_ok-put_digits.ensures.front c.in_ok-make_room.ensures.front in
-    on_err_weaker c.put.result (λ p. subst (λ xs. AppendsPrefix before now (xs ++ digits ++ codes "\n")) head
-    (front-prefix _ _ _ _ _ (front-more _ _ _ _ (codes "\n") front) (subst (AppendsPrefix _ now) c.add.ensures p))) c.put.ensures.prefix
+returns-in_err-make_room g c =
+    let at = (goal.at.returns-in_err-make_room g c).In_ok-put_digits in
+    fronts-broken (codes "\n") c.from_residual-in_err-make_room.ensures.0 (fronts-then (digits-put g at) c.in_err-make_room.ensures.written) refl
+
+pub returns : goal.returns
+unfolding colours_line
+returns g c =
+    let at = (goal.at.returns g c).In_ok-put_digits in
+    fronts-put (fronts-placed (codes "\n") (fronts-then (digits-put g at) c.in_ok-make_room.ensures.written) c.add.ensures refl) c.put.ensures.written

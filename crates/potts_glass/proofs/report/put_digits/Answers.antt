@@ -16,8 +16,5 @@ tells-digits gives l count colours same each =
       each = λ k byte below given. each k byte below given ∙ sym (get_or-table digit (volume l) k 0 (omega (arith, same, below)));
     }
 
-pub returns-clause-front : goal.returns-clause-front
-returns-clause-front g c = c.extend_by.ensures.front _ (tells-digits _ c.args.potts.now.couplings.size c.sites.result (state_of c.args.potts.now c.args.sample) c.sites.ensures.value (λ k byte below given. search rules))
-
-pub returns-clause-prefix : goal.returns-clause-prefix
-returns-clause-prefix g c = c.extend_by.ensures.prefix _ (tells-digits _ c.args.potts.now.couplings.size c.sites.result (state_of c.args.potts.now c.args.sample) c.sites.ensures.value (λ k byte below given. search rules))
+pub returns : goal.returns
+returns g c = c.extend_by.ensures.written _ (tells-digits _ c.args.potts.now.couplings.size c.sites.result (state_of c.args.potts.now c.args.sample) c.sites.ensures.value (λ k byte below given. search rules))

@@ -1,13 +1,13 @@
 -- The rows before the round that is filled are put, and its parts are on the back sheets.
 use Rattle.std.proofs.Common.{◌≡◌, ◌≤◌, ◌-◌, length}
 use Rattle.std.specs.Prelude.{All}
-use Rattle.glass_edges.specs.Contents.{appended}
+use Rattle.glass_edges.specs.Writes.{HasPut}
 use Rattle.report_sheets.specs.Sheets.{start_of, HasItsRows}
 use Rattle.report_sheets.proofs.writer.put_rows_by.Given as goal
 
 abbrev pub invariant-rounds : goal.invariant-rounds
 invariant-rounds g l = record {
-  text : g.O.Sink.taken l.out ≡ appended (g.O.Sink.taken l.fn.out) (g.S.RowSource.text l.rows (g.S.RowSource.begin l.rows) l.done.first);
+  written : HasPut g.O.Sink l.fn.out l.out (g.S.RowSource.text l.rows (g.S.RowSource.begin l.rows) l.done.first);
   front_rows : All (HasItsRows (g.S.RowSource.text l.rows)) l.front;
   back_rows : All (HasItsRows (g.S.RowSource.text l.rows)) l.back;
   all : start_of l.done (length l.back) ≡ l.done.last;
@@ -16,7 +16,6 @@ invariant-rounds g l = record {
   end : l.done.last ≤ l.pace.end;
   front : length l.front ≡ l.half;
   back : l.half ≤ length l.back;
-  passed : g.O.Sink.faults l.out ≡ g.O.Sink.faults l.fn.out;
 }
 
 abbrev pub decreases-rounds : goal.decreases-rounds

@@ -1,18 +1,14 @@
-use Rattle.std.proofs.Common.{arith, ap, refl, ◌∙◌}
-use Rattle.glass_edges.proofs.Puts.{OnErr_of}
-use Rattle.sample_average.specs.Averages.{slot_text}
-use Rattle.sample_average.proofs.Pieces.{put-none, put-more, put-failed}
+use Rattle.std.proofs.Common.{arith, ap}
+use Rattle.glass_edges.proofs.Writing.{writes-none, writes-more, writes-stopped}
+use Rattle.sample_average.proofs.Pieces.{pieces-none, pieces-more, pieces-at}
 use Rattle.sample_average.proofs.text.put_slots.Goals as goal
 
 pub slots-init : goal.slots-init
-slots-init g c = record { text = put-none _ (slot_text c.args.averages.now); passed = refl }
+slots-init g c = writes-none (pieces-none _)
 
 pub slots-preserved : goal.slots-preserved
-slots-preserved g c = record {
-  text = put-more _ _ _ (slot_text c.args.averages.now) c.slots.slot c.slots.invariant.text c.in_ok-put_slot.ensures.whole;
-  passed = c.in_ok-put_slot.ensures.cause.passed ∙ c.slots.invariant.passed;
-}
+slots-preserved g c = writes-more c.slots.invariant c.in_ok-put_slot.ensures (pieces-more _ c.slots.slot)
 
-pub returns-in_err-put_slot-clause-prefix : goal.returns-in_err-put_slot-clause-prefix
-returns-in_err-put_slot-clause-prefix g c =
-    OnErr_of _ (put-failed _ _ _ (slot_text c.args.averages.now) c.slots.slot c.args.averages.now.header.slots (omega (arith, c.slots-test.true, ap (λ h. h.slots) c.header-slot-end.ensures.value)) c.slots.invariant.text c.in_err-put_slot.ensures.prefix)
+pub returns-in_err-put_slot : goal.returns-in_err-put_slot
+returns-in_err-put_slot g c =
+    writes-stopped _ c.from_residual.ensures.0 c.slots.invariant c.in_err-put_slot.ensures (pieces-at _ c.slots.slot _ (omega (arith, c.slots-test.true, ap (λ h. h.slots) c.header-slot-end.ensures.value)))

@@ -1,8 +1,8 @@
 -- Each round puts a front of the text so far where the line is full, and adds what fits.
-use Rattle.std.proofs.Common.{rules, arith, ◌≡◌, ℕ, ◌+◌, ◌-◌, ◌<◌, List, ◌++◌, length, take, drop, sym, ap, ◌∙◌, subst, append_assoc, length-append, length-take-le}
+use Rattle.std.proofs.Common.{rules, arith, ◌≡◌, ℕ, ◌+◌, ◌-◌, ◌<◌, List, ◌++◌, length, take, drop, sym, ap, ◌∙◌, append_assoc, length-append, length-take-le}
 use Rattle.std.proofs.Math.Seq.{take-add}
-use Rattle.glass_edges.specs.Contents.{PutsFront, AppendsPrefix}
-use Rattle.glass_edges.proofs.Puts.{text-rest, front-step, front-failed, OnErr_of}
+use Rattle.glass_edges.proofs.Puts.{text-rest}
+use Rattle.glass_edges.proofs.Writing.{fronts-then, fronts-placed, fronts-failed}
 use Rattle.glass_edges.proofs.line.Line.extend.Goals as goal
 
 -- the text so far and the next piece
@@ -15,10 +15,8 @@ text-more first bytes at n =
 pub pieces-preserved : goal.pieces-preserved
 pieces-preserved g c = record {
   within = search (rules, arith);
-  front = subst (λ text. PutsFront (g.O.Sink.taken c.args.out.now) (g.O.Sink.taken c.make_room.new.out) text c.add.new.self)
-      (text-more c.args.self.now c.args.bytes.now c.pieces.at c.min-count.result)
-      (front-step _ _ _ _ _ _ _ _ c.pieces.invariant.front c.in_ok-make_room.ensures.front c.add.ensures);
-  passed = c.in_ok-make_room.ensures.cause.passed ∙ c.pieces.invariant.passed;
+  written = fronts-placed _ (fronts-then c.pieces.invariant.written c.in_ok-make_room.ensures.written) c.add.ensures
+      (sym (text-more c.args.self.now c.args.bytes.now c.pieces.at c.min-count.result));
   stays = λ fits.
       let some : 0 < c.min-count.result = omega (arith, c.min-count.ensures, c.len.ensures.value, c.in_ok-make_room.ensures.room, c.pieces-test.true) in
       let before = c.pieces.invariant.stays (omega (arith, fits)) in
@@ -31,8 +29,7 @@ pieces-preserved g c = record {
       );
 }
 
-pub returns-in_err-make_room-clause-prefix : goal.returns-in_err-make_room-clause-prefix
-returns-in_err-make_room-clause-prefix g c = OnErr_of c.from_residual.result
-    (subst (AppendsPrefix (g.O.Sink.taken c.args.out.now) (g.O.Sink.taken c.make_room.new.out))
-    (text-rest c.args.self.now c.args.bytes.now c.pieces.at)
-    (front-failed _ _ _ _ _ (drop c.pieces.at c.args.bytes.now) c.pieces.invariant.front c.in_err-make_room.ensures.prefix))
+pub returns-in_err-make_room-clause-written : goal.returns-in_err-make_room-clause-written
+returns-in_err-make_room-clause-written g c =
+    fronts-failed (drop c.pieces.at c.args.bytes.now) c.from_residual.ensures.0 (fronts-then c.pieces.invariant.written c.in_err-make_room.ensures.written)
+    (sym (text-rest c.args.self.now c.args.bytes.now c.pieces.at))

@@ -1,13 +1,13 @@
 -- A front of the text so far is put, and the rest of it is the line.
 use Rattle.std.proofs.Common.{◌≡◌, ◌+◌, ◌-◌, ◌≤◌, ◌++◌, length, take}
-use Rattle.glass_edges.specs.Contents.{PutsFront, line_room}
+use Rattle.glass_edges.specs.Contents.{line_room}
+use Rattle.glass_edges.specs.Writes.{HasPutFront}
 use Rattle.glass_edges.proofs.line.Line.extend.Given as goal
 
 abbrev pub invariant-pieces : goal.invariant-pieces
 invariant-pieces g l = record {
   within : l.at ≤ length l.bytes;
-  front : PutsFront (g.O.Sink.taken l.fn.out) (g.O.Sink.taken l.out) (l.fn.self ++ take l.at l.bytes) l.self;
-  passed : g.O.Sink.faults l.out ≡ g.O.Sink.faults l.fn.out;
+  written : HasPutFront g.O.Sink l.fn.out l.out (l.fn.self ++ take l.at l.bytes) l.self;
   stays : length l.fn.self + l.at ≤ line_room → (l.self ≡ l.fn.self ++ take l.at l.bytes) × (l.out ≡ l.fn.out);
 }
 

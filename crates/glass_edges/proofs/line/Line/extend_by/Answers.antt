@@ -1,8 +1,8 @@
 -- Each round puts a front of the text so far where the line is full, and adds the next byte.
-use Rattle.std.proofs.Common.{arith, ◌≡◌, ℕ, ◌+◌, ◌<◌, List, [], ◌∷◌, ◌++◌, length, take, drop, get_or, refl, sym, ap, ◌∙◌, subst, append-nil, append_assoc}
+use Rattle.std.proofs.Common.{arith, ◌≡◌, ℕ, ◌+◌, ◌<◌, List, [], ◌∷◌, ◌++◌, length, take, drop, get_or, refl, sym, ap, ◌∙◌, append_assoc}
 use Rattle.std.proofs.lemmas.List.{take_more}
-use Rattle.glass_edges.specs.Contents.{PutsFront, AppendsPrefix}
-use Rattle.glass_edges.proofs.Puts.{text-rest, front-none, front-step, front-failed, OnErr_of}
+use Rattle.glass_edges.proofs.Puts.{text-rest}
+use Rattle.glass_edges.proofs.Writing.{fronts-none, fronts-then, fronts-placed, fronts-failed}
 use Rattle.glass_edges.proofs.line.Line.extend_by.Goals as goal
 
 -- the text so far and the next byte
@@ -14,24 +14,21 @@ text-next first text k byte below told =
 
 pub bytes-init : goal.bytes-init
 bytes-init g c = record {
-  front = λ text tells. subst (λ xs. PutsFront (g.O.Sink.taken c.args.out.now) (g.O.Sink.taken c.args.out.now) xs c.args.self.now)
-      (sym (append-nil c.args.self.now)) (front-none (g.O.Sink.taken c.args.out.now) c.args.self.now);
+  written = λ text tells. fronts-none refl;
   passed = refl;
 }
 
 pub bytes-preserved : goal.bytes-preserved
 bytes-preserved g c = record {
-  front = λ text tells.
+  written = λ text tells.
       let within : c.bytes.k < c.args.count = omega (arith, c.bytes-test.true) in
       let below : c.bytes.k < length text = omega (arith, within, tells.sized) in
-      subst (λ xs. PutsFront (g.O.Sink.taken c.args.out.now) (g.O.Sink.taken c.make_room.new.out) xs c.add.new.self)
-      (text-next c.args.self.now text c.bytes.k c.byte_at.result below (tells.each c.bytes.k c.byte_at.result within c.byte_at.ensures))
-      (front-step _ _ _ _ _ _ _ _ (c.bytes.invariant.front text tells) c.in_ok-make_room.ensures.front c.add.ensures);
-  passed = c.in_ok-make_room.ensures.cause.passed ∙ c.bytes.invariant.passed;
+      fronts-placed _ (fronts-then (c.bytes.invariant.written text tells) c.in_ok-make_room.ensures.written) c.add.ensures
+      (sym (text-next c.args.self.now text c.bytes.k c.byte_at.result below (tells.each c.bytes.k c.byte_at.result within c.byte_at.ensures)));
+  passed = c.in_ok-make_room.ensures.written.cause.passed ∙ c.bytes.invariant.passed;
 }
 
-pub returns-in_err-make_room-clause-prefix : goal.returns-in_err-make_room-clause-prefix
-returns-in_err-make_room-clause-prefix g c = λ text tells. OnErr_of _
-    (subst (AppendsPrefix (g.O.Sink.taken c.args.out.now) (g.O.Sink.taken c.make_room.new.out))
-    (text-rest c.args.self.now text c.bytes.k)
-    (front-failed _ _ _ _ _ (drop c.bytes.k text) (c.bytes.invariant.front text tells) c.in_err-make_room.ensures.prefix))
+pub returns-in_err-make_room-clause-written : goal.returns-in_err-make_room-clause-written
+returns-in_err-make_room-clause-written g c = λ text tells.
+    fronts-failed (drop c.bytes.k text) c.from_residual.ensures.0 (fronts-then (c.bytes.invariant.written text tells) c.in_err-make_room.ensures.written)
+    (sym (text-rest c.args.self.now text c.bytes.k))

@@ -1,7 +1,7 @@
 -- The first bytes are put; before the first put nothing has changed.
 use Rattle.std.proofs.Common.{◌≡◌, ◌-◌, ◌≤◌, length, take}
 use Rattle.glass_edges.specs.Contents.{appended}
-use Rattle.glass_edges.proofs.sink.put_all.Given as goal
+use Rattle.glass_edges.proofs.all_bytes.put_all.Given as goal
 
 abbrev pub invariant-pieces : goal.invariant-pieces
 invariant-pieces g l = record {
