@@ -5,7 +5,7 @@ use Rattle.plane_sweep.specs.Uneven.{level_stand}
 use Rattle.run_checkpoint.specs.Encoding.{FitsKind}
 use Rattle.run_checkpoint.specs.declared.kinds.Kind.TheVariants as kinds
 use Rattle.run_checkpoint.proofs.UnevenForm.{flattened-level}
-use Rattle.bench_checkpoint.proofs.level_of.Goals as goal
+use Rattle.bench_kernels.proofs.checkpoints.level_of.Goals as goal
 
 pub returns : goal.returns
 returns c =
