@@ -63,7 +63,7 @@ returns-in-Pair-clause-found c =
     let e = c.in-Pair.pair.epoch in
     let changed = two at.After-store in
     let seen : (seat_view c.give_back.new.pass).seen ≡ set (set (words_of c.args.board) t (4 * e + 1)) (t + 1) (4 * e + 1) =
-        ap (λ (x : SeatView). x.seen) c.give_back.ensures.back ∙ ap (λ (x : SeatView). x.known) (second at.After-store-in-Pair) ∙ changed.words in
+    ap (λ (x : SeatView). x.seen) c.give_back.ensures.back ∙ ap (λ (x : SeatView). x.known) (second at.After-store-in-Pair) ∙ changed.words in
     ap (λ (l : List ℕ). set (set l t (4 * e)) (t + 1) (4 * e)) seen
     ∙ two-back (words_of c.args.board) t (t + 1) (4 * e + 1) (4 * e) (4 * e) (λ z. omega arith) changed.low_before changed.high_before
     ∙ sym c.requires.holder.words
