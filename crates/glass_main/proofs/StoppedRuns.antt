@@ -34,6 +34,7 @@ use Rattle.exchange_board.proofs.Starting.{taken-begun}
 use Rattle.glass_engine.specs.Report.{sample_rows, epoch_rows, rows_in_order, uneven_measured, all_rest, uneven_report, bank_report}
 use Rattle.glass_engine.specs.Runs.{RunView, IsEnd}
 use Rattle.spin_model.proofs.Joined.{joined-same}
+use Rattle.glass_engine.proofs.Pieces.{rows-same}
 use Rattle.glass_engine.proofs.Reporting.{spins-same}
 use Rattle.glass_engine.proofs.WholeRuns.{later, later-lawful, rest-at}
 use Rattle.glass_main.specs.Beginnings.{Beginning, Level, Uneven, begins_at, state_at, IsLevelBase, IsBaseOf}
@@ -60,18 +61,6 @@ base-floor plan (Level start) base some b =
     let level = level-floor b.stand long in
     sym (ap (λ (r : RaggedStand). floor_of (positions_of r)) b.is ∙ level.0 ∙ first)
 base-floor plan (Uneven stand) base some b = ap (λ (r : RaggedStand). floor_of (positions_of r)) (sym b)
-
--- rows of the same measurements from epoch c on
-pub rows-same : (m n : ℕ → ℕ → List Record) (samples every c e : ℕ) → ((b f : ℕ) → c ≤ f → is_recorded every f ≡ true → b < samples → m b f ≡ n b f)
-    → rows_in_order m samples every c e ≡ rows_in_order n samples every c e
-rows-same m n samples every c e same =
-    joined-same (λ f. cond (is_recorded every f) (epoch_rows m samples f) []) (λ f. cond (is_recorded every f) (epoch_rows n samples f) []) (λ k. c + k) (e - c)
-    (λ k below. where-true (is_recorded every (c + k)) (epoch_rows m samples (c + k)) (epoch_rows n samples (c + k))
-    (λ on. joined-same (λ b. sample_rows (c + k) b (m b (c + k))) (λ b. sample_rows (c + k) b (n b (c + k))) (λ b. b) samples (λ b within. ap (sample_rows (c + k) b) (same b (c + k) (omega arith) on within))))
-  where
-    where-true : (on : Bool) (xs ys : List ℕ) → (on ≡ true → xs ≡ ys) → cond on xs [] ≡ cond on ys []
-    where-true true xs ys all = all refl
-    where-true false xs ys all = refl
 
 -- their rows
 level-rows : (plan : Plan) (samples every e : ℕ) (start : ℕ → Sample) (base : RaggedStand) → 0 < slots_of plan → samples ≤ 64 → IsLevelBase plan start base
