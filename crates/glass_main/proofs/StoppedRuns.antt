@@ -1,5 +1,5 @@
 -- A run that may stop: where it comes to, and its report and checkpoint.
-use Rattle.std.proofs.Common.{arith, ◌≡◌, inl, inr, ℕ, zero, suc, ◌+◌, ◌-◌, ◌*◌, ◌<◌, ◌≤◌, Bool, true, false, cond, List, [], ◌++◌, length, refl, sym, ap, ap₂, ◌∙◌, subst}
+use Rattle.std.proofs.Common.{arith, ◌≡◌, inl, inr, ℕ, zero, suc, ◌+◌, ◌-◌, ◌*◌, ◌<◌, ◌≤◌, cond, List, [], ◌++◌, length, refl, sym, ap, ap₂, ◌∙◌, subst}
 use Rattle.std.specs.Prelude.{min, ◌&&◌, nat_lt}
 use Rattle.std.proofs.Math.Nat.{min-eq_left, min-eq_right}
 use native.Mathlib.Nat.{suc-mul}
@@ -12,7 +12,7 @@ use Rattle.scalar_rule.specs.Laws.{IsReached, level_start}
 use Rattle.scalar_rule.specs.Plan.{Plan, slots_of}
 use Rattle.scalar_rule.specs.Positions.{sum_below, position_in, done, floor_of, pending_record, uneven_record}
 use Rattle.scalar_rule.specs.Ragged.{Position, UnevenState, position_at, arrived, all_ready}
-use Rattle.scalar_rule.specs.Records.{is_recorded, measured_from}
+use Rattle.scalar_rule.specs.Records.{measured_from}
 use Rattle.scalar_rule.specs.Serial.{serial}
 use Rattle.scalar_rule.specs.declared.sample.Record.{Record}
 use Rattle.scalar_rule.specs.declared.sample.Sample.{Sample}
@@ -31,9 +31,8 @@ use Rattle.exchange_board.specs.Views.{RaggedEndedView}
 use Rattle.exchange_board.specs.declared.origin.Origin.{Origin}
 use Rattle.exchange_board.proofs.Origins.{done-reach}
 use Rattle.exchange_board.proofs.Starting.{taken-begun}
-use Rattle.glass_engine.specs.Report.{sample_rows, epoch_rows, rows_in_order, uneven_measured, all_rest, uneven_report, bank_report}
+use Rattle.glass_engine.specs.Report.{rows_in_order, uneven_measured, all_rest, uneven_report, bank_report}
 use Rattle.glass_engine.specs.Runs.{RunView, IsEnd}
-use Rattle.spin_model.proofs.Joined.{joined-same}
 use Rattle.glass_engine.proofs.Pieces.{rows-same}
 use Rattle.glass_engine.proofs.Reporting.{spins-same}
 use Rattle.glass_engine.proofs.WholeRuns.{later, later-lawful, rest-at}
