@@ -1,11 +1,10 @@
 -- From states at one epoch the report of a run to its end is that of the serial dynamics.
-use Rattle.std.proofs.Common.{arith, ◌≡◌, inl, inr, ℕ, ◌+◌, ◌-◌, ◌*◌, ◌<◌, ◌≤◌, Bool, min, cond, List, [], ◌∷◌, ◌++◌, length, refl, sym, ap, ap₂, ◌∙◌, subst, lit<}
+use Rattle.std.proofs.Common.{arith, ◌≡◌, inl, inr, ℕ, ◌-◌, ◌*◌, ◌<◌, ◌≤◌, Bool, min, cond, List, [], ◌∷◌, ◌++◌, length, refl, sym, ap, ap₂, ◌∙◌, subst, lit<}
 use Rattle.std.specs.Prelude.{All, ◌&&◌, ◌==◌}
 use Rattle.std.proofs.lemmas.Bool.{cases_lt, eq-eqb}
 use Rattle.std.proofs.lemmas.List.Elements.{All-head, All-tail}
 use Rattle.spin_model.specs.Limits.{every_take}
 use Rattle.report_text.specs.Lines.{header_line, end_line}
-use Rattle.spin_model.proofs.Joined.{joined-same}
 use Rattle.spin_model.proofs.Tables.{table-same}
 use Rattle.run_checkpoint.specs.BankEncoding.{BanksFit, BanksStand}
 use Rattle.run_plan.specs.declared.run_file.Orders.{Orders}
@@ -14,9 +13,8 @@ use Rattle.scalar_rule.specs.Laws.{level_start}
 use Rattle.scalar_rule.specs.Plan.{Plan, slots_of}
 use Rattle.scalar_rule.specs.Positions.{floor_of}
 use Rattle.scalar_rule.specs.Ragged.{UnevenState, all_ready}
-use Rattle.scalar_rule.specs.Records.{is_recorded, measured_from}
+use Rattle.scalar_rule.specs.Records.{measured_from}
 use Rattle.scalar_rule.specs.Serial.{serial}
-use Rattle.scalar_rule.specs.declared.sample.Record.{Record}
 use Rattle.scalar_rule.specs.declared.sample.Sample.{Sample}
 use Rattle.scalar_rule.proofs.LevelRuns.{all_ready-serial, level-record}
 use Rattle.scalar_rule.proofs.LevelStart.{and-true}
@@ -32,20 +30,13 @@ use Rattle.exchange_board.specs.Views.{RaggedEndedView}
 use Rattle.glass_engine.specs.Banks.{Bank, of_sample, banks_measured, banks_slots, banks_report}
 use Rattle.glass_engine.specs.BankLaws.{banks_with, StandForBanks}
 use Rattle.glass_engine.specs.BankRuns.{bank_run, bank_runs, for_samples, runs_of, samples_in, own_measured, run_measured, run_slots, floor_before, floor_after, run_report}
-use Rattle.glass_engine.specs.Report.{report, sample_rows, epoch_rows, rows_in_order, uneven_measured, all_spins}
+use Rattle.glass_engine.specs.Report.{report, rows_in_order, uneven_measured, all_spins}
 use Rattle.glass_engine.specs.Runs.{RunView, DoneView, starts, IsEnd}
 use Rattle.glass_engine.specs.declared.run.SaveKind.{SaveKind}
 use Rattle.glass_engine.proofs.BankLaws.{of-first, of-next, below-64}
 use Rattle.glass_engine.proofs.Pieces.{rows-same}
 use Rattle.glass_engine.proofs.Reporting.{spins-same}
 use Rattle.glass_engine.proofs.WholeRuns.{unstopped-whole, whole-floor}
-
--- the rows of epochs from c on, of the same measurements there
-rows-from : (m n : ℕ → ℕ → List Record) (samples every c e : ℕ) → ((b f : ℕ) → c ≤ f → b < samples → m b f ≡ n b f) → rows_in_order m samples every c e ≡ rows_in_order n samples every c e
-rows-from m n samples every c e same =
-    joined-same (λ f. cond (is_recorded every f) (epoch_rows m samples f) []) (λ f. cond (is_recorded every f) (epoch_rows n samples f) []) (λ k. c + k) (e - c)
-    (λ k below. ap (λ xs. cond (is_recorded every (c + k)) xs [])
-    (joined-same (λ b. sample_rows (c + k) b (m b (c + k))) (λ b. sample_rows (c + k) b (n b (c + k))) (λ b. b) samples (λ b within. ap (sample_rows (c + k) b) (same b (c + k) (omega arith) within))))
 
 -- ---- a bank
 
@@ -149,8 +140,8 @@ level-report c e bank banks d ds orders all count every spins =
     let parts : List ℕ → List ℕ → List ℕ = λ rows xs. header_line bank.plan n (bank.start 0).epoch e ++ rows ++ end_line e ++ cond orders.spins xs [] in
     let printed : (d.run.orders.spins && (floor_after d == d.run.until)) ≡ orders.spins =
     ap₂ (λ s b. s && b) spins (eq-eqb (floor_after d) d.run.until (level-to c e bank d l ∙ sym l.until)) ∙ and-true orders.spins in
-    let rows = rows-from m (banks_measured (bank ∷ banks)) n v (bank.start 0).epoch e
-    (λ b f since h. of-level [] (λ (x : DoneView) k. own_measured x.run k f) (λ (x : Bank) k. measured_from x.plan x.start k f) c e (bank ∷ banks) (d ∷ ds) all
+    let rows = rows-same m (banks_measured (bank ∷ banks)) n v (bank.start 0).epoch e
+    (λ b f since on h. of-level [] (λ (x : DoneView) k. own_measured x.run k f) (λ (x : Bank) k. measured_from x.plan x.start k f) c e (bank ∷ banks) (d ∷ ds) all
     (λ x y k lx small. level-measured c e x y lx k f small (omega (arith, since, level-begun c e bank d l))) b) in
     let slots = spins-same bank.plan n (run_slots e (d ∷ ds)) (banks_slots (bank ∷ banks) e)
     (λ b h. of-level [] (λ (x : DoneView) k. (all_ready x.run.plan (starts x.run k) e).slots) (λ (x : Bank) k. (serial x.plan (x.start k) e).slots) c e (bank ∷ banks) (d ∷ ds) all
@@ -169,7 +160,7 @@ one-serial bank orders e few =
     let n = orders.samples in
     let c = (bank.start 0).epoch in
     ap₂ (λ rows xs. header_line bank.plan n c e ++ rows ++ end_line e ++ cond orders.spins xs [])
-    (rows-same (banks_measured (bank ∷ [])) (measured_from bank.plan bank.start) n orders.every c e (λ b f h. (below-64 bank [] b (omega arith)).records f))
+    (rows-same (banks_measured (bank ∷ [])) (measured_from bank.plan bank.start) n orders.every c e (λ b f since on h. (below-64 bank [] b (omega arith)).records f))
     (spins-same bank.plan n (banks_slots (bank ∷ []) e) _ (λ b h. (below-64 bank [] b (omega arith)).slots e))
 
 pub one-level : (run : RunView) (stand : Stand) (opened : ℕ → Sample) (d : RaggedEndedView) → run.takes ≡ every_take → run.base ≡ level_stand stand → StandFits run.plan stand

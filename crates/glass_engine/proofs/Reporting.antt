@@ -26,7 +26,7 @@ use Rattle.glass_engine.specs.BankRuns.{own_measured, run_measured, run_slots, f
 use Rattle.glass_engine.specs.Report.{bank_report, uneven_report, rows_in_order, all_rest, all_spins, sample_spins}
 use Rattle.glass_engine.specs.Runs.{DoneView, starts, IsEnd}
 use Rattle.glass_engine.proofs.BankLaws.{of-first}
-use Rattle.glass_engine.proofs.Pieces.{rows-same}
+use Rattle.glass_engine.proofs.Pieces.{where-true, rows-same}
 use Rattle.spin_model.proofs.Joined.{joined-same}
 use Rattle.glass_engine.proofs.WholeRuns.{later, later-lawful, full-ended, rest-at}
 
@@ -108,10 +108,6 @@ floor-tells o d l s =
 pub spins-same : (plan : Plan) (samples : ℕ) (s t : ℕ → List PlainSlot) → ((b : ℕ) → b < samples → s b ≡ t b) → all_spins plan samples s ≡ all_spins plan samples t
 spins-same plan samples s t same = joined-same (λ b. sample_spins plan b (s b)) (λ b. sample_spins plan b (t b)) (λ b. b) samples (λ b below. ap (sample_spins plan b) (same b below))
 
-spins-where : (printed : Bool) (xs ys : List ℕ) → (printed ≡ true → xs ≡ ys) → cond printed xs [] ≡ cond printed ys []
-spins-where true xs ys same = same refl
-spins-where false xs ys same = refl
-
 -- the report of one bank
 pub one-report : (d : DoneView) → IsEnd d.run d.ended → run_report (d ∷ []) ≡ bank_report d.run (positions_of d.ended.stand)
 unfolding run_report uneven_report samples_in
@@ -127,11 +123,11 @@ one-report d e =
     let few : n ≤ 64 = let z = e.stop.fits.few_samples in let y = e.origin.samples_is in omega arith in
     let text : ℕ → List ℕ = λ k. header_line p k from to ++ rows_in_order (run_measured (d ∷ [])) k v from to ++ end_line to ++ cond (s && (to == run.until)) (all_spins p k (run_slots to (d ∷ []))) [] in
     let parts : List ℕ → List ℕ → List ℕ = λ rows spins. header_line p n from to ++ rows ++ end_line to ++ spins in
-    let rows = rows-same (run_measured (d ∷ [])) (own_measured run) n v from to (λ b f h. of-first [] (λ (x : DoneView) m. own_measured x.run m f) d [] b (omega arith)) in
+    let rows = rows-same (run_measured (d ∷ [])) (own_measured run) n v from to (λ b f since on h. of-first [] (λ (x : DoneView) m. own_measured x.run m f) d [] b (omega arith)) in
     let tells : (to == run.until) ≡ all_rest run.until ends = subst (λ k. (to == k) ≡ all_rest k ends) e.origin.until_is (floor-tells d.ended.origin d.ended e.lawful e.stop) in
     let ready = all_spins p n (λ b. (all_ready p (starts run b) run.until).slots) in
     let spins : cond (s && (to == run.until)) (all_spins p n (run_slots to (d ∷ []))) [] ≡ cond (s && all_rest run.until ends) ready [] =
-    spins-where (s && (to == run.until)) (all_spins p n (run_slots to (d ∷ []))) ready (λ on.
+    where-true (s && (to == run.until)) (all_spins p n (run_slots to (d ∷ []))) ready (λ on.
     spins-same p n (run_slots to (d ∷ [])) _ (λ b h. of-first [] (λ (x : DoneView) m. (all_ready x.run.plan (starts x.run m) to).slots) d [] b (omega arith)
     ∙ ap (λ k. (all_ready p (starts run b) k).slots) (eqb-true to run.until (and_parts s (to == run.until) on).1)))
     ∙ ap (λ a. cond (s && a) ready []) tells in

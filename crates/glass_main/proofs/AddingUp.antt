@@ -36,7 +36,7 @@ use Rattle.glass_main.specs.Stops.{states_of, kept_of, rows_to, spins_at}
 use Rattle.glass_main.specs.declared.planned.Planned.{Planned}
 use Rattle.glass_main.proofs.OpenedRuns.{floor-upto}
 use Rattle.glass_main.proofs.ReadStops.{accepted}
-use Rattle.glass_main.proofs.StoppedRuns.{rows-same}
+use Rattle.glass_engine.proofs.Pieces.{rows-same}
 
 -- ---- rows
 

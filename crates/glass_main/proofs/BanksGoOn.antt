@@ -23,7 +23,7 @@ use Rattle.glass_main.specs.ManyBanks.{PlannedBanks, openings_from, starts_at, b
 use Rattle.glass_main.specs.ResumeLaws.{AreBankPlans, AreBeginnings, banks_rows, banks_spins, BanksGoOnFrom}
 use Rattle.glass_main.proofs.AddingUp.{rows-split}
 use Rattle.glass_main.proofs.ReadRuns.{saved-banks-read}
-use Rattle.glass_main.proofs.StoppedRuns.{rows-same}
+use Rattle.glass_engine.proofs.Pieces.{rows-same}
 
 -- ---- states at one epoch
 

@@ -1,5 +1,5 @@
 -- A run that may stop: where it comes to, and its report and checkpoint.
-use Rattle.std.proofs.Common.{arith, ◌≡◌, inl, inr, ℕ, zero, suc, ◌+◌, ◌-◌, ◌*◌, ◌<◌, ◌≤◌, Bool, true, false, cond, List, [], ◌++◌, length, refl, sym, ap, ap₂, ◌∙◌, subst}
+use Rattle.std.proofs.Common.{arith, ◌≡◌, inl, inr, ℕ, zero, suc, ◌+◌, ◌-◌, ◌*◌, ◌<◌, ◌≤◌, cond, List, [], ◌++◌, length, refl, sym, ap, ap₂, ◌∙◌, subst}
 use Rattle.std.specs.Prelude.{min, ◌&&◌, nat_lt}
 use Rattle.std.proofs.Math.Nat.{min-eq_left, min-eq_right}
 use native.Mathlib.Nat.{suc-mul}
@@ -12,7 +12,7 @@ use Rattle.scalar_rule.specs.Laws.{IsReached, level_start}
 use Rattle.scalar_rule.specs.Plan.{Plan, slots_of}
 use Rattle.scalar_rule.specs.Positions.{sum_below, position_in, done, floor_of, pending_record, uneven_record}
 use Rattle.scalar_rule.specs.Ragged.{Position, UnevenState, position_at, arrived, all_ready}
-use Rattle.scalar_rule.specs.Records.{is_recorded, measured_from}
+use Rattle.scalar_rule.specs.Records.{measured_from}
 use Rattle.scalar_rule.specs.Serial.{serial}
 use Rattle.scalar_rule.specs.declared.sample.Record.{Record}
 use Rattle.scalar_rule.specs.declared.sample.Sample.{Sample}
@@ -31,9 +31,9 @@ use Rattle.exchange_board.specs.Views.{RaggedEndedView}
 use Rattle.exchange_board.specs.declared.origin.Origin.{Origin}
 use Rattle.exchange_board.proofs.Origins.{done-reach}
 use Rattle.exchange_board.proofs.Starting.{taken-begun}
-use Rattle.glass_engine.specs.Report.{sample_rows, epoch_rows, rows_in_order, uneven_measured, all_rest, uneven_report, bank_report}
+use Rattle.glass_engine.specs.Report.{rows_in_order, uneven_measured, all_rest, uneven_report, bank_report}
 use Rattle.glass_engine.specs.Runs.{RunView, IsEnd}
-use Rattle.spin_model.proofs.Joined.{joined-same}
+use Rattle.glass_engine.proofs.Pieces.{rows-same}
 use Rattle.glass_engine.proofs.Reporting.{spins-same}
 use Rattle.glass_engine.proofs.WholeRuns.{later, later-lawful, rest-at}
 use Rattle.glass_main.specs.Beginnings.{Beginning, Level, Uneven, begins_at, state_at, IsLevelBase, IsBaseOf}
@@ -60,18 +60,6 @@ base-floor plan (Level start) base some b =
     let level = level-floor b.stand long in
     sym (ap (λ (r : RaggedStand). floor_of (positions_of r)) b.is ∙ level.0 ∙ first)
 base-floor plan (Uneven stand) base some b = ap (λ (r : RaggedStand). floor_of (positions_of r)) (sym b)
-
--- rows of the same measurements from epoch c on
-pub rows-same : (m n : ℕ → ℕ → List Record) (samples every c e : ℕ) → ((b f : ℕ) → c ≤ f → is_recorded every f ≡ true → b < samples → m b f ≡ n b f)
-    → rows_in_order m samples every c e ≡ rows_in_order n samples every c e
-rows-same m n samples every c e same =
-    joined-same (λ f. cond (is_recorded every f) (epoch_rows m samples f) []) (λ f. cond (is_recorded every f) (epoch_rows n samples f) []) (λ k. c + k) (e - c)
-    (λ k below. where-true (is_recorded every (c + k)) (epoch_rows m samples (c + k)) (epoch_rows n samples (c + k))
-    (λ on. joined-same (λ b. sample_rows (c + k) b (m b (c + k))) (λ b. sample_rows (c + k) b (n b (c + k))) (λ b. b) samples (λ b within. ap (sample_rows (c + k) b) (same b (c + k) (omega arith) on within))))
-  where
-    where-true : (on : Bool) (xs ys : List ℕ) → (on ≡ true → xs ≡ ys) → cond on xs [] ≡ cond on ys []
-    where-true true xs ys all = all refl
-    where-true false xs ys all = refl
 
 -- their rows
 level-rows : (plan : Plan) (samples every e : ℕ) (start : ℕ → Sample) (base : RaggedStand) → 0 < slots_of plan → samples ≤ 64 → IsLevelBase plan start base
