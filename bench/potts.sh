@@ -1,11 +1,11 @@
 #!/usr/bin/env bash
-# Compares the sweep of the Potts glass with the same form in C, built for the same processor.
+# Compares the sweep of the Potts glass with the fastest form in C that is known, built for the same processor.
 
 usage() {
     cat <<'END'
 usage: bench/potts.sh [--cpu CPU] [--sizes "SIZE .."] [--passes N] [--turns N] [--limit RATIO]
 
-Times sweep of the crate potts_glass at each size against the same form in C (bench/potts.c, gcc -O3). The
+Times sweep of the crate potts_glass at each size against a form in C (bench/potts.c, gcc -O3). The
 two programs run by turns from the same state. For each size it prints the least picoseconds of an update
 on both sides and their ratio. An update is that of one site in one of the 64 samples, the random numbers
 included.
@@ -14,7 +14,7 @@ included.
   --sizes ..     of 8, 16, 32 and 64, all four if left out
   --passes N     passes of a turn, 30 if left out, each of 262144 / SIZE^3 sweeps
   --turns N      turns, 5 if left out
-  --limit RATIO  the greatest ratio that is right, 2.0 if left out
+  --limit RATIO  the greatest ratio that is right, 2.5 if left out
 
 Status: 0 where no ratio is above the limit, 1 where one is or the two sides left different colours, 2 for
 a wrong word or where a side can't be built. Needs rt and gcc 12.
@@ -22,7 +22,7 @@ END
 }
 
 passes=30
-limit=2.0
+limit=2.5
 sizes="8 16 32 64"
 . "$(dirname "$0")/common.sh"
 read_words "$@"
