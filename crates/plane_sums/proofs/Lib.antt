@@ -1,0 +1,3 @@
+pub mod PlaceNumbers
+pub mod Shown
+pub mod FamilyLines
