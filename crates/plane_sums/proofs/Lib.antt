@@ -1,3 +1,5 @@
 pub mod PlaceNumbers
 pub mod Shown
 pub mod FamilyLines
+pub mod Projecting
+pub mod Sums

@@ -1,8 +1,9 @@
 -- Numbers at places side by side: a plane that is written, and planes that agree.
-use Rattle.std.proofs.Common.{inl, inr, replicate, ◌≤◌, ◌≡◌, ℕ, zero, suc, ◌+◌, ◌*◌, ◌^◌, ◌<◌, List, [], length, get_or, set, refl, ap, sym, ◌∙◌, arith, mul-zero}
+use Rattle.std.proofs.Common.{inl, inr, replicate, ◌-◌, ◌%◌, ◌≤◌, ◌≡◌, ℕ, zero, suc, ◌+◌, ◌*◌, ◌^◌, ◌<◌, List, [], length, get_or, set, refl, ap, sym, ◌∙◌, arith, mul-zero}
 use Rattle.std.specs.Int.{bit_at}
 use Rattle.std.proofs.lemmas.List.{length-map, length-replicate, map-set, get_or-replicate, get_or_past}
 use Rattle.std.proofs.lemmas.Bool.{cases_lt}
+use Rattle.std.proofs.Math.Nat.{add-mod_right, mod-eq_of_lt}
 use Rattle.std.proofs.lemmas.Nat.Bits.{bit_at-zero}
 use Rattle.local_rule.specs.SiteBits.{lane_words}
 use Rattle.multispin_word.specs.Planes.{first, number}
@@ -72,3 +73,21 @@ zeros n k = elim (cases_lt k n) [
       let long : length (replicate {A = ℕ} n 0) ≡ n = length-replicate {A = ℕ} n 0 in
       get_or_past (replicate {A = ℕ} n 0) k 0 (omega (arith, long))
 ]
+
+-- what stands at the first places and once more behind them
+pub twice-there : (f g : ℕ → ℕ) (l : ℕ) → ((k : ℕ) → k < l → f k ≡ g k) → ((k : ℕ) → k < l → f (l + k) ≡ g k) → (k : ℕ) → k < 2 * l → f k ≡ g (k % l)
+twice-there f g l first second k within = elim (cases_lt k l) [
+  | inl less ↦ first k less ∙ ap g (sym (mod-eq_of_lt less))
+  | inr not ↦
+      let past : k ≡ k - l + l = omega arith in
+      let here : l + (k - l) ≡ k = omega arith in
+      let turned : k % l ≡ k - l = ap (λ n. n % l) past ∙ add-mod_right (k - l) l ∙ mod-eq_of_lt (omega arith) in
+      ap f (sym here) ∙ second (k - l) (omega arith) ∙ ap g (sym turned)
+]
+
+-- the number in planes that have these words at a place
+pub place-is : (vs : List (List ℕ)) (ws : List ℕ) (k b : ℕ) → length vs ≡ length ws
+    → ((w : ℕ) → w < length ws → get_or (get_or vs w []) k 0 ≡ get_or ws w 0) → count_at vs k b ≡ number ws b
+place-is vs ws k b long same =
+    let all : length (lane_words vs k) ≡ length ws = planes-long vs k ∙ long in
+    ap (λ n. first (lane_words vs k) n b) all ∙ first-same (lane_words vs k) ws (length ws) b (λ w within. ap (λ n. bit_at n b) (lane-word vs k w ∙ same w within))

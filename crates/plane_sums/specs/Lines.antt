@@ -8,6 +8,8 @@ use Rattle.scalar_rule.specs.Positions.{sum_below}
 use Rattle.measured_sums.specs.PlaneFamilies.{Family, AlongX, AlongY, AlongZ, SumXY, DifferenceXY, SumXZ, DifferenceXZ, SumYZ, DifferenceYZ}
 use Rattle.plane_sweep.specs.Packed.{spins_of}
 use Rattle.plane_sweep.specs.declared.replica.Plane.{Plane}
+use Rattle.plane_sums.specs.declared.totals.Turn.{Turn}
+use Rattle.plane_sums.specs.declared.totals.Turn.TheVariants as turns
 
 -- whether the spins of sample b agree at a site in the planes of two replicas
 abbrev pub agrees : ℕ → List Plane → List Plane → ℕ → ℕ → Bool
@@ -23,18 +25,11 @@ along_y l test z x = count_below (λ y. test (site_at l x y z)) l
 abbrev pub along_z : ℕ → (ℕ → Bool) → ℕ → ℕ → ℕ
 along_z l test y x = count_below (λ z. test (site_at l x y z)) l
 
--- how the planes of a family meet the lines of a projection: at one place of all of them, at one that falls by a place from line to
--- line, or at one that rises
-pub data Turn : Type 0 where
-  Straight : Turn
-  Sum : Turn
-  Difference : Turn
-
 -- the place at which plane 0 meets line o, up to whole turns
 abbrev pub begins_at : Turn → ℕ → ℕ → ℕ
-begins_at Straight l o = 0
-begins_at Sum l o = l - o
-begins_at Difference l o = o
+begins_at turns.Straight l o = 0
+begins_at turns.Sum l o = l - o
+begins_at turns.Difference l o = o
 
 -- the sum over all lines of their counts where plane m meets them
 abbrev pub across : Turn → ℕ → (ℕ → ℕ → ℕ) → ℕ → ℕ
@@ -42,15 +37,15 @@ across turn l line m = sum_below (λ o. line o ((begins_at turn l o + m) % l)) l
 
 -- at how many sites of plane m of a family a test holds, by the lines
 abbrev pub family_count : ℕ → (ℕ → Bool) → Family → ℕ → ℕ
-family_count l test AlongX m = across Straight l (along_y l test) m
-family_count l test AlongY m = across Straight l (along_x l test) m
+family_count l test AlongX m = across turns.Straight l (along_y l test) m
+family_count l test AlongY m = across turns.Straight l (along_x l test) m
 family_count l test AlongZ m = sum_below (along_y l test m) l
-family_count l test SumXY m = across Sum l (along_z l test) m
-family_count l test DifferenceXY m = across Difference l (along_z l test) m
-family_count l test SumXZ m = across Sum l (along_y l test) m
-family_count l test DifferenceXZ m = across Difference l (along_y l test) m
-family_count l test SumYZ m = across Sum l (along_x l test) m
-family_count l test DifferenceYZ m = across Difference l (along_x l test) m
+family_count l test SumXY m = across turns.Sum l (along_z l test) m
+family_count l test DifferenceXY m = across turns.Difference l (along_z l test) m
+family_count l test SumXZ m = across turns.Sum l (along_y l test) m
+family_count l test DifferenceXZ m = across turns.Difference l (along_y l test) m
+family_count l test SumYZ m = across turns.Sum l (along_x l test) m
+family_count l test DifferenceYZ m = across turns.Difference l (along_x l test) m
 
 -- word k of row j
 abbrev pub word_in : List (List ℕ) → ℕ → ℕ → ℕ

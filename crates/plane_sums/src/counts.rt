@@ -1,10 +1,12 @@
 //! Numbers of 64 samples at up to 128 places side by side, in planes.
 
-ghost use Rattle.std.specs.Prelude.{◌≡◌, ℕ, ◌+◌, ◌*◌, ◌^◌, ◌<◌, ◌≤◌, slice_index};
+ghost use Rattle.std.specs.Prelude.{◌≡◌, ℕ, ◌+◌, ◌*◌, ◌%◌, ◌^◌, ◌<◌, ◌≤◌, ◌==◌, false, slice_index};
 ghost use Rattle.std.specs.Int.{bit_at};
+ghost use Rattle.multispin_word.specs.Planes.{number};
 ghost use Rattle.plane_sums.specs.Counts.{count_at};
 
 use bit_compare::full_adder;
+use multispin_word::Planes;
 
 /// A number of each sample, below 2^W, at each of 128 places: word k of plane w has bit w of the numbers
 /// at place k.
@@ -64,6 +66,30 @@ impl<const W: usize> Counts<W> {
         }
     }
 
+    /// The numbers at a place.
+    pub fn number(&self, place: usize) -> Planes<W>
+        requires { place < 128 }
+        ensures { (b : ℕ) → number result.words b ≡ count_at self.now.planes place b }
+    {
+        let mut words = [0u64; W];
+        'planes: for w in 0..W {
+            words[w] = self.planes[w][place];
+        }
+        Planes { words }
+    }
+
+    /// Writes the numbers at a place; the others stay.
+    pub fn put(&mut self, place: usize, numbers: &[u64; W])
+        requires { place < 128 }
+        ensures own { (b : ℕ) → count_at self.new.planes place b ≡ number numbers.now b }
+        ensures others { (k b : ℕ) → (k == place) ≡ false
+            → count_at self.new.planes k b ≡ count_at self.old.planes k b }
+    {
+        'planes: for w in 0..W {
+            put_word(&mut self.planes[w], place, numbers[w]);
+        }
+    }
+
     /// Makes the numbers at the first places 0.
     pub fn clear(&mut self, places: usize)
         requires { places ≤ 128 }
@@ -76,9 +102,8 @@ impl<const W: usize> Counts<W> {
 
     /// Writes the numbers at the first places once more, behind them.
     pub fn double(&mut self, places: usize)
-        requires { places ≤ 64 }
-        ensures first { (k b : ℕ) → k < places → count_at self.new.planes k b ≡ count_at self.old.planes k b }
-        ensures second { (k b : ℕ) → k < places → count_at self.new.planes (places + k) b ≡ count_at self.old.planes k b }
+        requires places { places ≤ 64 }
+        ensures { (k b : ℕ) → k < 2 * places → count_at self.new.planes k b ≡ count_at self.old.planes (k % places) b }
     {
         'planes: for w in 0..W {
             double_plane(&mut self.planes[w], places);
@@ -136,6 +161,15 @@ fn no_carry() -> [u64; 64]
     ensures { (k b : ℕ) → bit_at (slice_index result k) b ≡ 0 }
 {
     [0u64; 64]
+}
+
+#[inline]
+fn put_word(own: &mut [u64; 128], place: usize, word: u64)
+    requires { place < 128 }
+    ensures own { slice_index own.new place ≡ word }
+    ensures others { (k : ℕ) → (k == place) ≡ false → slice_index own.new k ≡ slice_index own.old k }
+{
+    own[place] = word;
 }
 
 #[inline]

@@ -3,3 +3,6 @@
 
 mod agreement;
 mod counts;
+mod families;
+mod projections;
+mod totals;
