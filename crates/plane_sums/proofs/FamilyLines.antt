@@ -1,5 +1,5 @@
 -- The sum over a plane of a family is a sum of counts over lines, one line of a projection after the other.
-use Rattle.std.proofs.Common.{inl, inr, ◌≡◌, ℕ, zero, suc, ◌+◌, ◌-◌, ◌%◌, ◌<◌, ◌≤◌, Bool, true, false, cond, ◌==◌, ℤ, pos, ◌+ℤ◌, refl, ap, ap₂, sym, ◌∙◌, arith}
+use Rattle.std.proofs.Common.{inl, inr, ◌≡◌, ℕ, zero, suc, ◌+◌, ◌-◌, ◌*◌, ◌%◌, ◌<◌, ◌≤◌, Bool, true, false, cond, ◌==◌, List, ℤ, pos, neg_ℤ, ◌+ℤ◌, ◌-ℤ◌, refl, ap, ap₂, sym, ◌∙◌, arith}
 use Rattle.std.proofs.lemmas.Bool.{cases_lt}
 use Rattle.std.proofs.lemmas.Bool.Decides.{nat_tests}
 use Rattle.std.proofs.Math.Nat.{add-mod_right, mod-eq_of_lt}
@@ -8,9 +8,12 @@ use Rattle.spin_model.specs.SignedSums.{sum_of}
 use Rattle.spin_model.specs.Lattice.{site_at, volume}
 use Rattle.scalar_rule.specs.Positions.{sum_below}
 use Rattle.measured_sums.specs.PlaneFamilies.{Family, AlongX, AlongY, AlongZ, SumXY, DifferenceXY, SumXZ, DifferenceXZ, SumYZ, DifferenceYZ, plane_at, plane_of, plane_sum}
-use Rattle.measured_sums.proofs.SignedTerms.{terms-same, terms-swap, term-hit}
+use Rattle.std.proofs.lemmas.Int.{ints}
+use Rattle.scalar_rule.specs.Neighbours.{spin, agree}
+use Rattle.measured_sums.specs.OverlapField.{site_overlap}
+use Rattle.measured_sums.proofs.SignedTerms.{terms-same, terms-add, terms-swap, term-hit}
 use Rattle.measured_sums.proofs.Parts.{ones-counted}
-use Rattle.measured_sums.proofs.PlaneSizes.{coordinates, plane-site}
+use Rattle.measured_sums.proofs.PlaneSizes.{coordinates, plane-site, planes-equal}
 use Rattle.plane_sums.specs.Lines.{along_x, along_y, along_z, family_count}
 
 -- 1 where a test holds, else 0
@@ -167,3 +170,26 @@ family-lines l test SumXZ m within = by-coordinates l test SumXZ m ∙ by-x-of-z
 family-lines l test DifferenceXZ m within = by-coordinates l test DifferenceXZ m ∙ by-x-of-z l test m (λ x z. (x + l - z) % l) (λ z. (z + m) % l) (λ z _. mod_below (z + m) l (omega arith)) (λ x z x_within z_within. difference-at l x z m x_within z_within within)
 family-lines l test SumYZ m within = by-coordinates l test SumYZ m ∙ by-y-of-z l test m (λ y z. (y + z) % l) (λ z. (l - z + m) % l) (λ z _. mod_below (l - z + m) l (omega arith)) (λ y z y_within z_within. sum-at l y z m y_within z_within within)
 family-lines l test DifferenceYZ m within = by-coordinates l test DifferenceYZ m ∙ by-y-of-z l test m (λ y z. (y + l - z) % l) (λ z. (z + m) % l) (λ z _. mod_below (z + m) l (omega arith)) (λ y z y_within z_within. difference-at l y z m y_within z_within within)
+
+-- ---- the overlap
+
+-- +1 and -1 are twice 1 and 0, less 1
+both : (on same : Bool) → cond on (cond same (pos 1) (neg_ℤ (pos 1))) (pos 0) +ℤ cond on (pos 1) (pos 0) ≡ cond on (cond same (pos 1) (pos 0)) (pos 0) +ℤ cond on (cond same (pos 1) (pos 0)) (pos 0)
+both true true = refl
+both true false = refl
+both false true = refl
+both false false = refl
+
+pub plane-counted : (l : ℕ) (first second : List Bool) (family : Family) (m : ℕ) → m < l
+    → pos (2 * family_count l (λ i. agree (spin first i) (spin second i)) family m) -ℤ pos (l * l) ≡ plane_sum l (site_overlap first second) family m
+plane-counted l first second family m within =
+    let test = λ (i : ℕ). agree (spin first i) (spin second i) in
+    let on = λ (i : ℕ). plane_of l family i == m in
+    let q = λ (i : ℕ). cond (on i) (site_overlap first second i) (pos 0) in
+    let one = λ (i : ℕ). cond (on i) (ones test i) (pos 0) in
+    let sites = ones-counted on (volume l) ∙ ap pos (planes-equal l family m within) in
+    let each = terms-same (λ i. q i +ℤ cond (on i) (pos 1) (pos 0)) (λ i. one i +ℤ one i) (volume l) (λ i _. both (on i) (test i)) in
+    let left = terms-add q (λ i. cond (on i) (pos 1) (pos 0)) (volume l) in
+    let right = terms-add one one (volume l) in
+    let counted = family-lines l test family m within in
+    omega (arith, ints)

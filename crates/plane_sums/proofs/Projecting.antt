@@ -10,7 +10,7 @@ use Rattle.scalar_rule.proofs.Extremes.{sum-same}
 use Rattle.spin_model.specs.Steps.{count_below}
 use Rattle.spin_model.specs.Lattice.{site_at}
 use Rattle.spin_model.proofs.Tables.{count_below-more}
-use Rattle.spin_model.proofs.Counts.{count-same}
+use Rattle.spin_model.proofs.Counts.{count-same, count-most}
 use Rattle.multispin_word.specs.Planes.{is_set, one_if}
 use Rattle.multispin_word.proofs.Bits.{one_if-is_set}
 use Rattle.plane_sums.specs.declared.counts.Counts.{Counts}
@@ -19,6 +19,7 @@ use Rattle.plane_sums.specs.declared.totals.Turn.{Turn}
 use Rattle.plane_sums.specs.declared.totals.Turn.TheVariants as turns
 use Rattle.plane_sums.specs.Counts.{count_at, line_at}
 use Rattle.plane_sums.specs.Lines.{across, begins_at, along_x, along_y, word_in, Show}
+use Rattle.plane_sums.specs.Families.{AreCounts, HasLines}
 use Rattle.plane_sums.specs.Projected.{AreProjected}
 
 -- ---- lines in a list
@@ -97,3 +98,10 @@ pub summed-along : (l : ℕ) (line : ℕ → ℕ → ℕ) (lines : List (Counts 
 summed-along l line lines b m within known =
     sum-same (λ k. count_at (line_at lines m) k b) (line m) l
     (λ k below. known m k within (omega arith) ∙ ap (line m) (mod-eq_of_lt below))
+
+pub lines-small : (l : ℕ) (test : ℕ → ℕ → Bool) (p : Projections) → HasLines l test p → AreCounts l p
+lines-small l test p known = record {
+  x = λ z k b h i j. let most = count-most (λ x. test b (site_at l x (k % l) z)) l in omega (arith, most, known.x z k b h i j);
+  y = λ z k b h i j. let most = count-most (λ y. test b (site_at l (k % l) y z)) l in omega (arith, most, known.y z k b h i j);
+  z = λ y k b h i j. let most = count-most (λ z. test b (site_at l (k % l) y z)) l in omega (arith, most, known.z y k b h i j);
+}

@@ -2,3 +2,4 @@ pub mod Counts
 pub mod Lines
 pub mod Projected
 pub mod Families
+pub mod Rooms

@@ -58,13 +58,7 @@ fn row_of(replica: &Replica, plane: usize, y: usize, size: usize) -> &[u64]
 
 // The words of a row from those of its even and its odd columns.
 #[inline]
-fn fill_row(
-    row: &mut [u64; 64],
-    even: &[u64],
-    other_even: &[u64],
-    odd: &[u64],
-    other_odd: &[u64],
-)
+fn fill_row(row: &mut [u64; 64], even: &[u64], other_even: &[u64], odd: &[u64], other_odd: &[u64])
     requires room { length even.now ≤ 32 }
     requires other_even { length other_even.now ≡ length even.now }
     requires odd { length odd.now ≡ length even.now }

@@ -49,7 +49,13 @@ impl<const W: usize> Counts<W> {
     {
         let mut carry = no_carry();
         'planes: for w in 0..V {
-            add_plane(&mut self.planes[w], &other.planes[w], from, &mut carry, places);
+            add_plane(
+                &mut self.planes[w],
+                &other.planes[w],
+                from,
+                &mut carry,
+                places,
+            );
         }
         self.carry_up(V, &mut carry, places);
     }
@@ -69,7 +75,8 @@ impl<const W: usize> Counts<W> {
     /// The numbers at a place.
     pub fn number(&self, place: usize) -> Planes<W>
         requires { place < 128 }
-        ensures { (b : ℕ) → number result.words b ≡ count_at self.now.planes place b }
+        ensures value { (b : ℕ) → number result.words b ≡ count_at self.now.planes place b }
+        ensures small { (b : ℕ) → number result.words b < 2 ^ W }
     {
         let mut words = [0u64; W];
         'planes: for w in 0..W {

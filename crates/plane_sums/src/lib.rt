@@ -4,5 +4,10 @@
 mod agreement;
 mod counts;
 mod families;
+mod numbers;
 mod projections;
+mod room;
 mod totals;
+
+pub use numbers::{plane_numbers, plane_numbers_between};
+pub use room::Planes3;

@@ -36,13 +36,7 @@ pub(crate) struct Sheets {
 
 impl Projections {
     /// Counts along all lines.
-    pub fn project(
-        &mut self,
-        sheets: &mut Sheets,
-        first: &Replica,
-        second: &Replica,
-        size: usize,
-    )
+    pub fn project(&mut self, sheets: &mut Sheets, first: &Replica, second: &Replica, size: usize)
         requires lawful { IsLawfulSize size }
         requires first { FitsReplica size first.now }
         requires second { FitsReplica size second.now }

@@ -36,12 +36,7 @@ impl Turn {
 }
 
 /// Sums over the planes that meet each line of a projection at one place.
-pub(crate) fn sum_across(
-    total: &mut Counts<13>,
-    lines: &Items<Counts<7>>,
-    turn: Turn,
-    size: usize,
-)
+pub(crate) fn sum_across(total: &mut Counts<13>, lines: &Items<Counts<7>>, turn: Turn, size: usize)
     requires size { size ≤ 64 }
     requires lines { length lines.now ≡ 64 }
     requires small { (o k b : ℕ) → o < size → k < 2 * size → b < 64 → count_at (line_at lines.now o) k b ≤ size }

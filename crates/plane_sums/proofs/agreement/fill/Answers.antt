@@ -14,10 +14,10 @@ rows-preserved c =
     record {
       long = length-set c.rows.rows c.rows.y c.fill_row.new.row ∙ c.rows.invariant.long;
       shown = rows-more (λ s y x. agrees l a b s (site_at l x y z)) l c.rows.y c.rows.rows c.fill_row.new.row (omega (arith, c.rows.invariant.long))
-      c.rows.invariant.shown
-      (row-agrees l a b c.fill_row.new.row c.row_of.result.now c.row_of-in-rows.result.now c.row_of-in-rows-2.result.now c.row_of-in-rows-3.result.now c.rows.y z
-      (c.requires.lawful.2) (omega arith) c.requires.z
-      (λ k s below. c.fill_row.ensures.even k s (omega (arith, c.row_of.ensures.long)))
-      (λ k s below. c.fill_row.ensures.odd k s (omega (arith, c.row_of.ensures.long)))
-      c.row_of.ensures.words c.row_of-in-rows.ensures.words c.row_of-in-rows-2.ensures.words c.row_of-in-rows-3.ensures.words);
+          c.rows.invariant.shown
+          (row-agrees l a b c.fill_row.new.row c.row_of.result.now c.row_of-in-rows.result.now c.row_of-in-rows-2.result.now c.row_of-in-rows-3.result.now c.rows.y z
+          (c.requires.lawful.2) (omega arith) c.requires.z
+          (λ k s below. c.fill_row.ensures.even k s (omega (arith, c.row_of.ensures.long)))
+          (λ k s below. c.fill_row.ensures.odd k s (omega (arith, c.row_of.ensures.long)))
+          c.row_of.ensures.words c.row_of-in-rows.ensures.words c.row_of-in-rows-2.ensures.words c.row_of-in-rows-3.ensures.words);
     }

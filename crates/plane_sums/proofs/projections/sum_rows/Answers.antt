@@ -14,8 +14,22 @@ pub pairs-init : goal.pairs-init
 pairs-init c = λ k b h i. c.clear.ensures k b h ∙ sym (count_below-zero (λ j. is_set (word_in c.args.rows.now j k) b))
 
 pub add_words-requires : goal.add_words-requires
-add_words-requires c = (omega arith, (omega arith, (omega arith, (omega (arith, c.requires.lawful.1), (omega (arith, c.requires.lawful.1),
-    λ k b h i. omega (arith, c.requires.lawful.1, c.pairs.invariant k b h i, count-most (λ j. is_set (word_in c.args.rows.now j k) b) (2 * c.pairs.pair)))))))
+add_words-requires c = (
+  omega arith,
+  (
+    omega arith,
+    (
+      omega arith,
+      (
+        omega (arith, c.requires.lawful.1),
+        (
+          omega (arith, c.requires.lawful.1),
+          λ k b h i. omega (arith, c.requires.lawful.1, c.pairs.invariant k b h i, count-most (λ j. is_set (word_in c.args.rows.now j k) b) (2 * c.pairs.pair)),
+        ),
+      ),
+    ),
+  ),
+)
 
 pub pairs-preserved : goal.pairs-preserved
 pairs-preserved c = λ k b h i.
