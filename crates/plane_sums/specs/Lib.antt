@@ -3,3 +3,4 @@ pub mod Lines
 pub mod Projected
 pub mod Families
 pub mod Rooms
+pub mod Correlations

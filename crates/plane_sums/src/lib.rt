@@ -5,9 +5,11 @@ mod agreement;
 mod counts;
 mod families;
 mod numbers;
+mod products;
 mod projections;
 mod room;
 mod totals;
 
 pub use numbers::{plane_numbers, plane_numbers_between};
+pub use products::correlations;
 pub use room::Planes3;

@@ -1,6 +1,6 @@
 //! The overlap summed over the planes of all families, as numbers.
 
-ghost use Rattle.std.specs.Prelude.{◌≡◌, ℕ, ◌+◌, ◌*◌, ◌<◌, ◌≤◌, ℤ, pos, ◌-ℤ◌, [], length, slice_index, slice_index_or};
+ghost use Rattle.std.specs.Prelude.{◌≡◌, ℕ, ◌+◌, ◌*◌, ◌<◌, ◌≤◌, ℤ, pos, nat_abs, ◌-ℤ◌, [], length, slice_index, slice_index_or};
 ghost use Rattle.measured_sums.specs.OverlapField.{site_overlap};
 ghost use Rattle.measured_sums.specs.PlaneFamilies.{plane_sum};
 ghost use Rattle.plane_sums.specs.Counts.{count_at, line_at};
@@ -17,7 +17,7 @@ use plane_sweep::{Duo, Replica};
 
 /// The sums of the overlap of a slot's two replicas over the planes of each family: by family (across x,
 /// y and z, then across the diagonals x + y, x - y, x + z, x - z, y + z and y - z of the faces), plane
-/// below the side, and sample. Takes no memory.
+/// below the side, and sample. None is above L^2 in absolute value. Takes no memory.
 pub fn plane_numbers(
     duo: &Duo,
     lattice: Lattice,
@@ -25,9 +25,11 @@ pub fn plane_numbers(
     out: &mut [[[i16; 64]; 64]; 9],
 )
     requires { FitsDuo lattice duo.now }
-    ensures { (f m b : ℕ) → f < 9 → m < lattice → b < 64 → number_in out.new f m b
+    ensures value { (f m b : ℕ) → f < 9 → m < lattice → b < 64 → number_in out.new f m b
         ≡ plane_sum lattice (site_overlap (spins_of lattice b duo.now.first.planes)
         (spins_of lattice b duo.now.second.planes)) (family_at f) m }
+    ensures within { (f m b : ℕ) → f < 9 → m < lattice → b < 64
+        → nat_abs (number_in out.new f m b) ≤ 4096 }
 {
     plane_numbers_between(&duo.first, &duo.second, lattice, room, out);
 }
@@ -42,9 +44,11 @@ pub fn plane_numbers_between(
 )
     requires first { FitsReplica lattice first.now }
     requires second { FitsReplica lattice second.now }
-    ensures { (f m b : ℕ) → f < 9 → m < lattice → b < 64 → number_in out.new f m b
+    ensures value { (f m b : ℕ) → f < 9 → m < lattice → b < 64 → number_in out.new f m b
         ≡ plane_sum lattice (site_overlap (spins_of lattice b first.now.planes)
         (spins_of lattice b second.now.planes)) (family_at f) m }
+    ensures within { (f m b : ℕ) → f < 9 → m < lattice → b < 64
+        → nat_abs (number_in out.new f m b) ≤ 4096 }
 {
     let size = lattice.size() as usize;
     room.lines.project(&mut room.sheets, first, second, size);
