@@ -1,5 +1,5 @@
 -- Sums over the families in their order are the definitions' sums over axes and diagonals.
-use Rattle.std.proofs.Common.{◌≡◌, ℕ, zero, suc, ◌+◌, ◌*◌, ◌%◌, ◌<◌, ℤ, pos, List, ◌+ℤ◌, ◌*ℤ◌, refl, ap, ap₂, ◌∙◌, sym, arith}
+use Rattle.std.proofs.Common.{◌≡◌, ℕ, ◌+◌, ◌%◌, ◌<◌, ℤ, List, ◌+ℤ◌, ◌*ℤ◌, ap₂, arith}
 use Rattle.std.proofs.lemmas.Int.{ints}
 use Rattle.std.proofs.lemmas.Nat.{mod_below}
 use Rattle.spin_model.specs.SignedSums.{sum_of}

@@ -1,5 +1,5 @@
 -- Numbers at places side by side: a plane that is written, and planes that agree.
-use Rattle.std.proofs.Common.{inl, inr, replicate, ◌-◌, ◌%◌, ◌≤◌, ◌≡◌, ℕ, zero, suc, ◌+◌, ◌*◌, ◌^◌, ◌<◌, List, [], length, get_or, set, refl, ap, sym, ◌∙◌, arith, mul-zero}
+use Rattle.std.proofs.Common.{inl, inr, replicate, ◌-◌, ◌%◌, ◌≡◌, ℕ, zero, suc, ◌+◌, ◌*◌, ◌^◌, ◌<◌, List, [], length, get_or, set, refl, ap, sym, ◌∙◌, arith, mul-zero}
 use Rattle.std.specs.Int.{bit_at}
 use Rattle.std.proofs.lemmas.List.{length-map, length-replicate, map-set, get_or-replicate, get_or_past}
 use Rattle.std.proofs.lemmas.Bool.{cases_lt}

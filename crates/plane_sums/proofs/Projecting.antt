@@ -1,5 +1,5 @@
 -- Lines of numbers in a list of lines, and what one plane more makes of projections.
-use Rattle.std.proofs.Common.{inl, inr, ◌≡◌, ◌≢◌, ℕ, ◌+◌, ◌-◌, ◌*◌, ◌%◌, ◌<◌, ◌≤◌, Bool, List, [], length, get_or, set, ap, sym, ◌∙◌, arith}
+use Rattle.std.proofs.Common.{inl, inr, ◌≡◌, ◌≢◌, ℕ, ◌+◌, ◌*◌, ◌%◌, ◌<◌, ◌≤◌, Bool, List, [], length, get_or, set, ap, sym, ◌∙◌, arith}
 use Rattle.std.specs.Int.{bit_at}
 use Rattle.std.proofs.lemmas.Bool.{cases_lt}
 use Rattle.std.proofs.lemmas.List.{get_or-set_same, get_or-set_other, get_or_default}
@@ -18,7 +18,7 @@ use Rattle.plane_sums.specs.declared.projections.Projections.{Projections}
 use Rattle.plane_sums.specs.declared.totals.Turn.{Turn}
 use Rattle.plane_sums.specs.declared.totals.Turn.TheVariants as turns
 use Rattle.plane_sums.specs.Counts.{count_at, line_at}
-use Rattle.plane_sums.specs.Lines.{across, begins_at, along_x, along_y, word_in, Show}
+use Rattle.plane_sums.specs.Lines.{across, begins_at, word_in, Show}
 use Rattle.plane_sums.specs.Families.{AreCounts, HasLines}
 use Rattle.plane_sums.specs.Projected.{AreProjected}
 

@@ -5,7 +5,7 @@ use Rattle.std.proofs.lemmas.List.{get_or-set_same, get_or-set_other}
 use Rattle.std.proofs.lemmas.Nat.{mul-le}
 use Rattle.std.proofs.Math.Nat.{add-mul, mul-le-mul_right}
 use Rattle.multispin_word.specs.Planes.{is_set}
-use Rattle.spin_model.specs.Lattice.{IsLawfulSize, volume, site_at, colour}
+use Rattle.spin_model.specs.Lattice.{IsLawfulSize, volume, site_at}
 use Rattle.spin_model.proofs.Sites.{site_at-below}
 use Rattle.spin_model.proofs.Colours.{colour-site_at}
 use Rattle.spin_model.proofs.Tables.{get_or-table}

@@ -1,5 +1,5 @@
 -- Even columns of a row have one colour, odd ones the other.
-use Rattle.std.proofs.Common.{◌≡◌, ℕ, length-set, ◌∙◌, arith}
+use Rattle.std.proofs.Common.{length-set, ◌∙◌, arith}
 use Rattle.spin_model.specs.Lattice.{site_at}
 use Rattle.plane_sums.specs.Lines.{agrees}
 use Rattle.plane_sums.proofs.Shown.{rows-more, row-agrees}

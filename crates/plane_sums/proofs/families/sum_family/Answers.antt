@@ -1,7 +1,6 @@
 -- Each family meets the lines of one projection.
-use Rattle.std.proofs.Common.{◌≡◌, ℕ, rules, ◌∙◌, arith}
+use Rattle.std.proofs.Common.{◌≡◌, rules, ◌∙◌}
 use Rattle.plane_sums.specs.declared.totals.Turn.TheVariants as turns
-use Rattle.plane_sums.specs.Families.{family_at}
 use Rattle.plane_sums.specs.Lines.{along_x, along_y, along_z}
 use Rattle.plane_sums.proofs.Projecting.{summed-across, summed-along}
 use Rattle.plane_sums.proofs.families.sum_family.Goals as goal

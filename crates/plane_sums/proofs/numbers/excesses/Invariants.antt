@@ -1,5 +1,5 @@
 -- The samples below b are written.
-use Rattle.std.proofs.Common.{◌≡◌, ℕ, ◌*◌, ◌<◌, ℤ, pos, ◌-ℤ◌, length, get_or}
+use Rattle.std.proofs.Common.{◌≡◌, ℕ, ◌*◌, ◌<◌, pos, ◌-ℤ◌, length, get_or}
 use Rattle.plane_sums.proofs.numbers.excesses.Given as goal
 
 abbrev pub invariant-samples : goal.invariant-samples

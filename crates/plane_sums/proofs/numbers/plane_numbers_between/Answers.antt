@@ -1,5 +1,5 @@
 -- What is counted along the lines are the sites at which the replicas agree.
-use Rattle.std.proofs.Common.{◌≡◌, ℕ, ◌*◌, ◌<◌, ◌≤◌, nat_abs, pos, ◌-ℤ◌, ap, ◌∙◌, arith}
+use Rattle.std.proofs.Common.{◌≡◌, ℕ, ◌*◌, ◌<◌, pos, ◌-ℤ◌, ap, ◌∙◌, arith}
 use Rattle.std.proofs.lemmas.Nat.{mul-le}
 use Rattle.measured_sums.specs.OverlapField.{site_overlap}
 use Rattle.measured_sums.specs.PlaneFamilies.{plane_sum}

@@ -1,5 +1,5 @@
 -- The families so far are written.
-use Rattle.std.proofs.Common.{◌≡◌, ℕ, ◌*◌, ◌<◌, ℤ, pos, ◌-ℤ◌, [], length, get_or}
+use Rattle.std.proofs.Common.{◌≡◌, ℕ, ◌*◌, ◌<◌, pos, ◌-ℤ◌, length}
 use Rattle.plane_sums.specs.Counts.{count_at, line_at}
 use Rattle.plane_sums.specs.Rooms.{number_in}
 use Rattle.plane_sums.proofs.numbers.write_families.Given as goal

@@ -1,5 +1,5 @@
 -- The planes below m are written.
-use Rattle.std.proofs.Common.{◌≡◌, ℕ, ◌*◌, ◌<◌, ℤ, pos, ◌-ℤ◌, [], length, get_or}
+use Rattle.std.proofs.Common.{◌≡◌, ℕ, ◌*◌, ◌<◌, pos, ◌-ℤ◌, [], length, get_or}
 use Rattle.plane_sums.specs.Counts.{count_at}
 use Rattle.plane_sums.proofs.numbers.write_family.Given as goal
 

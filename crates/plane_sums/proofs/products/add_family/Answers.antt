@@ -1,7 +1,6 @@
 -- Each product is at most 2^24, and there are at most 64.
-use Rattle.std.proofs.Common.{◌≡◌, ℕ, ◌+◌, ◌*◌, ◌^◌, ◌%◌, ◌<◌, ◌≤◌, ℤ, nat_abs, ◌+ℤ◌, ◌*ℤ◌, [], get_or, sym, ap, ◌∙◌, arith}
+use Rattle.std.proofs.Common.{◌≡◌, ℕ, ◌+◌, ◌^◌, ◌%◌, ◌+ℤ◌, ◌*ℤ◌, [], get_or, sym, ap, ◌∙◌, arith}
 use Rattle.std.proofs.lemmas.Nat.{mod_below, mul-le}
-use Rattle.spin_model.specs.SignedSums.{sum_of}
 use Rattle.measured_sums.proofs.BoundedSums.{sum-bound}
 use Rattle.plane_sums.specs.Correlations.{signed_at}
 use Rattle.plane_sums.proofs.Signed.{product-small, signed-more, signed-none}

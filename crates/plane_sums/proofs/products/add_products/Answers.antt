@@ -1,5 +1,5 @@
 -- A sample more has its product.
-use Rattle.std.proofs.Common.{◌≡◌, ℕ, ◌+ℤ◌, ◌*ℤ◌, length-set, ap, ◌∙◌, w16, w32, to_z, of_z, arith}
+use Rattle.std.proofs.Common.{ℕ, ◌+ℤ◌, ◌*ℤ◌, length-set, ◌∙◌, w16, w32, arith}
 use Rattle.std.proofs.lemmas.Int.{to_z-of_z}
 use Rattle.plane_sums.specs.Correlations.{signed_at}
 use Rattle.plane_sums.proofs.Signed.{fits-16, fits-32, samples-more, samples-kept}

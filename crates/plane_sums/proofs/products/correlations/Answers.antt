@@ -1,5 +1,5 @@
 -- Sums of products of the planes' sums are the definitions' correlations, family by family.
-use Rattle.std.proofs.Common.{◌≡◌, ℕ, ◌/◌, ◌≤◌, ◌∙◌, arith}
+use Rattle.std.proofs.Common.{◌∙◌, arith}
 use Rattle.plane_sums.proofs.Distances.{axes-correlated, faces-correlated}
 use Rattle.plane_sums.proofs.products.correlations.Goals as goal
 

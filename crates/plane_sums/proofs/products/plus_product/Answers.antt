@@ -1,5 +1,5 @@
 -- The product is at most 2^24, and the sum stays below 2^31.
-use Rattle.std.proofs.Common.{◌≡◌, ◌^◌, ◌<◌, ◌≤◌, nat_abs, ◌+ℤ◌, ◌*ℤ◌, FitsSigned, w16, w32, to_z, of_z, refl, arith}
+use Rattle.std.proofs.Common.{◌^◌, ◌+ℤ◌, ◌*ℤ◌, w16, w32, arith}
 use Rattle.std.proofs.lemmas.Int.{to_z-of_z}
 use Rattle.plane_sums.proofs.Signed.{fits-32, product-small, sum-small}
 use Rattle.plane_sums.proofs.products.plus_product.Goals as goal

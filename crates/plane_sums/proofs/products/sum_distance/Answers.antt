@@ -1,10 +1,9 @@
 -- Each family's sum is at most 2^30, and there are at most nine.
-use Rattle.std.proofs.Common.{◌≡◌, ℕ, ◌+◌, ◌-◌, ◌*◌, ◌^◌, ◌%◌, ◌<◌, ◌≤◌, ℤ, nat_abs, ◌+ℤ◌, ◌*ℤ◌, sym, ap, ◌∙◌, arith}
-use Rattle.std.proofs.lemmas.Nat.{mod_below, mul-le}
+use Rattle.std.proofs.Common.{◌≡◌, ℕ, ◌+◌, ◌-◌, ◌^◌, ◌+ℤ◌, sym, ap, ◌∙◌, arith}
+use Rattle.std.proofs.lemmas.Nat.{mul-le}
 use Rattle.spin_model.specs.SignedSums.{sum_of}
 use Rattle.measured_sums.proofs.BoundedSums.{sum-bound}
-use Rattle.plane_sums.specs.Correlations.{product_sum, signed_at}
-use Rattle.plane_sums.specs.Rooms.{number_in}
+use Rattle.plane_sums.specs.Correlations.{product_sum}
 use Rattle.plane_sums.proofs.Signed.{product-bound, signed-more, signed-none}
 use Rattle.plane_sums.proofs.products.sum_distance.Goals as goal
 

@@ -1,5 +1,5 @@
 -- A sample more has its sum.
-use Rattle.std.proofs.Common.{◌≡◌, ℕ, ◌+ℤ◌, length-set, ◌∙◌, w32, w64, to_z, of_z, arith}
+use Rattle.std.proofs.Common.{ℕ, ◌+ℤ◌, length-set, ◌∙◌, w32, w64, arith}
 use Rattle.std.proofs.lemmas.Int.{to_z-of_z}
 use Rattle.plane_sums.specs.Correlations.{signed_at}
 use Rattle.plane_sums.proofs.Signed.{fits-32, fits-64, samples-more, samples-kept}

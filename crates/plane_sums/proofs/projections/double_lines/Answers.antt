@@ -1,7 +1,7 @@
 -- A line more is doubled.
-use Rattle.std.proofs.Common.{inl, inr, ◌≡◌, ℕ, ◌%◌, ◌<◌, length, length-set, ap, sym, ◌∙◌, arith}
+use Rattle.std.proofs.Common.{inl, inr, ◌≡◌, ◌%◌, ◌<◌, length, length-set, ap, ◌∙◌, arith}
 use Rattle.std.proofs.lemmas.Bool.{cases_lt}
-use Rattle.plane_sums.specs.Counts.{count_at, line_at}
+use Rattle.plane_sums.specs.Counts.{count_at}
 use Rattle.plane_sums.proofs.Projecting.{line-set, line-kept, line-is}
 use Rattle.plane_sums.proofs.projections.double_lines.Goals as goal
 

@@ -1,11 +1,9 @@
 -- Each pair of rows is counted.
-use Rattle.std.proofs.Common.{◌≡◌, ℕ, ◌+◌, ◌*◌, ◌/◌, ◌%◌, ◌<◌, length, get_or, ap, ap₂, sym, ◌∙◌, arith}
+use Rattle.std.proofs.Common.{◌≡◌, ◌+◌, ◌*◌, ◌%◌, ◌<◌, sym, ◌∙◌, arith}
 use Rattle.std.proofs.lemmas.Nat.{mod_below}
-use Rattle.spin_model.specs.Steps.{count_below}
 use Rattle.spin_model.proofs.Tables.{count_below-zero}
 use Rattle.spin_model.proofs.Counts.{count-most}
 use Rattle.multispin_word.specs.Planes.{is_set}
-use Rattle.plane_sums.specs.Counts.{count_at}
 use Rattle.plane_sums.specs.Lines.{word_in}
 use Rattle.plane_sums.proofs.Projecting.{count-two, row-is}
 use Rattle.plane_sums.proofs.projections.sum_rows.Goals as goal

@@ -1,5 +1,5 @@
 -- The rows of the pairs so far are counted.
-use Rattle.std.proofs.Common.{◌≡◌, ℕ, ◌*◌, ◌<◌, length}
+use Rattle.std.proofs.Common.{◌≡◌, ℕ, ◌*◌, ◌<◌}
 use Rattle.multispin_word.specs.Planes.{is_set}
 use Rattle.spin_model.specs.Steps.{count_below}
 use Rattle.plane_sums.specs.Counts.{count_at}

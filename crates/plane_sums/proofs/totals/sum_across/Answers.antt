@@ -1,7 +1,6 @@
 -- Each line is added from the place on at which plane 0 meets it.
-use Rattle.std.proofs.Common.{◌≡◌, ℕ, ◌+◌, ◌*◌, ◌≤◌, ap, ap₂, sym, ◌∙◌, arith}
+use Rattle.std.proofs.Common.{◌+◌, ◌*◌, ◌≤◌, ap, sym, ◌∙◌, arith}
 use Rattle.std.proofs.lemmas.Nat.{mul-le}
-use Rattle.scalar_rule.specs.Positions.{sum_below}
 use Rattle.scalar_rule.proofs.Extremes.{sum-most}
 use Rattle.plane_sums.specs.Counts.{count_at, line_at}
 use Rattle.plane_sums.specs.Lines.{begins_at}

@@ -1,8 +1,8 @@
 -- The sum of each line stands at its place.
-use Rattle.std.proofs.Common.{inl, inr, ◌≡◌, ℕ, ◌<◌, ◌≤◌, length, ap, ◌∙◌, arith}
+use Rattle.std.proofs.Common.{inl, inr, ◌≡◌, ◌<◌, length, ap, ◌∙◌, arith}
 use Rattle.std.proofs.lemmas.Bool.{cases_lt, ne_eqb}
 use Rattle.scalar_rule.specs.Positions.{sum_below}
-use Rattle.plane_sums.specs.Counts.{count_at, line_at}
+use Rattle.plane_sums.specs.Counts.{count_at}
 use Rattle.plane_sums.proofs.Projecting.{line-is}
 use Rattle.plane_sums.proofs.totals.sum_along.Goals as goal
 

@@ -1,7 +1,6 @@
 -- Each place is added.
-use Rattle.std.proofs.Common.{◌≡◌, ℕ, ◌*◌, ◌≤◌, sym, ◌∙◌, arith}
+use Rattle.std.proofs.Common.{◌*◌, ◌≤◌, sym, ◌∙◌, arith}
 use Rattle.std.proofs.lemmas.Nat.{mul-le}
-use Rattle.scalar_rule.specs.Positions.{sum_below}
 use Rattle.scalar_rule.proofs.Extremes.{sum-most}
 use Rattle.plane_sums.specs.Counts.{count_at}
 use Rattle.plane_sums.proofs.Sums.{sum-zero, sum-more}

@@ -1,10 +1,8 @@
 -- Each plane takes up one of the other numbers; what is left is carried on, and nothing comes out of the last plane.
 use Rattle.std.proofs.Common.{◌≡◌, ◌+◌, ◌^◌, ap, sym, length-set, ◌∙◌, rules, arith, get_or}
 use Rattle.std.specs.Int.{bit_at}
-use Rattle.std.proofs.lemmas.Nat.Bits.{bit_at-zero, bit_at-lt}
-use Rattle.std.proofs.lemmas.List.{get_or-replicate}
+use Rattle.std.proofs.lemmas.Nat.Bits.{bit_at-lt}
 use Rattle.local_rule.specs.SiteBits.{lane_words}
-use Rattle.multispin_word.specs.Planes.{first, number}
 use Rattle.multispin_word.proofs.Numbers.{first-none, first-more, whole}
 use Rattle.bit_compare.proofs.Adding.{no-carry}
 use Rattle.bit_totals.proofs.LaneNumbers.{lane-word}

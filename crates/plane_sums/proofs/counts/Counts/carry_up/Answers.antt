@@ -1,5 +1,5 @@
 -- Each plane hands on what it carries.
-use Rattle.std.proofs.Common.{◌≡◌, length-set, ◌∙◌, arith, get_or}
+use Rattle.std.proofs.Common.{length-set, ◌∙◌, arith, get_or}
 use Rattle.std.specs.Int.{bit_at}
 use Rattle.plane_sums.proofs.PlaceNumbers.{plane-carried}
 use Rattle.plane_sums.proofs.counts.Counts.carry_up.Goals as goal

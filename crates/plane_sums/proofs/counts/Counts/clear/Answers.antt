@@ -1,6 +1,5 @@
 -- No plane has a bit.
-use Rattle.std.proofs.Common.{◌≡◌, ◌∙◌, ap, arith, get_or, length}
-use Rattle.std.specs.Int.{bit_at}
+use Rattle.std.proofs.Common.{arith}
 use Rattle.plane_sums.proofs.PlaceNumbers.{count-clear}
 use Rattle.plane_sums.proofs.counts.Counts.clear.Goals as goal
 

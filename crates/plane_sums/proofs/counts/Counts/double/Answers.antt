@@ -1,5 +1,5 @@
 -- All planes are doubled.
-use Rattle.std.proofs.Common.{inl, inr, ◌≡◌, ℕ, ◌+◌, ◌*◌, ◌%◌, ap, ◌∙◌, sym, arith}
+use Rattle.std.proofs.Common.{◌+◌, arith}
 use Rattle.plane_sums.specs.Counts.{count_at}
 use Rattle.plane_sums.proofs.PlaceNumbers.{places-same, twice-there}
 use Rattle.plane_sums.proofs.counts.Counts.double.Goals as goal

@@ -1,5 +1,5 @@
 -- The planes below w are doubled, those from w on are as before.
-use Rattle.std.proofs.Common.{◌≡◌, ℕ, ◌+◌, ◌<◌, ◌≤◌, [], length, get_or}
+use Rattle.std.proofs.Common.{◌≡◌, ℕ, ◌+◌, ◌<◌, [], length, get_or}
 use Rattle.plane_sums.proofs.counts.Counts.double.Given as goal
 
 abbrev pub invariant-planes : goal.invariant-planes

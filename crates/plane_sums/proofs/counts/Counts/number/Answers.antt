@@ -1,5 +1,5 @@
 -- All planes' words are there.
-use Rattle.std.proofs.Common.{◌≡◌, ◌<◌, ◌^◌, length, sym, subst, ◌∙◌, arith}
+use Rattle.std.proofs.Common.{◌<◌, ◌^◌, length, sym, subst, ◌∙◌, arith}
 use Rattle.multispin_word.proofs.Numbers.{first-lt}
 use Rattle.multispin_word.specs.Planes.{number}
 use Rattle.plane_sums.proofs.PlaceNumbers.{place-is}

@@ -1,10 +1,6 @@
 -- Each plane has the number's word at the place.
-use Rattle.std.proofs.Common.{◌≡◌, ℕ, ◌==◌, rules, refl, ap, sym, ◌∙◌, arith}
-use Rattle.local_rule.specs.SiteBits.{lane_words}
-use Rattle.multispin_word.specs.Planes.{number, first}
-use Rattle.multispin_word.proofs.Numbers.{first-same}
-use Rattle.bit_totals.proofs.LaneNumbers.{lane-word}
-use Rattle.plane_sums.proofs.PlaceNumbers.{planes-long, places-same, place-is}
+use Rattle.std.proofs.Common.{rules, refl, sym, ◌∙◌, arith}
+use Rattle.plane_sums.proofs.PlaceNumbers.{places-same, place-is}
 use Rattle.plane_sums.proofs.counts.Counts.put.Goals as goal
 
 pub planes-init : goal.planes-init

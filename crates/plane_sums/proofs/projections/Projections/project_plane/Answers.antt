@@ -1,5 +1,5 @@
 -- The lines along x are those of the rows that are turned over.
-use Rattle.std.proofs.Common.{◌≡◌, ℕ, ◌%◌, ◌<◌, ap, ◌∙◌, arith}
+use Rattle.std.proofs.Common.{◌%◌, ◌<◌, ap, ◌∙◌, arith}
 use Rattle.std.proofs.lemmas.Nat.{mod_below}
 use Rattle.spin_model.proofs.Counts.{count-same}
 use Rattle.multispin_word.specs.Planes.{is_set}
