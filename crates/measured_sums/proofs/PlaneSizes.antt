@@ -20,7 +20,7 @@ blocks f (suc n) m =
     let more : suc n * m ≡ n * m + m = omega arith in
     ap (sum_of f) more ∙ terms-range f (n * m) m ∙ ap (λ z. z +ℤ sum_of (λ i. f (n * m + i)) m) (blocks f n m)
 
-coordinates : (f : ℕ → ℤ) (l : ℕ) → sum_of f (volume l) ≡ sum_of (λ z. sum_of (λ y. sum_of (λ x. f (site_at l x y z)) l) l) l
+pub coordinates : (f : ℕ → ℤ) (l : ℕ) → sum_of f (volume l) ≡ sum_of (λ z. sum_of (λ y. sum_of (λ x. f (site_at l x y z)) l) l) l
 coordinates f l =
     ap (sum_of f) (mul_assoc l l l) ∙ blocks f l (l * l)
     ∙ terms-same (λ z. sum_of (λ k. f (z * (l * l) + k)) (l * l)) (λ z. sum_of (λ y. sum_of (λ x. f (site_at l x y z)) l) l) l
@@ -90,7 +90,7 @@ by-coordinates l DifferenceXZ m below = lines-x (λ x y z. on m ((x + l - z) % l
 by-coordinates l SumYZ m below = lines-y (λ x y z. on m ((y + z) % l)) l (λ x z _ within. added l m z below (omega arith))
 by-coordinates l DifferenceYZ m below = lines-y (λ x y z. on m ((y + l - z) % l)) l (λ x z _ within. taken l m z below within)
 
-plane-site : (l : ℕ) (family : Family) (x y z : ℕ) → x < l → y < l → z < l → plane_of l family (site_at l x y z) ≡ plane_at l family x y z
+pub plane-site : (l : ℕ) (family : Family) (x y z : ℕ) → x < l → y < l → z < l → plane_of l family (site_at l x y z) ≡ plane_at l family x y z
 plane-site l family x y z x_within y_within z_within =
     ap₂ (λ a b. plane_at l family a b (z_of l (site_at l x y z))) (x_of-site_at l x y z x_within) (y_of-site_at l x y z x_within y_within)
     ∙ ap (plane_at l family x y) (z_of-site_at l x y z x_within y_within)

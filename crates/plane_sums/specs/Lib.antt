@@ -1,0 +1,6 @@
+pub mod Counts
+pub mod Lines
+pub mod Projected
+pub mod Families
+pub mod Rooms
+pub mod Correlations
