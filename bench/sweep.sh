@@ -11,7 +11,8 @@ it prints the least picoseconds of a spin update on both sides and their ratio. 
 spin in one of the 64 samples, the random numbers included.
 
   --cpu CPU      x86-64-v2 (as if left out) or x86-64-v3, for both compilers
-  --sizes ..     of 8, 12, 16 and so on to 64; 8, 16, 32 and 64 if left out
+  --sizes ..     of 8, 12, 16 and so on to 64, with x86-64-v3 also 10, 14, 18, 22, 26 and 30; 8, 16, 32 and 64
+                 if left out
   --replicas N   1 (as if left out), or 2: sweep_duo_often of both replicas of a slot, as a run makes it, for
                  Rattle alone; a spin update takes half the time of one of each
   --passes N     passes of a turn, 100 if left out, each of 262144 / SIZE^3 sweeps
@@ -29,7 +30,9 @@ sizes="8 16 32 64"
 replicas=1
 . "$(dirname "$0")/common.sh"
 read_words "$@"
-check_sizes "8 12 16 20 24 28 32 36 40 44 48 52 56 60 64"
+odd_halves=
+[ "$cpu" != x86-64-v3 ] || odd_halves=" 10 14 18 22 26 30"
+check_sizes "8 12 16 20 24 28 32 36 40 44 48 52 56 60 64$odd_halves"
 build_sides sweep bench_kernels
 
 # One run of a side, in picoseconds.

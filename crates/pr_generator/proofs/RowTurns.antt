@@ -1,6 +1,6 @@
 -- Eight new sums and eight random numbers from the rows are the stream's, and the rows then stand eight words on.
 use Rattle.std.proofs.Common.{◌≡◌, ℕ, zero, suc, ◌+◌, ◌*◌, ◌<◌, ◌≤◌, List, [], ◌∷◌, ◌++◌, length, get_or, take, drop, bit_xor, All, ap, refl, sym, ◌∙◌, arith, add_comm, length-append, length-drop, length-take-le, take-add, get_or-drop, lit<, lit≤}
-use Rattle.std.proofs.lemmas.List.{take_at, take-append-drop, take_more, drop-take, append_assoc, drop_at, drop_all, drop_more, drop-drop, drop-append-le, get_or_append_left, flat_map_more}
+use Rattle.std.proofs.lemmas.List.{take_at, take-append-drop, take_more, drop-take, append_assoc, drop_at, drop_all, drop_more, drop-drop, drop-append-le, take-append-le, get_or_append_left, get_or-append_right, get_or-take, flat_map_more}
 use Rattle.std.proofs.lemmas.Slice.{take-put_mid}
 use Rattle.std.proofs.lemmas.List.Elements.{All-nil, All-cons, All-append, All-drop, All-head, All-tail, All-get_or}
 use Rattle.spin_model.specs.Words.{word_sum}
@@ -178,3 +178,61 @@ pub draws-written : (w : List ℕ) (n m all k : ℕ) (xs ys : List ℕ) → take
 draws-written w n m all k xs ys before next within sum =
     let long : length ys ≡ m = ap length next ∙ length-table (draw (advanced w n)) m in
     take-put_mid n k xs ys all (omega arith) within ∙ rw (before, next) (sym (draws-advanced w n m) ∙ ap (draws w) sum)
+
+-- a row two words on
+row-two_on : (rows : List (List ℕ)) (q : ℕ) → All Eight rows → q + 1 < length rows
+    → row_of (drop 2 (joined rows)) q ≡ drop 2 (get_or rows q []) ++ take 2 (get_or rows (q + 1) [])
+row-two_on rows q eight within =
+    let row = get_or rows q [] in
+    let behind = get_or rows (q + 1) [] in
+    let rest = drop (q + 1 + 1) rows in
+    let first = All-get_or Eight rows q [] (omega arith) eight in
+    let second = All-get_or Eight rows (q + 1) [] within eight in
+    let split : drop q rows ≡ row ∷ behind ∷ rest = drop_more rows q [] (omega arith) ∙ ap (λ r. row ∷ r) (drop_more rows (q + 1) [] within) in
+    let six : length (drop 2 row) ≡ 6 = simp length-drop (omega arith) in
+    let places : drop (8 * q) (drop 2 (joined rows)) ≡ drop 2 (drop (8 * q) (joined rows)) =
+    drop-drop (8 * q) 2 (joined rows) ∙ ap (λ n. drop n (joined rows)) (add_comm 2 (8 * q)) ∙ sym (drop-drop 2 (8 * q) (joined rows)) in
+    ap (take 8) (places ∙ ap (drop 2) (joined-drop q rows eight ∙ ap joined split) ∙ drop-append-le 2 row (behind ++ joined rest) (omega arith))
+    ∙ take-add 6 2 (drop 2 row ++ (behind ++ joined rest))
+    ∙ rw (take_at (drop 2 row) (behind ++ joined rest) 6 six, drop_at (drop 2 row) (behind ++ joined rest) 6 six)
+    (ap (λ v. drop 2 row ++ v) (take-append-le 2 behind (joined rest) (omega arith)))
+
+-- all rows two words on, with a new one behind
+pub rows-two_on : (rows : List (List ℕ)) (new : List ℕ) → AreRows rows → length new ≡ 8
+    → (drop 2 (get_or rows 0 []) ++ take 2 (get_or rows 1 [])) ∷ (drop 2 (get_or rows 1 []) ++ take 2 (get_or rows 2 []))
+    ∷ (drop 2 (get_or rows 2 []) ++ take 2 (get_or rows 3 [])) ∷ (drop 2 (get_or rows 3 []) ++ take 2 (get_or rows 4 []))
+    ∷ (drop 2 (get_or rows 4 []) ++ take 2 (get_or rows 5 [])) ∷ (drop 2 (get_or rows 5 []) ++ take 2 (get_or rows 6 []))
+    ∷ (drop 2 (get_or rows 6 []) ++ take 2 (get_or rows 7 [])) ∷ (drop 2 (get_or rows 7 []) ++ take 2 new) ∷ []
+    ≡ table (row_of (drop 2 (joined rows ++ new))) 8
+unfolding table
+rows-two_on rows new are long =
+    let all = rows ++ new ∷ [] in
+    let sized = are.sized in
+    let count : length all ≡ 9 = simp length-append (omega arith) in
+    let eight : All Eight all = All-append Eight rows (new ∷ []) are.eight (All-cons Eight new [] long (All-nil Eight)) in
+    let joint : joined all ≡ joined rows ++ new = sym (flat_map_more (λ row. row) [] rows new) in
+    let old : (q : ℕ) → q < 8 → get_or all q [] ≡ get_or rows q [] = λ q below. get_or_append_left rows (new ∷ []) [] q (omega arith) in
+    let last : get_or all 8 [] ≡ new = get_or-append_right rows (new ∷ []) 8 8 [] sized (omega arith) in
+    let inner : (q : ℕ) → q + 1 < 8 → drop 2 (get_or rows q []) ++ take 2 (get_or rows (q + 1) []) ≡ row_of (drop 2 (joined rows ++ new)) q =
+    λ q below. rw (← old q (omega arith), ← old (q + 1) below, ← joint) (sym (row-two_on all q eight (omega arith))) in
+    let outer : drop 2 (get_or rows 7 []) ++ take 2 new ≡ row_of (drop 2 (joined rows ++ new)) 7 =
+    rw (← old 7 (omega arith), ← joint) (ap (λ v. drop 2 (get_or all 7 []) ++ take 2 v) (sym last) ∙ sym (row-two_on all 7 eight (omega arith))) in
+    rw (inner 0 (omega arith), inner 1 (omega arith), inner 2 (omega arith), inner 3 (omega arith), inner 4 (omega arith), inner 5 (omega arith), inner 6 (omega arith), outer) refl
+
+pub two_on-long : (rows : List (List ℕ)) (new : List ℕ) → AreRows rows → length new ≡ 8 → 64 ≤ length (drop 2 (joined rows ++ new))
+two_on-long rows new are long =
+    let all = length-joined rows are.eight in
+    let sized = are.sized in
+    simp (length-drop, length-append) (omega arith)
+
+-- by a shuffle
+pub two-on : (row behind : List ℕ) → length row ≡ 8 → length behind ≡ 8 → table (λ k. get_or (row ++ behind) (2 + k) 0) 8 ≡ drop 2 row ++ take 2 behind
+two-on row behind first second =
+    let all = row ++ behind in
+    let six : length (drop 2 row) ≡ 6 = simp length-drop (omega arith) in
+    let parts : take 8 (drop 2 all) ≡ drop 2 row ++ take 2 behind =
+    ap (take 8) (drop-append-le 2 row behind (omega arith)) ∙ take-add 6 2 (drop 2 row ++ behind)
+    ∙ rw (take_at (drop 2 row) behind 6 six, drop_at (drop 2 row) behind 6 six) refl in
+    let long : 8 ≤ length (drop 2 all) = simp (length-drop, length-append) (omega arith) in
+    sym (table-of_items (λ k. get_or all (2 + k) 0) 8 0 (take 8 (drop 2 all)) (length-take-le 8 (drop 2 all) long)
+    (λ k below. get_or-take 8 (drop 2 all) k 0 below ∙ get_or-drop 2 all k 0)) ∙ parts

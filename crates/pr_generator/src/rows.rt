@@ -227,10 +227,48 @@ pub fn turn_by(rows: &mut Rows, count: usize) -> [u32; 8]
     ensures moved { state_of rows.new ≡ advanced (state_of rows.old) count }
     ensures drawn { result ≡ draws (state_of rows.old) 8 }
 {
+    if count == 2 {
+        return turn_by_two(rows);
+    }
     let mut words = [0u32; 72];
     let drawn = turn_beside(rows, &mut words);
     *rows = rows_at(&words, count);
     drawn
+}
+
+// The same by two words, as many as eights leave of a plane whose side is no multiple of four: in
+// registers, since rows that are read beside the places where they were written wait for the writes.
+#[inline(always)]
+fn turn_by_two(rows: &mut Rows) -> [u32; 8]
+    requires { AreRows rows.old }
+    ensures rows { AreRows rows.new }
+    ensures moved { state_of rows.new ≡ advanced (state_of rows.old) 2 }
+    ensures drawn { result ≡ draws (state_of rows.old) 8 }
+{
+    let old = *rows;
+    let drawn = turn(rows);
+    *rows = [
+        two_on(&old[0], &old[1]),
+        two_on(&old[1], &old[2]),
+        two_on(&old[2], &old[3]),
+        two_on(&old[3], &old[4]),
+        two_on(&old[4], &old[5]),
+        two_on(&old[5], &old[6]),
+        two_on(&old[6], &old[7]),
+        two_on(&old[7], &rows[7]),
+    ];
+    drawn
+}
+
+// A row but its first two words, and the first two of the row behind it.
+#[inline(always)]
+#[tactic(auto, unfolding(spin_model::specs::Steps::table))]
+fn two_on(row: &[u32; 8], behind: &[u32; 8]) -> [u32; 8]
+    ensures { result ≡ drop 2 row.now ++ take 2 behind.now }
+{
+    u32x8::from_array(*row)
+        .shuffle(u32x8::from_array(*behind), [2, 3, 4, 5, 6, 7, 8, 9])
+        .to_array()
 }
 
 // Moves the rows on by eight words, and writes them as they were with the eight new words behind.
