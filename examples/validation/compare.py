@@ -277,8 +277,9 @@ def print_runs(folder: Path) -> None:
 
 def print_all(folder: Path) -> None:
     found = print_exact(folder)
-    total, degrees, chance = chi_square(found)
-    print(f"\nChi-square of all exact numbers: {total:.1f} with {degrees} degrees of freedom, probability {chance:.3f}.")
+    if found:
+        total, degrees, chance = chi_square(found)
+        print(f"\nChi-square of all exact numbers: {total:.1f} with {degrees} degrees of freedom, probability {chance:.3f}.")
     print_reference(folder)
     print_published(folder)
     print_runs(folder)
