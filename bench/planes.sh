@@ -12,7 +12,7 @@ time of a pass on both sides and their ratio.
   --sizes ..     of 8, 16, 32 and 64, all of them if left out
   --passes N     passes of a turn, 50 if left out
   --turns N      turns, 5 if left out
-  --limit RATIO  the greatest ratio that is right, 8.0 if left out
+  --limit RATIO  the greatest ratio that is right, 12.0 if left out
 
 Status: 0 where no ratio is above the limit, 1 where one is or the two sides left different correlations, 2 for
 a wrong word or where a side can't be built. Needs rt and gcc.
@@ -20,7 +20,7 @@ END
 }
 
 passes=50
-limit=8.0
+limit=12.0
 sizes="8 16 32 64"
 . "$(dirname "$0")/common.sh"
 unset cpu
