@@ -6,6 +6,7 @@ mod bit_passes;
 mod bits;
 mod checkpoints;
 mod groups;
+mod planes;
 mod plans;
 mod potts;
 mod replicas;
@@ -76,17 +77,25 @@ fn time_totals(rt: &HostRuntime, words: &mut Args) -> Result<()> {
     totals::measure(rt, size, passes)
 }
 
+/// Times the sums over planes: a size and the number of passes.
+fn time_planes(rt: &HostRuntime, words: &mut Args) -> Result<()> {
+    let size = number(words)?;
+    let passes = number(words)?;
+    planes::measure(rt, size, passes)
+}
+
 fn main(rt: HostRuntime) -> Result<()> {
     let mut words = env::args(&rt)?;
     match words.nth(1).as_deref() {
         Some("bits") => bits::measure(&rt, number(&mut words)?),
         Some("totals") => time_totals(&rt, &mut words),
+        Some("planes") => time_planes(&rt, &mut words),
         Some("sweep") => time_sweep(&rt, &mut words),
         Some("potts") => time_potts(&rt, &mut words),
         Some("checkpoint") => checkpoint_work(&rt, &mut words),
         _ => {
             println!(rt;
-                "bench_kernels: give bits, totals, sweep, potts or checkpoint, and its words"
+                "bench_kernels: give bits, totals, planes, sweep, potts or checkpoint, and its words"
             )?;
             Ok(())
         }
