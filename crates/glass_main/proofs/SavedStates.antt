@@ -7,11 +7,11 @@ use Rattle.scalar_rule.specs.Plan.{Plan, IsLawfulPlan}
 use Rattle.scalar_rule.specs.declared.sample.Sample.{Sample}
 use Rattle.plane_sweep.specs.Packed.{StandsFor}
 use Rattle.plane_sweep.specs.declared.stand.Stand.{Stand}
-use Rattle.run_checkpoint.specs.Decoding.{level_form, level_refusal, decoded, IsEncoded}
+use Rattle.run_checkpoint.specs.Decoding.{level_refusal, decoded, IsEncoded}
 use Rattle.run_checkpoint.specs.Encoding.{encoding, AreBankStates}
 use Rattle.run_checkpoint.specs.Kinds.{level_kind, uneven_kind}
 use Rattle.run_checkpoint.specs.Reading.{stand_in}
-use Rattle.run_checkpoint.specs.Tests.{short, other_kind}
+use Rattle.run_checkpoint.specs.Tests.{short, other_kind, form_refusal}
 use Rattle.run_checkpoint.specs.UnevenDecoding.{is_uneven, any_refusal}
 use Rattle.run_checkpoint.specs.declared.refused.CheckpointRefused.{CheckpointRefused}
 use Rattle.run_checkpoint.specs.declared.refused.CheckpointRefused.TheVariants as checkpoint
@@ -34,7 +34,7 @@ use Rattle.std.proofs.lemmas.Slice.Eq.{bytes_eq-Decides}
 -- ---- refusals
 
 short-first : (plan : Plan) (until : ℕ) (bytes : List ℕ) (s : CheckpointRefused) → short 88 bytes ≡ Some s → level_refusal plan until bytes ≡ Some s
-unfolding level_refusal level_form
+unfolding level_refusal form_refusal
 short-first plan until bytes s is = rw is refl
 
 short-any : (plan : Plan) (until : ℕ) (bytes : List ℕ) (s : CheckpointRefused) → short 88 bytes ≡ Some s → any_refusal plan 1 1 until bytes ≡ Some s
@@ -49,14 +49,14 @@ apart : bytes_eq uneven_kind level_kind ≡ false
 apart = refl
 
 kind-first : (plan : Plan) (until : ℕ) (bytes : List ℕ) → short 88 bytes ≡ None → is_uneven bytes ≡ true → level_refusal plan until bytes ≡ Some checkpoint.Magic
-unfolding level_refusal level_form other_kind
+unfolding level_refusal form_refusal other_kind
 kind-first plan until bytes none uneven =
     let other : bytes_eq (take 8 bytes) level_kind ≡ false = ap (λ x. bytes_eq x level_kind) ((bytes_eq-Decides (take 8 bytes) uneven_kind).0 uneven) ∙ apart in
     rw (none, other) refl
 
 -- 88 bytes 0 are of no kind
 kind-any : (plan : Plan) (until : ℕ) → any_refusal plan 1 1 until (replicate 88 0) ≡ Some checkpoint.Magic
-unfolding any_refusal level_refusal level_form short other_kind
+unfolding any_refusal level_refusal form_refusal short other_kind
 kind-any plan until = refl
 
 same-some : (a b : CheckpointRefused) (x : Option CheckpointRefused) → x ≡ Some a → x ≡ Some b → a ≡ b

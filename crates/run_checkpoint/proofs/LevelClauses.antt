@@ -10,18 +10,18 @@ use Rattle.scalar_rule.specs.declared.sample.PlainSlot.{PlainSlot}
 use Rattle.scalar_rule.specs.declared.sample.Sample.{Sample}
 use Rattle.plane_sweep.specs.Packed.{part, part_slot, StandFits, StandsFor, PermutesAt}
 use Rattle.plane_sweep.specs.declared.stand.Stand.{Stand}
-use Rattle.run_checkpoint.specs.Decoding.{level_form, level_refusal, decoded, IsEncoded}
+use Rattle.run_checkpoint.specs.Decoding.{level_layout, level_refusal, decoded, IsEncoded}
 use Rattle.run_checkpoint.specs.Encoding.{level_bank, encoding, AreBankStates}
 use Rattle.run_checkpoint.specs.Kinds.{Level, sealed}
 use Rattle.run_checkpoint.specs.Lengths.{slot_len, contents_len}
 use Rattle.run_checkpoint.specs.Reading.{parts_in, stand_in}
-use Rattle.run_checkpoint.specs.Tests.{wrong_label}
+use Rattle.run_checkpoint.specs.Tests.{form_refusal, wrong_label}
 use Rattle.run_checkpoint.specs.declared.refused.CheckpointRefused.{CheckpointRefused}
 use Rattle.run_checkpoint.specs.declared.refused.CheckpointRefused.TheVariants as refused
 use Rattle.run_checkpoint.proofs.PackedParts.{bank-same}
 use Rattle.run_checkpoint.proofs.LabelTests.{right-labels, labels-right}
-use Rattle.run_checkpoint.proofs.LevelForm.{HasForm, form-long, form-is, form-right, form-tells, packed_body, encoding-packed, form-again, stand-again, stand-back}
-use Rattle.run_checkpoint.proofs.Tested.{Tells, tells-or, tells-label, tells-late, late-is, in-time, memory-or}
+use Rattle.run_checkpoint.proofs.LevelForm.{form-long, packed_body, encoding-packed, form-again, stand-again, stand-back}
+use Rattle.run_checkpoint.proofs.Tested.{HasForm, form-is, form-right, form-tells, Tells, tells-or, tells-label, tells-late, late-is, in-time, memory-or}
 use Rattle.run_checkpoint.proofs.WrittenAgain.{slots-fit, slots-count, pairs-count, pairs-fit}
 use Rattle.glass_edges.proofs.FirstRefusals.{or-later, or-none, unless-ok}
 use Rattle.glass_edges.proofs.NumberBytes.{IsBytes, bytes-drop}
@@ -30,7 +30,7 @@ pub slots-first : (l n : ℕ) → slot_len l * n ≤ contents_len l n
 unfolding contents_len
 slots-first l n = omega arith
 
-read-fits : (plan : Plan) (bytes : List ℕ) → IsBytes bytes → HasForm plan bytes → None ≡ wrong_label (slots_of plan) (parts_in plan.size (slots_of plan) (drop 56 bytes)) → StandFits plan (stand_in plan bytes)
+read-fits : (plan : Plan) (bytes : List ℕ) → IsBytes bytes → HasForm (level_layout plan) plan bytes → None ≡ wrong_label (slots_of plan) (parts_in plan.size (slots_of plan) (drop 56 bytes)) → StandFits plan (stand_in plan bytes)
 unfolding stand_in part
 read-fits plan bytes are has none =
     let n = slots_of plan in
@@ -49,9 +49,9 @@ read-fits plan bytes are has none =
 pub none-is : (plan : Plan) (until : ℕ) (bytes : List ℕ) → IsLawfulPlan plan → IsBytes bytes → None ≡ level_refusal plan until bytes → IsEncoded plan until bytes (stand_in plan bytes)
 unfolding level_refusal
 none-is plan until bytes lawful are none =
-    let a = or-none (level_form plan bytes) _ none in
+    let a = or-none (form_refusal (level_layout plan) plan bytes) _ none in
     let b = or-none (wrong_label (slots_of plan) (parts_in plan.size (slots_of plan) (drop 56 bytes))) _ a.1 in
-    let has = form-is plan bytes a.0 in
+    let has = form-is (level_layout plan) plan bytes a.0 in
     let fits = read-fits plan bytes are has b.0 in
     record {
       fits = fits;
@@ -74,7 +74,8 @@ packed-none plan until stand lawful fits le =
     let again = stand-again plan stand fits in
     let labels : (b : ℕ) → b < 64 → PermutesAt (slots_of plan) (λ t. slot_at (parts_in plan.size (slots_of plan) (drop 56 bytes) b) t) = λ b small.
     subst (λ (ss : List PlainSlot). PermutesAt (slots_of plan) (λ t. slot_at ss t)) (ap (λ (s : Stand). map (part_slot plan.size b) s.slots) (sym again) ∙ same-parts plan bytes b) (fit-labels plan stand fits b small) in
-    or-later _ _ None (form-right plan bytes (form-again plan stand lawful fits))
+    let has = form-again plan stand lawful fits in
+    or-later _ _ None (form-right (level_layout plan) plan bytes (omega (arith, has.len, form-long plan.size (slots_of plan))) has)
     (or-later _ _ None (labels-right (slots_of plan) _ labels)
     (in-time until _ (subst (λ (s : Stand). s.epoch ≤ until) (sym again) le)))
 
@@ -101,7 +102,7 @@ states-epoch plan states are = ap (λ (x : Sample). x.epoch) (are.stands 0 (omeg
 
 pub level-tells : (plan : Plan) (until : ℕ) (bytes : List ℕ) → Tells (level_refusal plan until bytes)
 unfolding level_refusal
-level-tells plan until bytes = tells-or _ _ (form-tells plan bytes) (tells-or _ _ (tells-label _ _) (tells-late until _))
+level-tells plan until bytes = tells-or _ _ (form-tells (level_layout plan) plan bytes) (tells-or _ _ (tells-label _ _) (tells-late until _))
 
 decoded-is : (plan : Plan) (until : ℕ) (bytes : List ℕ) (stand : Stand) → IsLawfulPlan plan → IsBytes bytes → decoded plan until bytes ≡ Ok stand → IsEncoded plan until bytes stand
 unfolding decoded

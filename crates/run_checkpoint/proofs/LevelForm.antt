@@ -11,62 +11,25 @@ use Rattle.plane_sweep.specs.Packed.{part, StandFits}
 use Rattle.plane_sweep.specs.declared.stand.Stand.{Stand}
 use Rattle.plane_sweep.specs.declared.replica.Duo.{Duo}
 use Rattle.plane_sweep.specs.declared.stand.PairWheels.{PairWheels}
-use Rattle.run_checkpoint.specs.Decoding.{level_form}
+use Rattle.run_checkpoint.specs.Decoding.{level_layout}
 use Rattle.run_checkpoint.specs.Encoding.{level_bank, encoding}
 use Rattle.run_checkpoint.specs.Kinds.{Level, level_kind, header, shape, sealed}
 use Rattle.run_checkpoint.specs.Lengths.{contents_len, encoding_len}
 use Rattle.run_checkpoint.specs.PackedBytes.{packed_contents}
 use Rattle.run_checkpoint.specs.Reading.{piece, number_at, body_of, digest_of, slots_in, pairs_in, stand_in}
-use Rattle.run_checkpoint.specs.Tests.{short, other_kind, other_shape, other_length, damaged, other_plan}
 use Rattle.run_checkpoint.proofs.PackedParts.{packed_bank, bank-packed}
 use Rattle.run_checkpoint.proofs.UnevenParts.{length-bank}
 use Rattle.run_checkpoint.proofs.Forms.{next-part, cut, tail-at, sealed-digest, sealed-back, length-sealed}
 use Rattle.run_checkpoint.proofs.PartLengths.{length-contents}
 use Rattle.run_checkpoint.proofs.ReadAgain.{slots-again, pairs-again}
-use Rattle.run_checkpoint.proofs.Tested.{Tells, tells-or, tells-short, tells-kind, tells-shape, tells-length, tells-digest, tells-plan, long-enough, kind-right, kind-is, shape-right, shape-is, length-right, length-is, digest-right, digest-is, plan-right, plan-is}
+use Rattle.run_checkpoint.proofs.Tested.{HasForm}
 use Rattle.run_checkpoint.proofs.WrittenAgain.{contents-back}
-use Rattle.glass_edges.proofs.FirstRefusals.{or-later, or-none}
 use Rattle.glass_edges.proofs.NumberBytes.{IsBytes, bytes-drop, long_word-back, word-back}
 use Rattle.spin_model.proofs.WordBytes.{length-big_bytes}
-
--- what the tests of the form say together
-pub record HasForm (plan : Plan) (bytes : List ℕ) : Type 0 where
-  pub kind : take 8 bytes ≡ level_kind
-  pub size : number_at 4 48 bytes ≡ plan.size
-  pub slots : number_at 4 52 bytes ≡ slots_of plan
-  pub len : length bytes ≡ encoding_len plan.size (slots_of plan)
-  pub digest : digest_of bytes ≡ sha256 (body_of bytes)
-  pub own_plan : piece 8 32 bytes ≡ sha256 (canonical plan)
 
 pub form-long : (l n : ℕ) → 88 + contents_len l n ≡ encoding_len l n
 unfolding encoding_len
 form-long l n = omega arith
-
-pub form-right : (plan : Plan) (bytes : List ℕ) → HasForm plan bytes → None ≡ level_form plan bytes
-unfolding level_form
-form-right plan bytes has =
-    or-later _ _ None (long-enough 88 bytes (omega (arith, form-long plan.size (slots_of plan), has.len)))
-    (or-later _ _ None (kind-right level_kind bytes has.kind)
-    (or-later _ _ None (shape-right plan 48 bytes has.size has.slots)
-    (or-later _ _ None (length-right _ bytes has.len)
-    (or-later _ _ None (digest-right bytes has.digest) (plan-right plan bytes has.own_plan)))))
-
-pub form-is : (plan : Plan) (bytes : List ℕ) → None ≡ level_form plan bytes → HasForm plan bytes
-unfolding level_form
-form-is plan bytes e =
-    let a = or-none (short 88 bytes) _ e in
-    let b = or-none (other_kind level_kind bytes) _ a.1 in
-    let c = or-none (other_shape plan 48 bytes) _ b.1 in
-    let d = or-none (other_length (encoding_len plan.size (slots_of plan)) bytes) _ c.1 in
-    let f = or-none (damaged bytes) (other_plan plan bytes) d.1 in
-    let shape = shape-is plan 48 bytes c.0 in
-    record { kind = kind-is level_kind bytes b.0; size = shape.0; slots = shape.1; len = length-is _ bytes d.0; digest = digest-is bytes f.0; own_plan = plan-is plan bytes f.1 }
-
-pub form-tells : (plan : Plan) (bytes : List ℕ) → Tells (level_form plan bytes)
-unfolding level_form
-form-tells plan bytes =
-    tells-or _ _ (tells-short 88 bytes) (tells-or _ _ (tells-kind level_kind bytes) (tells-or _ _ (tells-shape plan 48 bytes)
-    (tells-or _ _ (tells-length _ bytes) (tells-or _ _ (tells-digest bytes) (tells-plan plan bytes)))))
 
 -- ---- what is encoded is read
 
@@ -109,7 +72,7 @@ in-parts plan stand =
     let fifth = next-part xs (big_bytes 4 (slots_of plan)) _ 52 4 56 fourth.1 (length-big_bytes 4 (slots_of plan)) refl in
     record { kind = first.0; own_plan = second.0; epoch = (_, second.1); size = (_, third.1); slots = (_, fourth.1); rest = fifth.1 }
 
-pub form-again : (plan : Plan) (stand : Stand) → IsLawfulPlan plan → StandFits plan stand → HasForm plan (sealed (packed_body plan stand))
+pub form-again : (plan : Plan) (stand : Stand) → IsLawfulPlan plan → StandFits plan stand → HasForm (level_layout plan) plan (sealed (packed_body plan stand))
 form-again plan stand lawful fits =
     let parts = in-parts plan stand in
     record {
@@ -154,7 +117,7 @@ level-sealed plan bytes epoch slots pairs h long whole sized digest =
     let grouped : bytes ≡ body ++ h = whole ∙ sym (regroup level_kind (sha256 (canonical plan)) (big_bytes 8 epoch) (big_bytes 4 plan.size) (big_bytes 4 (slots_of plan)) (packed_contents slots pairs) h) in
     sealed-back bytes body long digest (ap body_of grouped ∙ (tail-at body h sized).1)
 
-pub stand-back : (plan : Plan) (bytes : List ℕ) → IsBytes bytes → HasForm plan bytes → bytes ≡ sealed (packed_body plan (stand_in plan bytes))
+pub stand-back : (plan : Plan) (bytes : List ℕ) → IsBytes bytes → HasForm (level_layout plan) plan bytes → bytes ≡ sealed (packed_body plan (stand_in plan bytes))
 unfolding stand_in
 stand-back plan bytes are has =
     let n = slots_of plan in

@@ -13,8 +13,8 @@ use Rattle.run_plan.specs.CanonicalPlan.{canonical}
 use Rattle.run_checkpoint.specs.declared.refused.CheckpointRefused.{CheckpointRefused}
 use Rattle.run_checkpoint.specs.declared.refused.CheckpointRefused.TheVariants as refused
 use Rattle.run_checkpoint.specs.Reading.{piece, number_at, body_of, digest_of}
-use Rattle.run_checkpoint.specs.Tests.{short, other_kind, other_shape, other_length, damaged, other_plan, is_wrong, wrong_at, wrong_label, late}
-use Rattle.glass_edges.proofs.FirstRefusals.{if-none}
+use Rattle.run_checkpoint.specs.Tests.{short, other_kind, other_shape, other_length, damaged, other_plan, is_wrong, wrong_at, wrong_label, late, Layout, form_refusal}
+use Rattle.glass_edges.proofs.FirstRefusals.{if-none, or-later, or-none}
 
 pub held : (b : Bool) (x : CheckpointRefused) → None ≡ cond b (Some x) None → b ≡ false
 held true x e = absurd cc
@@ -176,3 +176,40 @@ memory-or (refused.Orders a b) = inr (λ e. absurd cc)
 memory-or (refused.Pending a b) = inr (λ e. absurd cc)
 memory-or (refused.BankCount a b) = inr (λ e. absurd cc)
 memory-or (refused.BankEpoch a b c) = inr (λ e. absurd cc)
+
+-- ---- the form
+
+-- what its tests say together
+pub record HasForm (layout : Layout) (plan : Plan) (bytes : List ℕ) : Type 0 where
+  pub kind : take 8 bytes ≡ layout.kind
+  pub size : number_at 4 layout.place bytes ≡ plan.size
+  pub slots : number_at 4 (layout.place + 4) bytes ≡ slots_of plan
+  pub len : length bytes ≡ layout.len
+  pub digest : digest_of bytes ≡ sha256 (body_of bytes)
+  pub own_plan : piece 8 32 bytes ≡ sha256 (canonical plan)
+
+pub form-right : (layout : Layout) (plan : Plan) (bytes : List ℕ) → layout.least ≤ length bytes → HasForm layout plan bytes → None ≡ form_refusal layout plan bytes
+unfolding form_refusal
+form-right layout plan bytes long has =
+    or-later _ _ None (long-enough layout.least bytes long)
+    (or-later _ _ None (kind-right layout.kind bytes has.kind)
+    (or-later _ _ None (shape-right plan layout.place bytes has.size has.slots)
+    (or-later _ _ None (length-right _ bytes has.len)
+    (or-later _ _ None (digest-right bytes has.digest) (plan-right plan bytes has.own_plan)))))
+
+pub form-is : (layout : Layout) (plan : Plan) (bytes : List ℕ) → None ≡ form_refusal layout plan bytes → HasForm layout plan bytes
+unfolding form_refusal
+form-is layout plan bytes e =
+    let a = or-none (short layout.least bytes) _ e in
+    let b = or-none (other_kind layout.kind bytes) _ a.1 in
+    let c = or-none (other_shape plan layout.place bytes) _ b.1 in
+    let d = or-none (other_length layout.len bytes) _ c.1 in
+    let f = or-none (damaged bytes) (other_plan plan bytes) d.1 in
+    let shape = shape-is plan layout.place bytes c.0 in
+    record { kind = kind-is layout.kind bytes b.0; size = shape.0; slots = shape.1; len = length-is _ bytes d.0; digest = digest-is bytes f.0; own_plan = plan-is plan bytes f.1 }
+
+pub form-tells : (layout : Layout) (plan : Plan) (bytes : List ℕ) → Tells (form_refusal layout plan bytes)
+unfolding form_refusal
+form-tells layout plan bytes =
+    tells-or _ _ (tells-short layout.least bytes) (tells-or _ _ (tells-kind layout.kind bytes) (tells-or _ _ (tells-shape plan layout.place bytes)
+    (tells-or _ _ (tells-length _ bytes) (tells-or _ _ (tells-digest bytes) (tells-plan plan bytes)))))

@@ -25,16 +25,16 @@ use Rattle.run_checkpoint.specs.Encoding.{encoding, AreBankStates, uneven_bank, 
 use Rattle.run_checkpoint.specs.Kinds.{Uneven, level_kind, uneven_kind, sealed}
 use Rattle.run_checkpoint.specs.Lengths.{slot_len}
 use Rattle.run_checkpoint.specs.Reading.{number_at, parts_in, stand_in}
-use Rattle.run_checkpoint.specs.Tests.{short, wrong_label}
-use Rattle.run_checkpoint.specs.UnevenDecoding.{epoch_in, phase_in, places_in, count_in, slots_place, records_place, uneven_in, is_wrong_place, wrong_place_at, wrong_place, HasRightPlaces, other_orders, other_count, uneven_form, uneven_refusal, is_uneven, any_refusal, any_in, any_decoded, IsUnevenEncoded, IsAnyEncoded}
+use Rattle.run_checkpoint.specs.Tests.{short, form_refusal, wrong_label}
+use Rattle.run_checkpoint.specs.UnevenDecoding.{epoch_in, phase_in, places_in, count_in, slots_place, records_place, uneven_in, is_wrong_place, wrong_place_at, wrong_place, HasRightPlaces, other_orders, other_count, uneven_layout, uneven_refusal, is_uneven, any_refusal, any_in, any_decoded, IsUnevenEncoded, IsAnyEncoded}
 use Rattle.run_checkpoint.specs.declared.refused.CheckpointRefused.{CheckpointRefused}
 use Rattle.run_checkpoint.specs.declared.refused.CheckpointRefused.TheVariants as refused
 use Rattle.run_checkpoint.proofs.PackedParts.{bank-same}
 use Rattle.run_checkpoint.proofs.LabelTests.{right-labels, labels-right}
 use Rattle.run_checkpoint.proofs.LevelClauses.{none-is, packed-none, level-tells, states-packed, states-epoch, slots-first}
 use Rattle.run_checkpoint.proofs.LevelForm.{packed_body, stand-again, form-again as level_form-again, form-long}
-use Rattle.run_checkpoint.proofs.Tested.{Tells, tells-or, tells-if, tells-first, tells-label, tells-late, tells-short, late-is, in-time, long-enough, memory-or}
-use Rattle.run_checkpoint.proofs.UnevenForm.{HasUnevenForm, uneven-long, form-is, form-right, form-tells, uneven_body, uneven-packed, count-again, uneven_form-again, orders-again, uneven-again, uneven-back, phases-again}
+use Rattle.run_checkpoint.proofs.Tested.{HasForm, form-is, form-right, form-tells, Tells, tells-or, tells-if, tells-first, tells-label, tells-late, tells-short, late-is, in-time, long-enough, memory-or}
+use Rattle.run_checkpoint.proofs.UnevenForm.{uneven-long, uneven_body, uneven-packed, count-again, uneven_form-again, orders-again, uneven-again, uneven-back, phases-again}
 use Rattle.run_checkpoint.proofs.UnevenParts.{records-count, records-fit}
 use Rattle.run_checkpoint.proofs.UnevenPlaces.{positions-count, position-at, right-places, places-none, step-right}
 use Rattle.run_checkpoint.proofs.WrittenAgain.{slots-fit, slots-count, pairs-count, pairs-fit}
@@ -90,7 +90,7 @@ tells-count samples every count places =
 uneven-tells : (plan : Plan) (samples every until : ℕ) (bytes : List ℕ) → Tells (uneven_refusal plan samples every until bytes)
 unfolding uneven_refusal
 uneven-tells plan samples every until bytes =
-    tells-or _ _ (form-tells plan bytes) (tells-or _ _ (tells-label _ _) (tells-or _ _ (tells-place _ _) (tells-or _ _ (tells-orders samples every bytes) (tells-or _ _ (tells-count samples every _ _) (tells-late until _)))))
+    tells-or _ _ (form-tells (uneven_layout plan bytes) plan bytes) (tells-or _ _ (tells-label _ _) (tells-or _ _ (tells-place _ _) (tells-or _ _ (tells-orders samples every bytes) (tells-or _ _ (tells-count samples every _ _) (tells-late until _)))))
 
 pub any-tells : (plan : Plan) (samples every until : ℕ) (bytes : List ℕ) → Tells (any_refusal plan samples every until bytes)
 unfolding any_refusal
@@ -99,7 +99,7 @@ any-tells plan samples every until bytes =
 
 -- ---- what is read fits and is encoded so
 
-uneven-fits : (plan : Plan) (samples every : ℕ) (bytes : List ℕ) → 1 ≤ samples → samples ≤ 64 → 1 ≤ every → IsBytes bytes → HasUnevenForm plan bytes
+uneven-fits : (plan : Plan) (samples every : ℕ) (bytes : List ℕ) → 1 ≤ samples → samples ≤ 64 → 1 ≤ every → IsBytes bytes → HasForm (uneven_layout plan bytes) plan bytes
     → None ≡ wrong_label (slots_of plan) (parts_in plan.size (slots_of plan) (drop (slots_place (slots_of plan)) bytes)) → HasRightPlaces (slots_of plan) (drop 64 bytes)
     → count_in bytes ≡ pending_count samples every (map position_of (places_in (slots_of plan) (drop 64 bytes))) → RaggedStandFits plan samples every (uneven_in plan bytes)
 unfolding uneven_in
@@ -143,12 +143,12 @@ uneven-none : (plan : Plan) (samples every until : ℕ) (bytes : List ℕ) → I
 unfolding uneven_refusal
 uneven-none plan samples every until bytes lawful some few one are none =
     let n = slots_of plan in
-    let a = or-none (uneven_form plan bytes) _ none in
+    let a = or-none (form_refusal (uneven_layout plan bytes) plan bytes) _ none in
     let b = or-none (wrong_label n (parts_in plan.size n (drop (slots_place n) bytes))) _ a.1 in
     let c = or-none (wrong_place n (drop 64 bytes)) _ b.1 in
     let d = or-none (other_orders samples every bytes) _ c.1 in
     let e = or-none (other_count samples every (count_in bytes) (uneven_in plan bytes).places) _ d.1 in
-    let has = form-is plan bytes a.0 in
+    let has = form-is (uneven_layout plan bytes) plan bytes a.0 in
     let right = right-places n (drop 64 bytes) c.0 in
     let orders = orders-are samples every bytes d.0 in
     let fits = uneven-fits plan samples every bytes some few one are has b.0 right (own-count plan samples every bytes (count-is samples every (count_in bytes) _ e.0)) in
@@ -190,7 +190,8 @@ uneven-right plan samples every until stand lawful fits small last deep =
     omega (arith, e, d, deep, last) in
     let right = places-none n (drop 64 bytes) (step-right n (drop 64 bytes) (subst (AreInStep n) (sym positions) fits.in_step) limits (stored-phase plan samples every stand lawful fits)) in
     let orders = orders-again plan samples every stand fits small in
-    or-later _ _ None (form-right plan bytes (uneven_form-again plan samples every stand lawful fits))
+    let has = uneven_form-again plan samples every stand lawful fits in
+    or-later _ _ None (form-right (uneven_layout plan bytes) plan bytes (omega (arith, has.len, uneven-long plan.size (slots_of plan) (count_in bytes))) has)
     (or-later _ _ None (labels-right n _ (fit-labels plan samples every bytes stand fits again))
     (or-later _ _ None right
     (or-later _ _ None (orders-right samples every bytes orders.0 orders.1)

@@ -26,61 +26,23 @@ use Rattle.run_checkpoint.specs.Kinds.{Uneven, uneven_kind, header, kept, shape,
 use Rattle.run_checkpoint.specs.Lengths.{slot_len, replica_len, contents_len, encoding_len, uneven_len, standing_len}
 use Rattle.run_checkpoint.specs.PackedBytes.{packed_contents}
 use Rattle.run_checkpoint.specs.Reading.{piece, number_at, body_of, digest_of, slots_in, pairs_in}
-use Rattle.run_checkpoint.specs.Tests.{short, other_kind, other_shape, other_length, damaged, other_plan}
-use Rattle.run_checkpoint.specs.UnevenDecoding.{places_in, records_in, count_in, phase_in, slots_place, records_place, uneven_in, uneven_form}
+use Rattle.run_checkpoint.specs.UnevenDecoding.{places_in, records_in, count_in, phase_in, slots_place, records_place, uneven_in, uneven_layout}
 use Rattle.run_checkpoint.specs.declared.kinds.Kind.{Kind}
 use Rattle.run_checkpoint.specs.declared.kinds.Kind.TheVariants as kinds
 use Rattle.run_checkpoint.proofs.PackedParts.{packed_bank, bank-packed}
 use Rattle.run_checkpoint.proofs.Forms.{next-part, cut, tail-at, sealed-digest, sealed-back, length-sealed}
 use Rattle.run_checkpoint.proofs.PartLengths.{length-contents}
 use Rattle.run_checkpoint.proofs.ReadAgain.{slots-again, pairs-again}
-use Rattle.run_checkpoint.proofs.Tested.{Tells, tells-or, tells-short, tells-kind, tells-shape, tells-length, tells-digest, tells-plan, long-enough, kind-right, kind-is, shape-right, shape-is, length-right, length-is, digest-right, digest-is, plan-right, plan-is}
+use Rattle.run_checkpoint.proofs.Tested.{HasForm}
 use Rattle.run_checkpoint.proofs.UnevenParts.{phase-stored, length-positions, length-records, places-again, records-again, places-back, records-back, AreSized, length-bank}
 use Rattle.run_checkpoint.proofs.WrittenAgain.{contents-back}
-use Rattle.glass_edges.proofs.FirstRefusals.{or-later, or-none}
 use Rattle.glass_edges.proofs.NumberBytes.{IsBytes, bytes-drop, long_word-back}
 use Rattle.run_checkpoint.proofs.LevelForm.{number-back, encoding-packed}
 use Rattle.spin_model.proofs.WordBytes.{length-big_bytes}
 
--- ---- the tests of the form
-
-pub record HasUnevenForm (plan : Plan) (bytes : List ℕ) : Type 0 where
-  pub kind : take 8 bytes ≡ uneven_kind
-  pub size : number_at 4 40 bytes ≡ plan.size
-  pub slots : number_at 4 44 bytes ≡ slots_of plan
-  pub len : length bytes ≡ uneven_len plan.size (slots_of plan) (count_in bytes)
-  pub digest : digest_of bytes ≡ sha256 (body_of bytes)
-  pub own_plan : piece 8 32 bytes ≡ sha256 (canonical plan)
-
 pub uneven-long : (l n count : ℕ) → 96 + 9 * n + contents_len l n + 14 * count ≡ uneven_len l n count
 unfolding uneven_len
 uneven-long l n count = omega arith
-
-pub form-right : (plan : Plan) (bytes : List ℕ) → HasUnevenForm plan bytes → None ≡ uneven_form plan bytes
-unfolding uneven_form
-form-right plan bytes has =
-    or-later _ _ None (long-enough 96 bytes (omega (arith, uneven-long plan.size (slots_of plan) (count_in bytes), has.len)))
-    (or-later _ _ None (kind-right uneven_kind bytes has.kind)
-    (or-later _ _ None (shape-right plan 40 bytes has.size has.slots)
-    (or-later _ _ None (length-right _ bytes has.len)
-    (or-later _ _ None (digest-right bytes has.digest) (plan-right plan bytes has.own_plan)))))
-
-pub form-is : (plan : Plan) (bytes : List ℕ) → None ≡ uneven_form plan bytes → HasUnevenForm plan bytes
-unfolding uneven_form
-form-is plan bytes e =
-    let a = or-none (short 96 bytes) _ e in
-    let b = or-none (other_kind uneven_kind bytes) _ a.1 in
-    let c = or-none (other_shape plan 40 bytes) _ b.1 in
-    let d = or-none (other_length (uneven_len plan.size (slots_of plan) (count_in bytes)) bytes) _ c.1 in
-    let f = or-none (damaged bytes) (other_plan plan bytes) d.1 in
-    let shape = shape-is plan 40 bytes c.0 in
-    record { kind = kind-is uneven_kind bytes b.0; size = shape.0; slots = shape.1; len = length-is _ bytes d.0; digest = digest-is bytes f.0; own_plan = plan-is plan bytes f.1 }
-
-pub form-tells : (plan : Plan) (bytes : List ℕ) → Tells (uneven_form plan bytes)
-unfolding uneven_form
-form-tells plan bytes =
-    tells-or _ _ (tells-short 96 bytes) (tells-or _ _ (tells-kind uneven_kind bytes) (tells-or _ _ (tells-shape plan 40 bytes)
-    (tells-or _ _ (tells-length _ bytes) (tells-or _ _ (tells-digest bytes) (tells-plan plan bytes)))))
 
 -- ---- the encoding by the packed state
 
@@ -154,7 +116,7 @@ count-again plan samples every stand lawful fits =
     let parts = in-parts plan samples every stand fits in
     ap (big_number 4) parts.count.1 ∙ big_number-reads_back 4 (length stand.pending) parts.count.0 (omega (arith, few-records plan samples every stand lawful fits))
 
-pub uneven_form-again : (plan : Plan) (samples every : ℕ) (stand : RaggedStand) → IsLawfulPlan plan → RaggedStandFits plan samples every stand → HasUnevenForm plan (sealed (uneven_body plan samples every stand))
+pub uneven_form-again : (plan : Plan) (samples every : ℕ) (stand : RaggedStand) → IsLawfulPlan plan → RaggedStandFits plan samples every stand → HasForm (uneven_layout plan (sealed (uneven_body plan samples every stand))) plan (sealed (uneven_body plan samples every stand))
 uneven_form-again plan samples every stand lawful fits =
     let parts = in-parts plan samples every stand fits in
     record {
@@ -220,7 +182,7 @@ uneven-sealed plan samples every ps rs slots pairs bytes h long whole sized dige
     (flat_map position_bytes ps) (packed_contents slots pairs) (flat_map record_bytes rs) h) in
     sealed-back bytes body long digest (ap body_of grouped ∙ (tail-at body h sized).1)
 
-pub uneven-back : (plan : Plan) (samples every : ℕ) (bytes : List ℕ) → IsBytes bytes → HasUnevenForm plan bytes
+pub uneven-back : (plan : Plan) (samples every : ℕ) (bytes : List ℕ) → IsBytes bytes → HasForm (uneven_layout plan bytes) plan bytes
     → ((t : ℕ) → t < slots_of plan → (phase_in (drop 64 bytes) t ≡ 0) ⊎ (phase_in (drop 64 bytes) t ≡ 2)) → number_at 4 48 bytes ≡ samples → number_at 8 52 bytes ≡ every
     → length (uneven_in plan bytes).pending ≡ count_in bytes → bytes ≡ sealed (uneven_body plan samples every (uneven_in plan bytes))
 unfolding uneven_in

@@ -9,18 +9,15 @@ use Rattle.run_checkpoint.specs.declared.refused.CheckpointRefused.{CheckpointRe
 use Rattle.run_checkpoint.specs.Encoding.{encoding}
 use Rattle.run_checkpoint.specs.Lengths.{encoding_len}
 use Rattle.run_checkpoint.specs.Reading.{parts_in, stand_in}
-use Rattle.run_checkpoint.specs.Tests.{short, other_kind, other_shape, other_length, damaged, other_plan, wrong_label, late}
+use Rattle.run_checkpoint.specs.Tests.{Layout, form_refusal, wrong_label, late}
 
--- the tests of the form, in their order
-unfoldable pub level_form : Plan → List ℕ → Option CheckpointRefused
-level_form plan bytes =
-    or_else (short 88 bytes) (or_else (other_kind level_kind bytes) (or_else (other_shape plan 48 bytes)
-    (or_else (other_length (encoding_len plan.size (slots_of plan)) bytes) (or_else (damaged bytes) (other_plan plan bytes)))))
+abbrev pub level_layout : Plan → Layout
+level_layout plan = record { least = 88; kind = level_kind; place = 48; len = encoding_len plan.size (slots_of plan) }
 
--- and then those of the state
+-- the tests of the form, and then those of the state
 unfoldable pub level_refusal : Plan → ℕ → List ℕ → Option CheckpointRefused
 level_refusal plan until bytes =
-    or_else (level_form plan bytes) (or_else
+    or_else (form_refusal (level_layout plan) plan bytes) (or_else
     (wrong_label (slots_of plan) (parts_in plan.size (slots_of plan) (drop 56 bytes)))
     (late until (stand_in plan bytes).epoch))
 

@@ -2,7 +2,7 @@
 use Rattle.std.specs.Prelude.{ℕ, zero, suc, ◌+◌, ◌*◌, ◌/◌, ◌%◌, Bool, false, ◌||◌, ◌&&◌, ◌==◌, nat_le, nat_lt, if◌then◌else◌, List, length, take, Option, Some, None}
 use Rattle.std.specs.Str.{bytes_eq}
 use Rattle.sha2.specs.Sha256.{sha256}
-use Rattle.glass_edges.specs.Refusals.{first_of}
+use Rattle.glass_edges.specs.Refusals.{or_else, first_of}
 use Rattle.scalar_rule.specs.Plan.{Plan, slots_of}
 use Rattle.scalar_rule.specs.Epoch.{slot_at}
 use Rattle.scalar_rule.specs.declared.sample.PlainSlot.{PlainSlot}
@@ -69,3 +69,18 @@ wrong_label n slots = first_of (wrong_at n slots) 0 (128 * n)
 
 unfoldable pub late : ℕ → ℕ → Option CheckpointRefused
 late until epoch = if nat_lt until epoch then Some (refused.Late epoch until) else None
+
+-- ---- the form of a bank's bytes
+
+-- what a kind asks: the fewest bytes, the letters, the place of the size, and the number of all bytes
+pub record Layout : Type 0 where
+  pub least : ℕ
+  pub kind : List ℕ
+  pub place : ℕ
+  pub len : ℕ
+
+-- the tests of the form, in their order
+unfoldable pub form_refusal : Layout → Plan → List ℕ → Option CheckpointRefused
+form_refusal layout plan bytes =
+    or_else (short layout.least bytes) (or_else (other_kind layout.kind bytes) (or_else (other_shape plan layout.place bytes)
+    (or_else (other_length layout.len bytes) (or_else (damaged bytes) (other_plan plan bytes)))))

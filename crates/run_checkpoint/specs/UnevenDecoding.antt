@@ -19,7 +19,7 @@ use Rattle.run_checkpoint.specs.declared.refused.CheckpointRefused.TheVariants a
 use Rattle.run_checkpoint.specs.Decoding.{level_refusal, IsEncoded}
 use Rattle.run_checkpoint.specs.Lengths.{contents_len, position_len, record_len, uneven_len, encoding_len}
 use Rattle.run_checkpoint.specs.Reading.{number_at, items_at, slots_in, pairs_in, parts_in, stand_in}
-use Rattle.run_checkpoint.specs.Tests.{short, other_kind, other_shape, other_length, damaged, other_plan, wrong_label, late}
+use Rattle.run_checkpoint.specs.Tests.{short, Layout, form_refusal, wrong_label, late}
 use Rattle.run_checkpoint.specs.Encoding.{uneven_encoding}
 
 -- ---- reading
@@ -108,14 +108,12 @@ other_count samples every count places =
     if count == pending_count samples every (map position_of places) then None
     else Some (refused.Pending count (pending_count samples every (map position_of places)))
 
-unfoldable pub uneven_form : Plan → List ℕ → Option CheckpointRefused
-uneven_form plan bytes =
-    or_else (short 96 bytes) (or_else (other_kind uneven_kind bytes) (or_else (other_shape plan 40 bytes)
-    (or_else (other_length (uneven_len plan.size (slots_of plan) (count_in bytes)) bytes) (or_else (damaged bytes) (other_plan plan bytes)))))
+abbrev pub uneven_layout : Plan → List ℕ → Layout
+uneven_layout plan bytes = record { least = 96; kind = uneven_kind; place = 40; len = uneven_len plan.size (slots_of plan) (count_in bytes) }
 
 unfoldable pub uneven_refusal : Plan → ℕ → ℕ → ℕ → List ℕ → Option CheckpointRefused
 uneven_refusal plan samples every until bytes =
-    or_else (uneven_form plan bytes)
+    or_else (form_refusal (uneven_layout plan bytes) plan bytes)
     (or_else (wrong_label (slots_of plan) (parts_in plan.size (slots_of plan) (drop (slots_place (slots_of plan)) bytes)))
     (or_else (wrong_place (slots_of plan) (drop 64 bytes))
     (or_else (other_orders samples every bytes)

@@ -10,6 +10,40 @@ use run_plan::digest;
 use scalar_rule::Plan;
 use sha2::{Digest, Sha256};
 
+// The first refusal of the form: the fewest bytes, the letters, the shape at a place, the number of all
+// bytes, and both digests.
+#[tactic(auto, unfolding(crate::specs::Tests::form_refusal))]
+pub(crate) fn form_refusal(
+    bytes: &[u8],
+    plan: &Plan,
+    least: usize,
+    kind: &[u8; 8],
+    place: usize,
+    wanted: u64,
+) -> Option<CheckpointRefused>
+    requires place { place + 8 ≤ least }
+    requires least { 40 ≤ least }
+    ensures value { result ≡ tests.form_refusal (record { least = least; kind = kind.now; place = place; len = wanted }) plan.now bytes.now }
+    ensures long { IfNone result (length bytes.now ≡ wanted) }
+{
+    if let Some(refused) = short(bytes, least) {
+        return Some(refused);
+    }
+    if let Some(refused) = other_kind(bytes, kind) {
+        return Some(refused);
+    }
+    if let Some(refused) = other_shape(bytes, plan, place) {
+        return Some(refused);
+    }
+    if let Some(refused) = other_length(bytes, wanted) {
+        return Some(refused);
+    }
+    if let Some(refused) = damaged(bytes) {
+        return Some(refused);
+    }
+    other_plan(bytes, plan)
+}
+
 // Fewer bytes than are wanted at least.
 #[tactic(auto, unfolding(crate::specs::Tests::short))]
 pub(crate) fn short(bytes: &[u8], least: usize) -> Option<CheckpointRefused>

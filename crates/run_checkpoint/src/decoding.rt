@@ -12,7 +12,7 @@ ghost use Rattle.run_checkpoint.specs.Reading.{stand_in};
 ghost use Rattle.run_checkpoint.specs.Unfilled.{HasRoom};
 ghost use Rattle.run_checkpoint.specs.declared.refused.CheckpointRefused.TheVariants as refused;
 
-use crate::checks::{damaged, late, other_kind, other_length, other_plan, other_shape, short};
+use crate::checks::{form_refusal, late};
 use crate::kinds::LEVEL_KIND;
 use crate::labels::wrong_label;
 use crate::lengths::length;
@@ -68,7 +68,8 @@ pub(crate) fn level_refusal(plan: &Plan, until: u64, bytes: &[u8]) -> Option<Che
     ensures value { result ≡ model.level_refusal plan.now until bytes.now }
     ensures long { IfNone result (length bytes.now ≡ encoding_len plan.now.size (slots_of plan.now)) }
 {
-    if let Some(refused) = level_form(plan, bytes) {
+    let wanted = length(plan.lattice().size(), plan.slots());
+    if let Some(refused) = form_refusal(bytes, plan, 88, LEVEL_KIND, 48, wanted) {
         return Some(refused);
     }
     let contents = behind(bytes, 56);
@@ -76,30 +77,6 @@ pub(crate) fn level_refusal(plan: &Plan, until: u64, bytes: &[u8]) -> Option<Che
         return Some(refused);
     }
     late(u64_at(bytes, 40), until)
-}
-
-// The first refusal of the form.
-#[tactic(auto, unfolding(crate::specs::Decoding::level_form))]
-pub(crate) fn level_form(plan: &Plan, bytes: &[u8]) -> Option<CheckpointRefused>
-    ensures value { result ≡ model.level_form plan.now bytes.now }
-    ensures long { IfNone result (length bytes.now ≡ encoding_len plan.now.size (slots_of plan.now)) }
-{
-    if let Some(refused) = short(bytes, 88) {
-        return Some(refused);
-    }
-    if let Some(refused) = other_kind(bytes, LEVEL_KIND) {
-        return Some(refused);
-    }
-    if let Some(refused) = other_shape(bytes, plan, 48) {
-        return Some(refused);
-    }
-    if let Some(refused) = other_length(bytes, length(plan.lattice().size(), plan.slots())) {
-        return Some(refused);
-    }
-    if let Some(refused) = damaged(bytes) {
-        return Some(refused);
-    }
-    other_plan(bytes, plan)
 }
 
 // The state, of bytes that passed the tests of the form. All its memory is taken before it is filled.

@@ -7,6 +7,7 @@ ghost use Rattle.plane_sweep.specs.Uneven.{level_stand, uneven_part, RaggedStand
 ghost use Rattle.run_checkpoint.specs.Encoding.{encoding, AreBankStates, uneven_encoding, AreUnevenStates};
 ghost use Rattle.run_checkpoint.specs.Lengths.{encoding_len, uneven_len};
 ghost use Rattle.run_checkpoint.specs.Reading.{stand_in};
+ghost use Rattle.run_checkpoint.specs.Tests.{form_refusal};
 ghost use Rattle.run_checkpoint.specs.UnevenDecoding as model;
 ghost use Rattle.run_checkpoint.specs.declared.refused.CheckpointRefused.TheVariants as refused;
 ghost use Rattle.scalar_rule.specs.Laws.{level_start};
@@ -16,7 +17,7 @@ ghost use Rattle.scalar_rule.specs.Ragged.{UnevenState};
 ghost use Rattle.scalar_rule.specs.declared.sample.Record.{Record};
 ghost use Rattle.scalar_rule.specs.declared.sample.Sample.{Sample};
 
-use crate::checks::{damaged, late, other_kind, other_length, other_plan, other_shape, short};
+use crate::checks::{form_refusal, late, short};
 use crate::decoding::level_refusal;
 use crate::kinds::UNEVEN_KIND;
 use crate::labels::wrong_label;
@@ -165,33 +166,18 @@ fn uneven_refusal(
     late(greatest_done(places, slots), until)
 }
 
-// The first refusal of its form.
-#[tactic(auto, unfolding(crate::specs::UnevenDecoding::uneven_form))]
+// The first refusal of its form. The number of records is read where there are bytes enough.
+#[tactic(auto, unfolding(crate::specs::Tests::form_refusal))]
 fn uneven_form(plan: &Plan, bytes: &[u8]) -> Option<CheckpointRefused>
-    ensures value { result ≡ model.uneven_form plan.now bytes.now }
+    ensures value { result ≡ form_refusal (model.uneven_layout plan.now bytes.now) plan.now bytes.now }
     ensures long { IfNone result (length bytes.now ≡ uneven_len plan.now.size (slots_of plan.now) (model.count_in bytes.now)) }
 {
     if let Some(refused) = short(bytes, 96) {
         return Some(refused);
     }
-    if let Some(refused) = other_kind(bytes, UNEVEN_KIND) {
-        return Some(refused);
-    }
-    if let Some(refused) = other_shape(bytes, plan, 40) {
-        return Some(refused);
-    }
-    let wanted = uneven_len(
-        plan.lattice().size(),
-        plan.slots(),
-        u32_at(bytes, 60) as u64,
-    );
-    if let Some(refused) = other_length(bytes, wanted) {
-        return Some(refused);
-    }
-    if let Some(refused) = damaged(bytes) {
-        return Some(refused);
-    }
-    other_plan(bytes, plan)
+    let count = u32_at(bytes, 60) as u64;
+    let wanted = uneven_len(plan.lattice().size(), plan.slots(), count);
+    form_refusal(bytes, plan, 96, UNEVEN_KIND, 40, wanted)
 }
 
 // The state, of bytes that passed the tests. All its memory is taken before it is filled.
