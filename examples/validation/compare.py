@@ -254,7 +254,8 @@ def print_published(folder: Path) -> None:
             print(f"| samples of size {size} whose least energy one replica alone has seen | | {spelled(found.whole[:, 1].mean(), 5)} "
                   "| | | | |")
     if chances:
-        print(f"\nOf the {len(chances)} numbers with a published one beside them the least probability is {min(chances):.2f}.")
+        print(f"\nOf the {len(chances)} numbers with a published one beside them the least probability is {min(chances):.2f}; "
+              f"the least of so many is as small by chance with probability {1 - (1 - min(chances)) ** len(chances):.2f}.")
 
 
 def print_runs(folder: Path) -> None:
