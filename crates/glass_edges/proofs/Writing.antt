@@ -14,11 +14,6 @@ use Rattle.glass_edges.proofs.Putting.{put-none, put-more, add-none}
 cause-then : {T E : Type 0} (r : Result T E) (before mid now : ℕ) → mid ≡ before → HasCause mid now r → HasCause before now r
 cause-then r before mid now none cause = subst (λ (n : ℕ). HasCause n now r) none cause
 
--- where one call failed, so did that which made it
-cause-failed : {T E U F : Type 0} (r : Result T E) (e : F) (before now : ℕ) → IsErr r → HasCause {T = U} {E = F} before now (Err e) → HasCause before now r
-cause-failed (Ok v) e before now failed cause = absurd (false≢true failed)
-cause-failed (Err f) e before now failed cause = record { later = cause.later; failed = cause.failed; passed = tt }
-
 module _ {O : Type 0} {s : Ghosts O} where
   -- ---- all of a text
 
