@@ -127,8 +127,8 @@ fn sweep_rows_of_duo<const SIZE: usize, const HEAT: bool, const EVEN: bool>(
     let mut row = first_row(SIZE, EVEN);
     'pairs: for i in 0..SIZE / 2 {
         let behind = row_behind(&row, words);
-        sweep_pair(first, &around, &rule, draws, &row, &behind);
-        sweep_pair(second, &beyond, &rule, more, &row, &behind);
+        sweep_pair::<SIZE, HEAT, EVEN, 1>(first, &around, &rule, draws, &row, &behind);
+        sweep_pair::<SIZE, HEAT, EVEN, 2>(second, &beyond, &rule, more, &row, &behind);
         row = row_behind(&behind, words);
     }
 }

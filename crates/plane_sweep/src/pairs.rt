@@ -10,9 +10,10 @@ use crate::rows::{Row, pulls_of};
 use crate::surroundings::Surroundings;
 use local_rule::ReadyRule;
 
-/// The new words of a row and of the row behind it.
+/// The new words of a row and of the row behind it. Each call has a copy of its own, since no hint brings
+/// so much code to where one function is called more than once.
 #[inline(always)]
-pub(crate) fn sweep_pair(
+pub(crate) fn sweep_pair<const SIZE: usize, const HEAT: bool, const EVEN: bool, const PART: usize>(
     own: &mut [u64],
     around: &Surroundings,
     rule: &ReadyRule,
@@ -27,14 +28,14 @@ pub(crate) fn sweep_pair(
     requires draws { length draws.now ≡ length around.now.here.now }
     ensures { SweepsAcross around.now rule.now draws.now row.now behind.now 0 behind.now.half own.old own.new }
 {
-    sweep_fours(own, around, rule, draws, row, 0);
-    sweep_crossing(own, around, rule, draws, row, behind);
-    sweep_rest(own, around, rule, draws, behind, (4 - row.half % 4) % 4);
+    sweep_fours::<SIZE, HEAT, EVEN, PART>(own, around, rule, draws, row, 0);
+    sweep_crossing::<SIZE, HEAT, EVEN, PART>(own, around, rule, draws, row, behind);
+    sweep_rest::<SIZE, HEAT, EVEN, PART>(own, around, rule, draws, behind, (4 - row.half % 4) % 4);
 }
 
 // The new words of a row from a column on, by four as long as there are four.
 #[inline(always)]
-fn sweep_fours(
+fn sweep_fours<const SIZE: usize, const HEAT: bool, const EVEN: bool, const PART: usize>(
     own: &mut [u64],
     around: &Surroundings,
     rule: &ReadyRule,
@@ -56,7 +57,7 @@ fn sweep_fours(
 // The new words of the columns that fours leave at the end of a row, and of as many in the row behind it
 // as fill a vector.
 #[inline(always)]
-fn sweep_crossing(
+fn sweep_crossing<const SIZE: usize, const HEAT: bool, const EVEN: bool, const PART: usize>(
     own: &mut [u64],
     around: &Surroundings,
     rule: &ReadyRule,
@@ -75,13 +76,18 @@ fn sweep_crossing(
         return;
     }
     let k = 4 * (row.half / 4);
-    let six = pulls_across(around, row, behind, k);
+    let six = pulls_across::<SIZE, HEAT, EVEN, PART>(around, row, behind, k);
     update_sites::<4>(own, rule, draws, row.here + k, &six);
 }
 
 // J times the neighbours' spins at four columns of a row and of the row behind it.
 #[inline(always)]
-fn pulls_across(around: &Surroundings, row: &Row, behind: &Row, k: usize) -> [[u64; 4]; 6]
+fn pulls_across<const SIZE: usize, const HEAT: bool, const EVEN: bool, const PART: usize>(
+    around: &Surroundings,
+    row: &Row,
+    behind: &Row,
+    k: usize,
+) -> [[u64; 4]; 6]
     requires rows { HasRows (length around.now.here.now) around.now row.now }
     requires rows_behind { HasRows (length around.now.here.now) around.now behind.now }
     requires within { k + 4 ≤ row.now.half + behind.now.half }
@@ -134,7 +140,7 @@ fn side_by_side(a: &[u64; 6], b: &[u64; 6], c: &[u64; 6], d: &[u64; 6]) -> [[u64
 
 // The new words of a row from a column on: by four, and two that they leave.
 #[inline(always)]
-fn sweep_rest(
+fn sweep_rest<const SIZE: usize, const HEAT: bool, const EVEN: bool, const PART: usize>(
     own: &mut [u64],
     around: &Surroundings,
     rule: &ReadyRule,
@@ -149,16 +155,22 @@ fn sweep_rest(
     requires even { (row.now.half - done) % 2 ≡ 0 }
     ensures { SweepsRow around.now rule.now draws.now row.now done row.now.half own.old own.new }
 {
-    sweep_fours(own, around, rule, draws, row, done);
+    sweep_fours::<SIZE, HEAT, EVEN, PART>(own, around, rule, draws, row, done);
     if (row.half - done) % 4 == 0 {
         return;
     }
-    sweep_two(own, around, rule, draws, row);
+    sweep_two::<SIZE, HEAT, EVEN, PART>(own, around, rule, draws, row);
 }
 
 // The new words of the last two columns of a row.
 #[inline(always)]
-fn sweep_two(own: &mut [u64], around: &Surroundings, rule: &ReadyRule, draws: &[u32], row: &Row)
+fn sweep_two<const SIZE: usize, const HEAT: bool, const EVEN: bool, const PART: usize>(
+    own: &mut [u64],
+    around: &Surroundings,
+    rule: &ReadyRule,
+    draws: &[u32],
+    row: &Row,
+)
     requires rows { HasRows (length around.now.here.now) around.now row.now }
     requires own { length own.old ≡ length around.now.here.now }
     requires draws { length draws.now ≡ length around.now.here.now }

@@ -124,7 +124,7 @@ pub(crate) fn sweep_rows<const SIZE: usize, const HEAT: bool, const EVEN: bool>(
     let mut row = first_row(SIZE, EVEN);
     'pairs: for i in 0..SIZE / 2 {
         let behind = row_behind(&row, words);
-        sweep_pair(own, &around, &rule, draws, &row, &behind);
+        sweep_pair::<SIZE, HEAT, EVEN, 0>(own, &around, &rule, draws, &row, &behind);
         row = row_behind(&behind, words);
     }
 }
@@ -159,7 +159,7 @@ pub(crate) fn sweep_any(own: &mut [u64], other: &[Plane], sites: &HalfPlane, dra
     let mut row = first_row(size, (sites.colour + sites.z) % 2 == 0);
     'pairs: for i in 0..size / 2 {
         let behind = row_behind(&row, words);
-        sweep_pair(own, &around, &rule, draws, &row, &behind);
+        sweep_pair::<0, false, false, 3>(own, &around, &rule, draws, &row, &behind);
         row = row_behind(&behind, words);
     }
 }

@@ -5,7 +5,7 @@ use Rattle.plane_sweep.proofs.RowPairs.{across-four}
 use Rattle.plane_sweep.proofs.pairs.sweep_crossing.Goals as goal
 
 pub returns : goal.returns
-returns c =
+returns g c =
     let half = c.args.row.now.half in
     let k = 4 * (half / 4) in
     let room = c.requires.rows.middle in

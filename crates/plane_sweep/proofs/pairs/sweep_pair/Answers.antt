@@ -4,7 +4,7 @@ use Rattle.plane_sweep.proofs.RowPairs.{across-joined}
 use Rattle.plane_sweep.proofs.pairs.sweep_pair.Goals as goal
 
 pub returns : goal.returns
-returns c =
+returns g c =
     let half = c.args.row.now.half in
     let k = 4 * (half / 4) in
     let pair = c.requires.behind in

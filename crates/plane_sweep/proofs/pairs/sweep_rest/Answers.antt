@@ -4,7 +4,7 @@ use Rattle.plane_sweep.proofs.RowSweeps.{row-joined}
 use Rattle.plane_sweep.proofs.pairs.sweep_rest.Goals as goal
 
 pub returns : goal.returns
-returns c =
+returns g c =
     let half = c.args.row.now.half in
     let done = c.args.done in
     let k = half - 2 in

@@ -6,7 +6,7 @@ use Rattle.plane_sweep.proofs.RowSweeps.{row-sites}
 use Rattle.plane_sweep.proofs.pairs.sweep_two.Goals as goal
 
 pub returns : goal.returns
-returns c =
+returns g c =
     let s = c.args.around.now in
     let row = c.args.row.now in
     let k = row.half - 2 in
