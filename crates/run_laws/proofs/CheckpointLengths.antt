@@ -1,5 +1,5 @@
 -- No checkpoint that a run saves is longer than one that is read.
-use Rattle.std.proofs.Common.{arith, ◌≡◌, ℕ, ◌*◌, ◌/◌, ◌≤◌, false, List, [], ◌∷◌, length, drop, None, All, ap, ◌∙◌}
+use Rattle.std.proofs.Common.{arith, ◌≡◌, ℕ, ◌*◌, ◌/◌, ◌≤◌, false, List, [], ◌∷◌, length, drop, None, All}
 use Rattle.std.proofs.lemmas.List.Elements.{All-head}
 use Rattle.std.proofs.lemmas.Nat.{mul-le}
 use Rattle.glass_edges.proofs.FirstRefusals.{or-none, unless-ok}
@@ -10,7 +10,6 @@ use Rattle.run_checkpoint.specs.BankEncoding.{banks_kind, banks_encoding, bank_l
 use Rattle.run_checkpoint.specs.Encoding.{encoding, AreBankStates}
 use Rattle.run_checkpoint.specs.Lengths.{plane_len, replica_len, slot_len, contents_len, encoding_len, uneven_len}
 use Rattle.run_checkpoint.specs.Tests.{short, other_kind, other_length, damaged}
-use Rattle.run_checkpoint.proofs.Forms.{length-sealed}
 use Rattle.run_checkpoint.specs.declared.kinds.Kind.TheVariants as kinds
 use Rattle.run_checkpoint.proofs.OneEncoding.{length-encoding}
 use Rattle.run_checkpoint.proofs.Tested.{length-is}

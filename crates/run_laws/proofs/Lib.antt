@@ -8,3 +8,4 @@ pub mod AcceptedParts
 pub mod CheckpointLengths
 pub mod NextRuns
 mod Packing
+mod Seals

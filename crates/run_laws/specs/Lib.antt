@@ -3,3 +3,4 @@ pub mod LengthLaws
 pub mod NextRuns
 pub mod LawfulRuns
 pub mod PackingLaws
+pub mod SealLaws

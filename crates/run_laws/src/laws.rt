@@ -5,6 +5,7 @@ ghost use Rattle.run_laws.specs.LawfulRuns.{BanksReportsAreLawful, EndedReportsA
 ghost use Rattle.run_laws.specs.LengthLaws.{SavedCheckpointsAreShort};
 ghost use Rattle.run_laws.specs.NextRuns.{LawfulRunsGoOn};
 ghost use Rattle.run_laws.specs.PackingLaws.{OrdersDontReachCheckpoints, PackingChangesNothing};
+ghost use Rattle.run_laws.specs.SealLaws.{ChangedBytesAreRefused, OtherPlansAreRefused};
 ghost use Rattle.glass_main.specs.ResumeLaws.{AcceptedBanksAreEncodings, SavedBanksAreRead, SavedBanksGoOn, SavedRunsAreRead, SavedRunsGoOn};
 ghost use Rattle.glass_main.specs.SampleLaws.{SamplesBelow64AreOfOneBank};
 ghost use Rattle.glass_main.specs.SavedLaws.{EncodedStatesAreRead, ReadStatesAreEncoded};
@@ -127,4 +128,16 @@ pub fn packing_changes_nothing()
 /// it prints.
 pub fn orders_dont_reach_checkpoints()
     ensures { OrdersDontReachCheckpoints }
+{}
+
+/// Changed bytes of a checkpoint that keep the 32 bytes at its end are refused, unless what stands before
+/// has the same SHA-256.
+pub fn changed_bytes_are_refused()
+    ensures { ChangedBytesAreRefused }
+{}
+
+/// The checkpoint of a plan is refused by every other one, unless the canonical bytes of both have the same
+/// SHA-256.
+pub fn other_plans_are_refused()
+    ensures { OtherPlansAreRefused }
 {}
