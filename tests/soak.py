@@ -2,7 +2,7 @@
 """Soaks outside the gate: many kills at random moments, and every end compared with the run without a stop.
 
     tests/soak.py drivers 300 [PROGRAM]    kill -9 of drivers (tools/long_run.py), of their programs, of several at once
-    tests/soak.py program 200 [PROGRAM]    kill -9 of `glass run --from CK --save CK`, gone on with from CK
+    tests/soak.py program 200 [PROGRAM]    kill -9 of `glass run --from CK --save CK`, resumed from CK
 
 The second has no driver: a checkpoint is saved under the name that it was read from, as a shell's loop would.
 After each kill the saved name must hold the checkpoint before or the one behind, whole: then nothing is lost but

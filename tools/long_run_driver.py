@@ -128,7 +128,7 @@ class Driver:
         self.pace: Optional[Pace] = None
 
     def run(self) -> int:
-        """Works until the run is done (0) or is to be gone on with (74, 75)."""
+        """Works until the run is done (0) or is to be resumed (74, 75)."""
         with held(self.folder, self.options, self.stop) as lock:
             self.lock = lock
             self.plan = plan_of(self.options.program, self.folder.run_file, self.stop)
@@ -192,7 +192,7 @@ class Driver:
         return 0
 
     def stopped(self, no_time: bool = False) -> int:
-        """The status of a run to be gone on with: another one where its time is too short for a part."""
+        """The status of a run to be resumed: another one where its time is too short for a part."""
         too_short = no_time or self.stop.warned or self.stop.is_late()
         return NO_PART if too_short and not self.done_here else STOPPED
 

@@ -6,7 +6,7 @@
     python3 runs.py reference 0.01         the two parts of size 4 by the independent program and its other generator
 
 Values go to seed_measured/PART.csv, a line a run, and reports are removed. Runs that are there aren't made again, and
-all parts get on alike, so the study may be stopped and gone on with.
+all parts get on alike, so the study may be stopped and resumed.
 """
 from __future__ import annotations
 

@@ -35,7 +35,7 @@ impl Model for Aging {
 ///
 /// # Errors
 ///
-/// Refuses only for want of memory.
+/// Refuses only for lack of memory.
 pub fn open_aging(alloc: Global, plan: &Plan, start: Start) -> Result<Aging, NoMemory>
     ensures opening { IfOk result (StandsFor plan.now (model.opening plan.now start 0)) }
     ensures fits { IfOk result (StandFits plan.now) }

@@ -5,7 +5,7 @@ use Rattle.plane_sweep.specs.PlaneSweep.{pulls_lent, HasRows, SweepsWord}
 use Rattle.plane_sweep.specs.declared.rows.Row.{Row}
 use Rattle.bit_totals.specs.declared.counted_rows.Lent.{Lent}
 
--- a row of a plane with these words may be swept by what is lent
+-- a row of a plane with these words may be swept by what is borrowed
 pub record CanSweepRow (lent : Lent) (row : Row) (words : List ℕ) : Type 0 where
   pub rows : HasRows (length lent.around.here.now) lent.around row
   pub own : length words ≡ length lent.around.here.now

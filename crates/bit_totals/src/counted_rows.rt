@@ -195,7 +195,7 @@ fn sweep_rows<const SIZE: usize, const HEAT: bool, const EVEN: bool>(
         return;
     }
     let around = lend(other, sites.couplings, sites.colour, sites.z, SIZE);
-    // The rule is its own, not the one lent beside the words that are written: so the limits stay in
+    // The rule is its own, not the one borrowed beside the words that are written: so the limits stay in
     // registers.
     let rule = sites.rule.copy_in_order(kind_of(HEAT));
     let lent = Lent {

@@ -73,7 +73,7 @@ of_file l bytes b n = is_set (byte_at l bytes b (n / 8)) (7 - n % 8)
 
 -- ---- the first refusal
 
--- want of memory is no refusal of bytes
+-- lack of memory is no refusal of bytes
 abbrev pub IsNamed : CouplingsRefused → Type 0
 IsNamed e = ¬ (e ≡ refused.NoMemory)
 

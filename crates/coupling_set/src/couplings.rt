@@ -41,7 +41,7 @@ impl Couplings {
     ///
     /// # Errors
     ///
-    /// Refuses only for want of memory.
+    /// Refuses only for lack of memory.
     pub fn plus(alloc: Global, lattice: Lattice) -> Result<Couplings, NoMemory>
         ensures size { IfOk result (λ couplings. couplings.size ≡ lattice) }
         ensures bonds { IfOk result (λ couplings. HasBonds couplings plus) }
@@ -56,7 +56,7 @@ impl Couplings {
     ///
     /// # Errors
     ///
-    /// Refuses only for want of memory.
+    /// Refuses only for lack of memory.
     pub fn random(alloc: Global, lattice: Lattice, seed: u64) -> Result<Couplings, NoMemory>
         ensures size { IfOk result (λ couplings. couplings.size ≡ lattice) }
         ensures bonds { IfOk result (λ couplings. HasBonds couplings (random seed)) }
@@ -69,7 +69,7 @@ impl Couplings {
     ///
     /// # Errors
     ///
-    /// Refuses only for want of memory.
+    /// Refuses only for lack of memory.
     pub fn random_bank(
         alloc: Global,
         lattice: Lattice,

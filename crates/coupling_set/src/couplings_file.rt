@@ -84,7 +84,7 @@ impl Couplings {
     ///
     /// # Errors
     ///
-    /// Refuses only for want of memory.
+    /// Refuses only for lack of memory.
     pub fn write(&self, alloc: Global, samples: u32) -> Result<Vec<u8>, NoMemory>
         requires some { 1 ≤ samples }
         requires few { samples ≤ 64 }

@@ -183,7 +183,7 @@ impl Board {
     ///
     /// # Errors
     ///
-    /// Refuses only for want of memory; the state is then dropped.
+    /// Refuses only for lack of memory; the state is then dropped.
     pub fn open_ragged(
         alloc: Global,
         plan: &Arc<Plan, Global>,
@@ -235,7 +235,7 @@ impl Board {
     ///
     /// # Errors
     ///
-    /// Refuses only for want of memory; the state is then dropped.
+    /// Refuses only for lack of memory; the state is then dropped.
     pub fn open(
         alloc: Global,
         plan: &Arc<Plan, Global>,

@@ -6,5 +6,4 @@ pub mod Maps
 pub mod NumberBytes
 pub mod Numerals
 pub mod Puts
-pub mod Putting
 pub mod Writing

@@ -2,7 +2,6 @@
 use Rattle.std.proofs.Common.{◌≡◌, ℕ, ◌+◌, ◌-◌, ◌<◌, List, [], ◌++◌, length, take, drop, Option, Some, None, refl, sym, ap, subst, ◌∙◌, arith, append_assoc, append-nil, length-append, length-drop}
 use Rattle.std.proofs.Math.Seq.{take-add, take-append-add}
 use Rattle.std.proofs.lemmas.List.{take_rest, take-append-le, take-append-drop}
-use Rattle.std.specs.Prelude.{Result, Ok, Err, OnErr}
 use Rattle.glass_edges.specs.Contents.{appended, AppendsPrefix, PutsFront}
 
 pub appended-appended : (o : Option (List ℕ)) (xs ys : List ℕ) → appended (appended o xs) ys ≡ appended o (xs ++ ys)
@@ -37,6 +36,15 @@ prefix_past before mid now xs ys whole p = record {
   same = p.same ∙ ap (λ o. appended o (take p.count ys)) whole ∙ appended-appended before xs (take p.count ys) ∙ ap (appended before) (sym (take-append-add xs ys p.count));
 }
 
+-- nothing was put
+pub put-none : (before : Option (List ℕ)) (text : List ℕ) → text ≡ [] → before ≡ appended before text
+put-none before text none = sym (ap (appended before) none ∙ appended-nothing before)
+
+-- a piece more was put
+pub put-more : (before mid now : Option (List ℕ)) (text piece whole : List ℕ) → mid ≡ appended before text → now ≡ appended mid piece → whole ≡ text ++ piece → now ≡ appended before whole
+put-more before mid now text piece whole so_far put is =
+    put ∙ ap (λ o. appended o piece) so_far ∙ appended-appended before text piece ∙ ap (appended before) (sym is)
+
 -- a text behind a first one, and more behind it
 pub behind : (first mid last text more : List ℕ) → mid ≡ first ++ text → last ≡ mid ++ more → last ≡ first ++ (text ++ more)
 behind first mid last text more e f = f ∙ ap (λ xs. xs ++ more) e ∙ append_assoc first text more
@@ -50,6 +58,12 @@ text-rest first text k = append_assoc first (take k text) (drop k text) ∙ ap (
 -- nothing is put, and all of the text is the rest
 pub front-none : (before : Option (List ℕ)) (text : List ℕ) → PutsFront before before text text
 front-none before text = record { front = []; whole = refl; same = sym (appended-nothing before) }
+
+-- so it is where nothing was added behind a line
+pub add-none : (before : Option (List ℕ)) (line text : List ℕ) → text ≡ [] → PutsFront before before (line ++ text) line
+add-none before line text none =
+    let P : List ℕ → Type 0 = λ xs. PutsFront before before xs line in
+    subst P (sym (ap (λ xs. line ++ xs) none ∙ append-nil line)) (front-none before line)
 
 -- more is added behind the text, and so behind the rest
 pub front-more : (before now : Option (List ℕ)) (text rest more : List ℕ) → PutsFront before now text rest → PutsFront before now (text ++ more) (rest ++ more)
@@ -74,7 +88,3 @@ front-whole before mid now text rest p whole = whole ∙ ap (λ o. appended o re
 -- a prefix of the rest is put too, so a prefix of the text is
 pub front-prefix : (before mid now : Option (List ℕ)) (text rest : List ℕ) → PutsFront before mid text rest → AppendsPrefix mid now rest → AppendsPrefix before now text
 front-prefix before mid now text rest p q = subst (AppendsPrefix before now) (sym p.whole) (prefix_past before mid now p.front rest p.same q)
-
-pub OnErr_of : {T E P : Type 0} → (r : Result T E) → P → OnErr r P
-OnErr_of (Ok x) p = tt
-OnErr_of (Err e) p = p

@@ -7,8 +7,7 @@ use Rattle.glass_edges.specs.declared.sink.Sink.{Ghosts}
 use Rattle.glass_edges.specs.Causes.{HasCause}
 use Rattle.glass_edges.specs.Contents.{AppendsPrefix}
 use Rattle.glass_edges.specs.Writes.{Writes, WritesFront, HasPut, HasPutFront}
-use Rattle.glass_edges.proofs.Puts.{prefix_front, prefix_past, front-more, front-then, front-whole, front-prefix}
-use Rattle.glass_edges.proofs.Putting.{put-none, put-more, add-none}
+use Rattle.glass_edges.proofs.Puts.{put-none, put-more, prefix_front, prefix_past, add-none, front-more, front-then, front-whole, front-prefix}
 
 -- after calls that counted no fault, the causes of the next one
 cause-then : {T E : Type 0} (r : Result T E) (before mid now : ℕ) → mid ≡ before → HasCause mid now r → HasCause before now r

@@ -148,7 +148,7 @@ closed-over id plan o n (p ∷ ps) (q ∷ qs) b d some all left same most lawful
     let O : Origin → Type 0 = λ x. IsFinished x v.seen ⊎ IsStopped x v.seen in
     words-over b d v.seen (subst S (sym same) (left.0.2.sized ∙ count)) (most 0 q (omega arith)) (subst O (sym same) over) (subst L (sym same) lawful) places stop
 
--- the list of seats as it is after it was lent
+-- the list of seats as it is after it was borrowed
 abbrev pub back : List Seat → List Seat → ℕ → List Seat
 back ps qs len = take len (qs ++ drop (length qs) ps)
 

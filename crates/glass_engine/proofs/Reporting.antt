@@ -1,11 +1,9 @@
 -- The report by its four parts.
-use Rattle.std.proofs.Common.{arith, ◌≡◌, inl, inr, ℕ, suc, ◌+◌, ◌*◌, ◌<◌, ◌≤◌, Bool, true, false, cond, not, List, [], ◌∷◌, ◌++◌, length, Option, refl, sym, ap, ap₂, ◌∙◌, subst}
+use Rattle.std.proofs.Common.{arith, ◌≡◌, inl, inr, ℕ, suc, ◌+◌, ◌*◌, ◌<◌, ◌≤◌, Bool, true, false, cond, not, List, [], ◌∷◌, ◌++◌, length, append-nil, refl, sym, ap, ap₂, ◌∙◌, subst}
 use Rattle.std.specs.Prelude.{◌==◌, ◌&&◌}
 use Rattle.std.proofs.lemmas.Bool.{cases_Bool, and_parts, eqb-true, eq-eqb, true_from_ne_false, true≢false, false≢true}
 use Rattle.std.proofs.lemmas.List.{length-map}
 use Rattle.std.proofs.lemmas.List.Folds.{list_all_at}
-use Rattle.glass_edges.specs.Contents.{appended, AppendsPrefix}
-use Rattle.glass_edges.proofs.Puts.{prefix_past}
 use Rattle.report_text.specs.Lines.{header_line, end_line}
 use Rattle.scalar_rule.specs.Plan.{Plan}
 use Rattle.scalar_rule.specs.Positions.{position_in, done, floor_of}
@@ -135,11 +133,5 @@ one-report d e =
 
 -- ---- the end, and behind it the spins where they are printed
 
--- where they are, they are all of it
-spins-printed : (printed : Bool) (xs : List ℕ) → printed ≡ true → cond printed xs [] ≡ xs
-spins-printed printed xs on = ap (λ b. cond b xs []) on
-
-pub failed-spins : (before x now : Option (List ℕ)) (end spins : List ℕ) (printed : Bool) → printed ≡ true → x ≡ appended before end → AppendsPrefix x now spins
-    → AppendsPrefix before now (end ++ cond printed spins [])
-failed-spins before x now end spins printed on first p =
-    subst (λ xs. AppendsPrefix before now (end ++ xs)) (sym (spins-printed printed spins on)) (prefix_past before x now end spins first p)
+pub spins-printed : (end spins : List ℕ) (printed : Bool) → printed ≡ true → end ++ cond printed spins [] ≡ (end ++ spins) ++ []
+spins-printed end spins printed on = ap (λ b. end ++ cond b spins []) on ∙ sym (append-nil (end ++ spins))

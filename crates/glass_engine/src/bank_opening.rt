@@ -29,7 +29,7 @@ use std::sync::Arc;
 ///
 /// # Errors
 ///
-/// Refuses only for want of memory; the states are then dropped.
+/// Refuses only for lack of memory; the states are then dropped.
 pub fn open_banks(
     alloc: Global,
     plans: &[Arc<Plan, Global>],

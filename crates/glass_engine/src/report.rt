@@ -1,8 +1,7 @@
 //! The report of a run.
 
-ghost use Rattle.std.specs.Prelude.{◌≡◌, ◌%◌, ◌&&◌, ◌==◌, length, All, OnOk, OnErr};
-ghost use Rattle.glass_edges.specs.Causes.{HasCause};
-ghost use Rattle.glass_edges.specs.Contents.{appended, AppendsPrefix};
+ghost use Rattle.std.specs.Prelude.{◌≡◌, ◌%◌, ◌&&◌, ◌==◌, length, All};
+ghost use Rattle.glass_edges.specs.Writes.{Writes};
 ghost use Rattle.plane_sweep.specs.Packed.{part_slot, FitsDuo};
 ghost use Rattle.plane_sweep.specs.Uneven.{uneven_part};
 ghost use Rattle.scalar_rule.specs.Plan.{slots_of};
@@ -37,9 +36,7 @@ pub fn print_report<R: Threads + Sync, O: Sink>(
     out: &mut O,
 ) -> Result<(), Fault>
     requires { AreAbreast driven.now }
-    ensures whole { OnOk result (O.taken out.new ≡ appended (O.taken out.old) (run_report driven.now)) }
-    ensures prefix { OnErr result (AppendsPrefix (O.taken out.old) (O.taken out.new) (run_report driven.now)) }
-    ensures cause { HasCause (O.faults out.old) (O.faults out.new) result }
+    ensures { Writes O.Sink out.old out.new (run_report driven.now) result }
 {
     let rows = rows_of(driven);
     header(out, rows.plan, rows.orders.samples, rows.from, rows.to)?;
@@ -79,9 +76,7 @@ fn samples_of(driven: &[Done]) -> u32
 // Puts what stands behind the rows.
 fn put_tail<O: Sink>(out: &mut O, rows: &RunRows) -> Result<(), Fault>
     requires { rows.now.to ≡ rows.now.until → HaveSpins rows.now }
-    ensures whole { OnOk result (O.taken out.new ≡ appended (O.taken out.old) (tail_of rows.now)) }
-    ensures prefix { OnErr result (AppendsPrefix (O.taken out.old) (O.taken out.new) (tail_of rows.now)) }
-    ensures cause { HasCause (O.faults out.old) (O.faults out.new) result }
+    ensures { Writes O.Sink out.old out.new (tail_of rows.now) result }
 {
     end(out, rows.to)?;
     if prints(rows.orders.spins, rows.to, rows.until) {
@@ -100,11 +95,8 @@ fn prints(spins: bool, to: u64, until: u64) -> bool
 // Puts the spins of the first samples of all banks.
 fn write_spins<O: Sink>(out: &mut O, rows: &RunRows) -> Result<(), Fault>
     requires { HaveSpins rows.now }
-    ensures whole { OnOk result (O.taken out.new ≡ appended (O.taken out.old)
-        (text.all_spins rows.now.plan.now rows.now.orders.samples (run_slots rows.now.to rows.now.driven.now))) }
-    ensures prefix { OnErr result (AppendsPrefix (O.taken out.old) (O.taken out.new)
-        (text.all_spins rows.now.plan.now rows.now.orders.samples (run_slots rows.now.to rows.now.driven.now))) }
-    ensures cause { HasCause (O.faults out.old) (O.faults out.new) result }
+    ensures { Writes O.Sink out.old out.new
+        (text.all_spins rows.now.plan.now rows.now.orders.samples (run_slots rows.now.to rows.now.driven.now)) result }
 {
     'samples: for b in 0..rows.orders.samples {
         let stand = bank_with(rows.driven, b).ended().stand();
@@ -122,11 +114,8 @@ fn write_sample_spins<O: Sink>(
 ) -> Result<(), Fault>
     requires count { length stand.now.slots ≡ slots_of plan.now }
     requires fits { All (FitsDuo plan.now.size) stand.now.slots }
-    ensures whole { OnOk result (O.taken out.new ≡ appended (O.taken out.old)
-        (text.sample_spins plan.now sample (uneven_part plan.now.size (sample % 64) stand.now).slots)) }
-    ensures prefix { OnErr result (AppendsPrefix (O.taken out.old) (O.taken out.new)
-        (text.sample_spins plan.now sample (uneven_part plan.now.size (sample % 64) stand.now).slots)) }
-    ensures cause { HasCause (O.faults out.old) (O.faults out.new) result }
+    ensures { Writes O.Sink out.old out.new
+        (text.sample_spins plan.now sample (uneven_part plan.now.size (sample % 64) stand.now).slots) result }
 {
     'slots: for slot in 0..plan.slots() {
         write_slot_spins(
@@ -149,11 +138,8 @@ fn write_slot_spins<O: Sink>(
     duo: &Duo,
 ) -> Result<(), Fault>
     requires fits { FitsDuo lattice duo.now }
-    ensures whole { OnOk result (O.taken out.new ≡ appended (O.taken out.old)
-        (text.slot_spins lattice sample slot (part_slot lattice (sample % 64) duo.now))) }
-    ensures prefix { OnErr result (AppendsPrefix (O.taken out.old) (O.taken out.new)
-        (text.slot_spins lattice sample slot (part_slot lattice (sample % 64) duo.now))) }
-    ensures cause { HasCause (O.faults out.old) (O.faults out.new) result }
+    ensures { Writes O.Sink out.old out.new
+        (text.slot_spins lattice sample slot (part_slot lattice (sample % 64) duo.now)) result }
 {
     spins(out, sample, slot, 0, &duo.first, lattice)?;
     spins(out, sample, slot, 1, &duo.second, lattice)

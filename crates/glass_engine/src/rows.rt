@@ -1,8 +1,7 @@
 //! The rows of a run, in order of epoch, sample and slot over all its banks.
 
-ghost use Rattle.std.specs.Prelude.{◌≡◌, ◌+◌, ◌*◌, ◌/◌, ◌^◌, ◌<◌, ◌≤◌, ◌++◌, [], if◌then◌else◌, length, take, drop, slice_index_or, true, IfOk, OnOk, OnErr};
-ghost use Rattle.glass_edges.specs.Causes.{HasCause};
-ghost use Rattle.glass_edges.specs.Contents.{AppendsPrefix, PutsFront};
+ghost use Rattle.std.specs.Prelude.{◌≡◌, ◌+◌, ◌*◌, ◌/◌, ◌^◌, ◌<◌, ◌≤◌, ◌++◌, [], if◌then◌else◌, length, take, drop, slice_index_or, true, IfOk};
+ghost use Rattle.glass_edges.specs.Writes.{WritesFront};
 ghost use Rattle.spin_model.specs.Limits.{last_epoch, most_slots};
 ghost use Rattle.scalar_rule.specs.Records.{is_recorded};
 ghost use Rattle.glass_engine.specs.BankRuns.{run_measured};
@@ -92,13 +91,9 @@ fn add_rows<O: Sink>(
     requires begin { rows.now.from ≤ from }
     requires window { from ≤ to }
     requires end { to ≤ rows.now.to }
-    ensures front { OnOk result (PutsFront (O.taken out.old) (O.taken out.new) (line.old
+    ensures { WritesFront O.Sink out.old out.new (line.old
         ++ text.rows_in_order (run_measured rows.now.driven.now) rows.now.orders.samples rows.now.orders.every
-        from to) line.new) }
-    ensures prefix { OnErr result (AppendsPrefix (O.taken out.old) (O.taken out.new) (line.old
-        ++ text.rows_in_order (run_measured rows.now.driven.now) rows.now.orders.samples rows.now.orders.every
-        from to)) }
-    ensures cause { HasCause (O.faults out.old) (O.faults out.new) result }
+        from to) line.new result }
 {
     let mut passed = recorded_before(rows, from);
     'epochs: for epoch in from..to {
@@ -119,15 +114,10 @@ fn add_recorded<O: Sink>(
 ) -> Result<usize, Fault>
     requires { HaveNext rows.now.driven.now rows.now.orders rows.now.slots epoch passed }
     ensures count { IfOk result (λ count. count ≡ (if is_recorded rows.now.orders.every epoch then 1 else 0)) }
-    ensures front { OnOk result (PutsFront (O.taken out.old) (O.taken out.new) (line.old
+    ensures written { WritesFront O.Sink out.old out.new (line.old
         ++ (if is_recorded rows.now.orders.every epoch
         then text.epoch_rows (run_measured rows.now.driven.now) rows.now.orders.samples epoch
-        else [])) line.new) }
-    ensures prefix { OnErr result (AppendsPrefix (O.taken out.old) (O.taken out.new) (line.old
-        ++ (if is_recorded rows.now.orders.every epoch
-        then text.epoch_rows (run_measured rows.now.driven.now) rows.now.orders.samples epoch
-        else []))) }
-    ensures cause { HasCause (O.faults out.old) (O.faults out.new) result }
+        else [])) line.new result }
 {
     if !is_recorded(rows.orders.every, epoch) {
         return Ok(0);
@@ -146,11 +136,8 @@ fn add_epoch<O: Sink>(
 ) -> Result<(), Fault>
     requires next { HaveNext rows.now.driven.now rows.now.orders rows.now.slots epoch passed }
     requires recorded { is_recorded rows.now.orders.every epoch ≡ true }
-    ensures front { OnOk result (PutsFront (O.taken out.old) (O.taken out.new) (line.old
-        ++ text.epoch_rows (run_measured rows.now.driven.now) rows.now.orders.samples epoch) line.new) }
-    ensures prefix { OnErr result (AppendsPrefix (O.taken out.old) (O.taken out.new) (line.old
-        ++ text.epoch_rows (run_measured rows.now.driven.now) rows.now.orders.samples epoch)) }
-    ensures cause { HasCause (O.faults out.old) (O.faults out.new) result }
+    ensures { WritesFront O.Sink out.old out.new (line.old
+        ++ text.epoch_rows (run_measured rows.now.driven.now) rows.now.orders.samples epoch) line.new result }
 {
     'samples: for b in 0..rows.orders.samples {
         let bank = bank_with(rows.driven, b);
@@ -190,11 +177,8 @@ fn add_sample<O: Sink>(
     records: &[Record],
 ) -> Result<(), Fault>
     requires { length records.now < 2 ^ 32 }
-    ensures front { OnOk result (PutsFront (O.taken out.old) (O.taken out.new)
-        (line.old ++ text.sample_rows epoch sample records.now) line.new) }
-    ensures prefix { OnErr result (AppendsPrefix (O.taken out.old) (O.taken out.new)
-        (line.old ++ text.sample_rows epoch sample records.now)) }
-    ensures cause { HasCause (O.faults out.old) (O.faults out.new) result }
+    ensures { WritesFront O.Sink out.old out.new
+        (line.old ++ text.sample_rows epoch sample records.now) line.new result }
 {
     'slots: for slot in 0..records.len() {
         add_row(out, line, epoch, sample, slot as u32, &records[slot])?;

@@ -25,7 +25,7 @@ impl Saving {
     ///
     /// # Errors
     ///
-    /// Refuses only for want of memory.
+    /// Refuses only for lack of memory.
     pub(crate) fn reserve(
         alloc: Global,
         plan: &Plan,

@@ -1,9 +1,9 @@
 //! The summary of a run whose plan is made from a number.
 
-ghost use Rattle.std.specs.Prelude.{◌≡◌, ℕ, ◌+ℤ◌, ◌-◌, ◌*◌, ◌<◌, ◌≤◌, ◌==◌, not, true, unsigned_abs, length, slice_index, flat_map, OnOk, OnErr};
+ghost use Rattle.std.specs.Prelude.{◌≡◌, ℕ, ◌+ℤ◌, ◌-◌, ◌*◌, ◌<◌, ◌≤◌, ◌==◌, not, true, unsigned_abs, length, slice_index, flat_map};
 ghost use Rattle.spin_model.specs.Limits.{every_take, most_slots};
 ghost use Rattle.glass_edges.specs.Causes.{HasCause};
-ghost use Rattle.glass_edges.specs.Contents.{appended, AppendsPrefix};
+ghost use Rattle.glass_edges.specs.Writes.{Writes};
 ghost use Rattle.plane_sweep.specs.Uneven.{uneven_part};
 ghost use Rattle.scalar_rule.specs.Plan.{slots_of};
 ghost use Rattle.scalar_rule.specs.Records.{is_recorded};
@@ -38,12 +38,8 @@ pub fn write_summary<O: Sink>(done: &Done, plan: &Plan, n: u64, out: &mut O) -> 
     requires samples { done.now.run.orders.samples ≡ 64 }
     requires some { 1 ≤ done.now.run.until }
     requires recorded { is_recorded done.now.run.orders.every (done.now.run.until - 1) ≡ true }
-    ensures whole { (start : ℕ → samples.Sample) → text.BeginsLevel done.now.run start
-        → OnOk result (O.taken out.new ≡ appended (O.taken out.old)
-        (text.summary n plan.now start done.now.run.until)) }
-    ensures prefix { (start : ℕ → samples.Sample) → text.BeginsLevel done.now.run start
-        → OnErr result (AppendsPrefix (O.taken out.old) (O.taken out.new)
-        (text.summary n plan.now start done.now.run.until)) }
+    ensures written { (start : ℕ → samples.Sample) → text.BeginsLevel done.now.run start
+        → Writes O.Sink out.old out.new (text.summary n plan.now start done.now.run.until) result }
     ensures cause { HasCause (O.faults out.old) (O.faults out.new) result }
 {
     level_run_is_serial();
@@ -65,13 +61,9 @@ fn put_summary<O: Sink>(
 ) -> Result<(), Fault>
     requires slots { length stand.now.slots ≡ slots_of plan.now }
     requires records { length records.now ≡ 64 * slots_of plan.now }
-    ensures whole { OnOk result (O.taken out.new ≡ appended (O.taken out.old)
+    ensures { Writes O.Sink out.old out.new
         (text.summary_text n plan.now (λ b. piece records.now (slots_of plan.now) b)
-        (λ b. (uneven_part plan.now.size b stand.now).slots) until)) }
-    ensures prefix { OnErr result (AppendsPrefix (O.taken out.old) (O.taken out.new)
-        (text.summary_text n plan.now (λ b. piece records.now (slots_of plan.now) b)
-        (λ b. (uneven_part plan.now.size b stand.now).slots) until)) }
-    ensures cause { HasCause (O.faults out.old) (O.faults out.new) result }
+        (λ b. (uneven_part plan.now.size b stand.now).slots) until) result }
 {
     summary_header(out, n, plan, SAMPLES as u32, until)?;
     put_slots(out, plan, stand, records)?;
@@ -87,13 +79,9 @@ fn put_slots<O: Sink>(
 ) -> Result<(), Fault>
     requires slots { length stand.now.slots ≡ slots_of plan.now }
     requires records { length records.now ≡ 64 * slots_of plan.now }
-    ensures whole { OnOk result (O.taken out.new ≡ appended (O.taken out.old)
+    ensures { Writes O.Sink out.old out.new
         (flat_map (text.slot_sums (λ b. piece records.now (slots_of plan.now) b)
-        (λ b. (uneven_part plan.now.size b stand.now).slots)) (table (λ t. t) (slots_of plan.now)))) }
-    ensures prefix { OnErr result (AppendsPrefix (O.taken out.old) (O.taken out.new)
-        (flat_map (text.slot_sums (λ b. piece records.now (slots_of plan.now) b)
-        (λ b. (uneven_part plan.now.size b stand.now).slots)) (table (λ t. t) (slots_of plan.now)))) }
-    ensures cause { HasCause (O.faults out.old) (O.faults out.new) result }
+        (λ b. (uneven_part plan.now.size b stand.now).slots)) (table (λ t. t) (slots_of plan.now))) result }
 {
     let slots = plan.slots() as usize;
     'slots: for slot in 0..slots {

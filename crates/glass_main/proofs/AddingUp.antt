@@ -1,4 +1,4 @@
--- Runs that stop and are gone on with add up to one run.
+-- Runs that stop and are resumed add up to one run.
 use Rattle.std.proofs.Common.{arith, flat_map, inl, inr, ◌≡◌, ℕ, zero, suc, ◌+◌, ◌-◌, ◌*◌, ◌<◌, ◌≤◌, Bool, true, false, cond, List, [], ◌∷◌, ◌++◌, length, replicate, refl, sym, ap, ap₂, ◌∙◌, subst}
 use Rattle.std.specs.Prelude.{◌&&◌, ◌==◌, not}
 use Rattle.std.proofs.lemmas.Bool.{eq-eqb}

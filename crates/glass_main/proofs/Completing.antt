@@ -1,4 +1,4 @@
--- A call whose ending fits what is asked for does it, or tells its refusal, where neither a fault nor want of memory ended it.
+-- A call whose ending fits what is asked for does it, or tells its refusal, where neither a fault nor lack of memory ended it.
 use Rattle.std.proofs.Common.{◌≡◌, ℕ, List, Option, Some, None, IfSome, Result, Ok, Err, inl, inr, ap, ◌∙◌}
 use Rattle.command_words.specs.CommandLine.{Command, saved_name}
 use Rattle.glass_main.specs.Outside.{Output, Store}

@@ -82,7 +82,7 @@ saved-uneven planned came lawful fits =
       ap (uneven_in plan) whole ∙ uneven-again plan o.samples o.every came lawful fits,
     )
 
--- a result that is no refusal but for want of memory is read
+-- a result that is no refusal but for lack of memory is read
 told-none : (refusal : Option CheckpointRefused) (x : RaggedStand) → Tells refusal → IfErr (unless refusal x) (λ e. e ≡ checkpoint.NoMemory) → refusal ≡ None
 told-none None x tells is = refl
 told-none (Some e) x tells is = absurd (tells is)

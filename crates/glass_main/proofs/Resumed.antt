@@ -81,7 +81,7 @@ refused-by (Some due) x y e is = let same : due ≡ e = cc in (ap Some same, ap 
 by-name : {A : Type 0} (asked : Result A CheckpointRefused) (e : CheckpointRefused) → IsOfCheckpoint e × (asked ≡ Err e) → Unresumed asked (Refused (refused.Checkpoint e))
 by-name asked e h = (e, refl, h.0, h.1)
 
--- a refusal by name is told as the checkpoint's, and want of memory as itself
+-- a refusal by name is told as the checkpoint's, and lack of memory as itself
 pub refusal-ends : {A : Type 0} (asked : Result A CheckpointRefused) (e : CheckpointRefused) → (¬ (e ≡ checkpoint.NoMemory) → IsOfCheckpoint e × (asked ≡ Err e)) → Unresumed asked (ending_of e)
 refusal-ends asked checkpoint.NoMemory named = tt
 refusal-ends asked (checkpoint.Short a) named = by-name asked (checkpoint.Short a) (named (λ e. absurd cc))

@@ -35,7 +35,7 @@ use Rattle.glass_main.specs.declared.ending.Ending.TheVariants.{Done, Refused, U
 
 -- ---- refusals
 
--- some run file is refused so, or for more samples than the command can run; a reader's want of memory is no refusal
+-- some run file is refused so, or for more samples than the command can run; a reader's lack of memory is no refusal
 pub record IsOfRunFile (e : PlanRefused) : Type 0 where
   pub refusal : ¬ (e ≡ plan.NoMemory)
   pub cause : (bytes : List ℕ) × (banked false (run_file bytes) ≡ Err e)

@@ -34,13 +34,13 @@ abbrev pub IsBegun : {A B : Type 0} → (A → B → Type 0) → B → Result A 
 IsBegun Packs base (Ok from) = Packs from base
 IsBegun Packs base (Err refusal) = ⊥
 
--- the bytes of a checkpoint, of which this is asked, are refused so, or are not read for want of memory
+-- the bytes of a checkpoint, of which this is asked, are refused so, or are not read for lack of memory
 abbrev pub Unresumed : {A : Type 0} → Result A CheckpointRefused → Ending → Type 0
 Unresumed asked (Refused told) = (e : CheckpointRefused) × (told ≡ Checkpoint e) × IsOfCheckpoint e × (asked ≡ Err e)
 Unresumed asked NoMemory = Unit {0}
 Unresumed asked ending = ⊥
 
--- how a call ends whose checkpoint is refused; a reader's want of memory is no refusal
+-- how a call ends whose checkpoint is refused; a reader's lack of memory is no refusal
 abbrev pub ending_of : CheckpointRefused → Ending
 ending_of checkpoint.NoMemory = NoMemory
 ending_of e = Refused (Checkpoint e)

@@ -1,4 +1,4 @@
--- What holds of runs that stop and are gone on with: they add up to one run.
+-- What holds of runs that stop and are resumed: they add up to one run.
 use Rattle.std.specs.Prelude.{◌≡◌, ◌⊎◌, ℕ, ◌<◌, ◌≤◌, if◌then◌else◌, List, [], ◌∷◌, ◌++◌, Ok}
 use Rattle.spin_model.specs.Limits.{last_epoch}
 use Rattle.report_text.specs.Lines.{header_line, end_line}

@@ -34,7 +34,7 @@ pub(crate) struct OpenedBanks {
 }
 
 /// Drives open banks to their end, prints their report, and places their checkpoint where one is asked
-/// for. It is given no allocator, and does not end for want of memory.
+/// for. It is given no allocator, and does not end for lack of memory.
 pub(crate) fn finish_banks<R: Threads + Wait + Sync, H: Shelf, O: Sink, G: Gate + Sync>(
     rt: &R,
     shelf: &mut H,

@@ -36,7 +36,7 @@ pub(crate) struct Opened {
 }
 
 /// Drives an open run to its end, prints its report, and places its checkpoint where one is asked for. It
-/// is given no allocator, and does not end for want of memory.
+/// is given no allocator, and does not end for lack of memory.
 pub(crate) fn finish_run<R: Threads + Wait + Sync, H: Shelf, O: Sink, G: Gate + Sync>(
     rt: &R,
     shelf: &mut H,

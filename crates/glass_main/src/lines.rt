@@ -30,7 +30,7 @@ pub(crate) fn tell<E: Sink>(err: &mut E, ending: &Ending)
     }
 }
 
-/// Writes the line of the want of memory, where the words themselves could not be had, and answers
+/// Writes the line of the lack of memory, where the words themselves could not be had, and answers
 /// the status.
 pub fn no_memory<E: Sink>(err: &mut E) -> u8
     ensures status { result ≡ status_of Ending.NoMemory }

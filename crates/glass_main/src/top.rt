@@ -56,7 +56,7 @@ pub fn glass<R: Threads + Wait + Sync, H: Shelf, O: Sink, E: Sink, G: Gate + Syn
     err: &mut E,
     gate: &G,
 ) -> u8
-    // The status is that of an ending, whose cause and leavings are the named ones.
+    // The status is that of an ending, whose cause is the named one, and so is what it leaves.
     ensures answers { Answers (command_of (texts words.now)) result
         (store H.Shelf shelf.old) (store H.Shelf shelf.new)
         (output O.Sink out.old) (output O.Sink out.new)
@@ -90,7 +90,7 @@ pub fn glass<R: Threads + Wait + Sync, H: Shelf, O: Sink, E: Sink, G: Gate + Syn
     ensures bytes { result ≡ 0 → ReadsBytes (command_of (texts words.now)) (H.holds shelf.old) }
 
     // Where the store did not fail a refusal is told, and where the output did not either the work is
-    // done, but for want of memory.
+    // done, but for lack of memory.
     ensures complete { IfSome (request (texts words.now) (H.holds shelf.old)) (λ asked.
         Completes asked result (store H.Shelf shelf.old) (store H.Shelf shelf.new)
         (output O.Sink out.old) (output O.Sink out.new)) }

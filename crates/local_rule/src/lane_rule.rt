@@ -108,7 +108,7 @@ fn heat_bath_rising<const N: usize>(
     raised_lanes(fours, from_four, up_to_three).to_array()
 }
 
-// The same by any row. Out of line and lent copies alone, so that a loop over sites holds one body and
+// The same by any row. Out of line and borrowing copies alone, so that a loop over sites holds one body and
 // keeps in registers what it lends to that.
 #[inline(never)]
 fn heat_bath_any<const N: usize>(

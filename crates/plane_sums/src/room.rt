@@ -33,7 +33,7 @@ impl Planes3 {
     ///
     /// # Errors
     ///
-    /// Refuses only for want of memory.
+    /// Refuses only for lack of memory.
     pub fn none(alloc: Global) -> Result<Planes3, NoMemory> {
         Ok(Planes3 {
             lines: Projections {

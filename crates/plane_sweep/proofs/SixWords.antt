@@ -1,4 +1,4 @@
--- Six words of 64 samples: their agreement with a spin, and what they are of the words lent.
+-- Six words of 64 samples: their agreement with a spin, and what they are of the borrowed words.
 use Rattle.std.proofs.Common.{◌≡◌, ℕ, ◌+◌, ◌-◌, ◌*◌, ◌/◌, ◌%◌, ◌<◌, ◌≤◌, ◌==◌, Bool, true, false, not, cond, bit_xor, List, length, get_or, refl, sym, ap, ◌∙◌, arith}
 use Rattle.std.proofs.lemmas.Nat.{mul-le, mod_below, row_fits}
 use Rattle.std.specs.Prelude.{count_by}
@@ -32,7 +32,7 @@ row-whole l y row = row_fits y (l / 2) l (l / 2) row (omega arith)
 pub half_plane-few : (l : ℕ) → l ≤ 64 → half_plane l ≤ 2048
 half_plane-few l few = mul-le l (l / 2) 64 32 few (omega arith)
 
--- the rows of a plane lie in the words lent
+-- the rows of a plane lie in the borrowed words
 pub rows-lent : (couplings : CouplingsView) (other : List Plane) (c z y : ℕ) (s : Surroundings) (row : Row) → IsLawfulSize couplings.size → y < couplings.size
     → Surrounds couplings other c z s → IsRow couplings.size c z y row → HasRows (length s.here.now) s row
 rows-lent couplings other c z y s row lawful within around at =
@@ -82,7 +82,7 @@ left-within l p y k lawful row column = elim (p == 0) as (λ t. y * (l / 2) + co
   | false ↦ in_plane l y k row column
 ]
 
--- a word lent and a bond lent
+-- a borrowed word and a borrowed bond
 both-lent : (couplings : CouplingsView) (c z d : ℕ) (words spins lent : List ℕ) (i j m n : ℕ) → spins ≡ words → IsLent couplings c z d lent → n < half_plane couplings.size → i ≡ m → j ≡ n
     → bit_xor (get_or spins i 0) (get_or lent j 0) ≡ bit_xor (get_or words m 0) (bond_word couplings (site_of couplings.size c z n) d)
 both-lent couplings c z d words spins lent i j m n same bonds within at to =

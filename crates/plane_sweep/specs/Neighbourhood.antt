@@ -50,7 +50,7 @@ pub record IsLent (couplings : CouplingsView) (c z d : ℕ) (lent : List ℕ) : 
   pub sized : length lent ≡ half_plane couplings.size
   pub words : (k : ℕ) → k < half_plane couplings.size → slice_index lent k ≡ bond_word couplings (site_of couplings.size c z k) d
 
--- the words lent are those of the planes and of the bonds
+-- the borrowed words are those of the planes and of the bonds
 pub record Surrounds (couplings : CouplingsView) (other : List Plane) (c z : ℕ) (s : Surroundings) : Type 0 where
   pub here : s.here.now ≡ (plane_at other z).words
   pub above : s.above.now ≡ (plane_at other (next couplings.size z)).words

@@ -34,7 +34,7 @@ pub record IsRow (l c z y : ℕ) (row : Row) : Type 0 where
   pub down : row.down ≡ previous l y * (l / 2)
   pub even : row.even ≡ ((c + y + z) % 2 == 0)
 
--- the words lent have as many items as those of the plane itself, and the three rows lie within them
+-- the borrowed words have as many items as those of the plane itself, and the three rows lie within them
 pub record HasRows (n : ℕ) (s : Surroundings) (row : Row) : Type 0 where
   pub few : n ≤ greatest_half_plane
   pub above : length s.above.now ≡ n
@@ -56,7 +56,7 @@ right_column row k = if row.even then k else next row.half k
 abbrev pub left_column : Row → ℕ → ℕ
 left_column row k = if row.even then previous row.half k else k
 
--- J times the neighbours' spins at column k, from the words lent
+-- J times the neighbours' spins at column k, from the borrowed words
 unfoldable pub pulls_lent : Surroundings → Row → ℕ → List ℕ
 pulls_lent s row k =
     bit_xor (slice_index s.here.now (row.here + right_column row k)) (slice_index s.ahead_x.now here)

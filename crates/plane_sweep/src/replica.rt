@@ -33,7 +33,7 @@ impl Replica {
     ///
     /// # Errors
     ///
-    /// Refuses only for want of memory.
+    /// Refuses only for lack of memory.
     pub fn copy(&self, alloc: Global) -> Result<Replica, NoMemory>
         ensures { IfOk result (λ copy. copy ≡ self.now) }
     {

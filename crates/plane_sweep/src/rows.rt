@@ -118,7 +118,7 @@ pub(crate) fn sweep_rows<const SIZE: usize, const HEAT: bool, const EVEN: bool>(
         return;
     }
     let around = lend(other, sites.couplings, sites.colour, sites.z, SIZE);
-    // Its own, not the one lent beside the words that are written: so the limits stay in registers.
+    // Its own, not the one borrowed beside the words that are written: so the limits stay in registers.
     let rule = sites.rule.copy_in_order(kind_of(HEAT));
     let words = SIZE * (SIZE / 2);
     let mut row = first_row(SIZE, EVEN);

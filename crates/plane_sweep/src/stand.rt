@@ -54,7 +54,7 @@ impl Stand {
     ///
     /// # Errors
     ///
-    /// Refuses only for want of memory.
+    /// Refuses only for lack of memory.
     pub fn opening(alloc: Global, plan: &Plan, start: Start) -> Result<Stand, NoMemory>
         ensures opening { IfOk result (StandsFor plan.now (model.opening plan.now start 0)) }
         ensures fits { IfOk result (StandFits plan.now) }
@@ -68,7 +68,7 @@ impl Stand {
     ///
     /// # Errors
     ///
-    /// Refuses only for want of memory.
+    /// Refuses only for lack of memory.
     pub fn opening_bank(
         alloc: Global,
         plan: &Plan,
@@ -90,7 +90,7 @@ impl Stand {
     ///
     /// # Errors
     ///
-    /// Refuses only for want of memory.
+    /// Refuses only for lack of memory.
     pub fn sample(&self, alloc: Global, plan: &Plan, bit: u32) -> Result<Sample, NoMemory>
         requires stand { StandFits plan.now self.now }
         requires bit { bit < 64 }
@@ -126,7 +126,7 @@ impl Stand {
     ///
     /// # Errors
     ///
-    /// Refuses only for want of memory.
+    /// Refuses only for lack of memory.
     pub fn copy(&self, alloc: Global) -> Result<Stand, NoMemory>
         ensures { IfOk result (λ stand. stand ≡ self.now) }
     {

@@ -53,7 +53,7 @@ impl RaggedStand {
     ///
     /// # Errors
     ///
-    /// Refuses only for want of memory; the state is then dropped.
+    /// Refuses only for lack of memory; the state is then dropped.
     pub fn level(alloc: Global, stand: Stand) -> Result<RaggedStand, NoMemory>
         ensures level { IfOk result (λ ragged. ragged ≡ level_stand stand) }
         ensures part { IfOk result (λ ragged. (plan : Plan) (b : ℕ) → length stand.slots ≡ slots_of plan
@@ -83,7 +83,7 @@ impl RaggedStand {
     ///
     /// # Errors
     ///
-    /// Refuses only for want of memory.
+    /// Refuses only for lack of memory.
     pub fn copy(&self, alloc: Global) -> Result<RaggedStand, NoMemory>
         ensures { IfOk result (λ ragged. ragged ≡ self.now) }
     {

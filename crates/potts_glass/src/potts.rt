@@ -47,7 +47,7 @@ impl Potts {
     ///
     /// # Errors
     ///
-    /// Refuses only for want of memory.
+    /// Refuses only for lack of memory.
     pub fn open(
         alloc: Global,
         lattice: Lattice,

@@ -9,7 +9,6 @@ mod source;
 mod turn;
 mod writer;
 
-pub use sheet::Sheet;
 pub use sheets::Sheets;
 pub use source::RowSource;
 pub use writer::{put_rows, put_rows_by};

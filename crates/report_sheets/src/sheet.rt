@@ -12,7 +12,7 @@ use std::marker::Model;
 /// The rows of some epochs as text, in memory that was taken when the sheet was made. As an output it takes
 /// a piece for which it has room, and fails at another; of that tests speak, and no clause.
 #[derive(Drop)]
-pub struct Sheet {
+pub(crate) struct Sheet {
     text: Vec<u8>,
     room: usize,
     faults: u64,
@@ -52,7 +52,7 @@ impl Sink for Sheet {
 
 impl Sheet {
     /// An empty sheet with room for so many bytes. All its memory is taken here.
-    pub fn new(alloc: Global, room: usize) -> Result<Sheet, NoMemory>
+    pub(crate) fn new(alloc: Global, room: usize) -> Result<Sheet, NoMemory>
         ensures { IfOk result (λ s. s ≡ record { text = []; faults = 0; from = 0; to = 0; whole = false }) }
     {
         Ok(Sheet {
@@ -69,7 +69,7 @@ impl Sheet {
     /// all of them fitted.
     // Not part of the call that starts the threads, of which the stack of the first thread has one a thread.
     #[inline(never)]
-    pub fn fill<S: RowSource>(&mut self, rows: &S, from: u64, to: u64)
+    pub(crate) fn fill<S: RowSource>(&mut self, rows: &S, from: u64, to: u64)
         requires ready { S.ready rows.now }
         requires begin { S.begin rows.now ≤ from }
         requires window { from ≤ to }
@@ -93,7 +93,7 @@ impl Sheet {
     }
 
     /// The text, where it was filled with the rows from one epoch to another and all of them fitted.
-    pub fn text(&self, from: u64, to: u64) -> Option<&[u8]>
+    pub(crate) fn text(&self, from: u64, to: u64) -> Option<&[u8]>
         ensures text { IfSome result (λ text. text.now ≡ self.now.text) }
         ensures whole { is_some result ≡ (self.now.whole && self.now.from == from && self.now.to == to) }
     {

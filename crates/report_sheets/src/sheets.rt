@@ -67,7 +67,7 @@ impl Sheets {
     ///
     /// # Errors
     ///
-    /// Refuses only for want of memory.
+    /// Refuses only for lack of memory.
     pub fn new(alloc: Global, threads: u32, rows: u64, an_epoch: u64) -> Result<Sheets, NoMemory>
         requires { threads ≤ 64 }
     {

@@ -31,7 +31,7 @@ use std::sync::Arc;
 /// # Errors
 ///
 /// The first refusal that is due, in the order that docs/specification/checkpoint.md states; else only
-/// for want of memory.
+/// for lack of memory.
 pub fn decode_banks(
     alloc: Global,
     plans: &[Arc<Plan, Global>],

@@ -41,7 +41,7 @@ impl Room {
     ///
     /// # Errors
     ///
-    /// Refuses only for want of memory.
+    /// Refuses only for lack of memory.
     pub fn reserve(alloc: Global, len: u64) -> Result<Room, NoMemory>
         requires { len ≤ longest_checkpoint }
         ensures empty { IfOk result (λ room. room.bytes ≡ []) }

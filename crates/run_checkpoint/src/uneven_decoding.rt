@@ -39,7 +39,7 @@ use std::alloc::Global;
 /// # Errors
 ///
 /// The first refusal that is due, in the order that docs/specification/checkpoint.md states; else only
-/// for want of memory.
+/// for lack of memory.
 pub fn decode_any(
     alloc: Global,
     plan: &Plan,

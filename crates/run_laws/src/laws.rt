@@ -17,7 +17,7 @@ pub fn run_reports_are_lawful()
     ensures { RunReportsAreLawful }
 {}
 
-/// And so is that of a run that may stop between epochs; the records that it keeps ahead are within their
+/// The report of a run that may stop between epochs is a lawful one too; the records that it keeps ahead are within their
 /// ranges again.
 pub fn stopped_reports_are_lawful()
     ensures { StoppedReportsAreLawful }
@@ -81,7 +81,7 @@ pub fn saved_checkpoints_are_short()
     ensures { SavedCheckpointsAreShort }
 {}
 
-/// Runs that stop and are gone on with add up, however often and wherever they were stopped: the rows of
+/// Runs that stop and are resumed add up, however often and wherever they were stopped: the rows of
 /// all of them, one after the other, are the rows of one run, and the spins and the checkpoint of the
 /// last are those of the one.
 pub fn stopped_runs_add_up()

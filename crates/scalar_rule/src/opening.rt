@@ -25,7 +25,7 @@ impl Sample {
     ///
     /// # Errors
     ///
-    /// Refuses only for want of memory.
+    /// Refuses only for lack of memory.
     pub fn opening(alloc: Global, plan: &Plan, bit: u32, start: Start) -> Result<Sample, NoMemory>
         requires { bit < 64 }
         ensures opening { IfOk result (λ s. s ≡ model.opening plan.now start 0 bit) }
@@ -39,7 +39,7 @@ impl Sample {
     ///
     /// # Errors
     ///
-    /// Refuses only for want of memory.
+    /// Refuses only for lack of memory.
     pub fn opening_bank(
         alloc: Global,
         plan: &Plan,

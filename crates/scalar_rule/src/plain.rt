@@ -34,7 +34,7 @@ pub struct PlainOut {
 ///
 /// # Errors
 ///
-/// Refuses only for want of memory.
+/// Refuses only for lack of memory.
 pub fn plain_run(
     alloc: Global,
     lattice: Lattice,

@@ -1,4 +1,4 @@
--- Two rows more at a time; in each the surroundings that are lent are those of the row.
+-- Two rows more at a time; in each the surroundings that are borrowed are those of the row.
 use Rattle.std.proofs.Common.{◌≡◌, ℕ, ◌+◌, ◌*◌, ◌/◌, sym, ap, ◌∙◌, subst, arith}
 use Rattle.std.proofs.Math.Nat.{add-mul}
 use Rattle.spin_model.specs.Lattice.{IsLawfulSize}

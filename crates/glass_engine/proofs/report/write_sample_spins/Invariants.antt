@@ -1,5 +1,5 @@
-use Rattle.std.proofs.Common.{◌≡◌, ◌%◌, flat_map}
-use Rattle.glass_edges.specs.Contents.{appended}
+use Rattle.std.proofs.Common.{◌%◌, flat_map}
+use Rattle.glass_edges.specs.Writes.{HasPut}
 use Rattle.plane_sweep.specs.Uneven.{uneven_part}
 use Rattle.scalar_rule.specs.Epoch.{slot_at}
 use Rattle.spin_model.specs.Steps.{table}
@@ -7,8 +7,5 @@ use Rattle.glass_engine.specs.Report.{slot_spins}
 use Rattle.glass_engine.proofs.report.write_sample_spins.Given as goal
 
 abbrev pub invariant-slots : goal.invariant-slots
-invariant-slots g l = record {
-  text : g.O.Sink.taken l.out ≡ appended (g.O.Sink.taken l.fn.out)
-      (flat_map (λ t. slot_spins l.plan.size l.sample t (slot_at (uneven_part l.plan.size (l.sample % 64) l.stand).slots t)) (table (λ t. t) l.slot));
-  passed : g.O.Sink.faults l.out ≡ g.O.Sink.faults l.fn.out;
-}
+invariant-slots g l = HasPut g.O.Sink l.fn.out l.out
+    (flat_map (λ t. slot_spins l.plan.size l.sample t (slot_at (uneven_part l.plan.size (l.sample % 64) l.stand).slots t)) (table (λ t. t) l.slot))

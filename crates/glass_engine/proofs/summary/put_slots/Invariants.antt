@@ -1,5 +1,5 @@
-use Rattle.std.proofs.Common.{◌≡◌, flat_map}
-use Rattle.glass_edges.specs.Contents.{appended}
+use Rattle.std.proofs.Common.{flat_map}
+use Rattle.glass_edges.specs.Writes.{HasPut}
 use Rattle.plane_sweep.specs.Uneven.{uneven_part}
 use Rattle.scalar_rule.specs.Plan.{slots_of}
 use Rattle.spin_model.specs.Steps.{table}
@@ -8,8 +8,5 @@ use Rattle.glass_engine.specs.Summary.{slot_sums}
 use Rattle.glass_engine.proofs.summary.put_slots.Given as goal
 
 abbrev pub invariant-slots : goal.invariant-slots
-invariant-slots g l = record {
-  text : g.O.Sink.taken l.out ≡ appended (g.O.Sink.taken l.fn.out)
-      (flat_map (slot_sums (λ b. piece l.records (slots_of l.plan) b) (λ b. (uneven_part l.plan.size b l.stand).slots)) (table (λ t. t) l.slot));
-  passed : g.O.Sink.faults l.out ≡ g.O.Sink.faults l.fn.out;
-}
+invariant-slots g l = HasPut g.O.Sink l.fn.out l.out
+    (flat_map (slot_sums (λ b. piece l.records (slots_of l.plan) b) (λ b. (uneven_part l.plan.size b l.stand).slots)) (table (λ t. t) l.slot))

@@ -1,7 +1,6 @@
 use Rattle.std.proofs.Common.{arith, ◌≡◌, ℕ, ◌-◌, ◌*◌, ◌≤◌, length, ap, subst, ◌∙◌}
 use Rattle.std.proofs.lemmas.List.{length-drop}
-use Rattle.std.proofs.lemmas.Result.{on_ok_weaker, on_err_weaker}
-use Rattle.glass_edges.specs.Contents.{appended, AppendsPrefix}
+use Rattle.glass_edges.proofs.Writing.{writes-same}
 use Rattle.exchange_board.specs.declared.origin.Origin.{Origin}
 use Rattle.scalar_rule.specs.Plan.{slots_of}
 use Rattle.scalar_rule.specs.declared.sample.Sample.{Sample}
@@ -44,20 +43,11 @@ put_summary-requires-clause-records g c =
     ap length (last-taken c.records-records.result.now (64 * c.slots.result) few)
     ∙ length-drop (length c.records-records.result.now - 64 * c.slots.result) c.records-records.result.now ∙ omega (arith, few, c.slots.ensures.value)
 
-pub returns-clause-whole : goal.returns-clause-whole
-returns-clause-whole g c = λ start begins.
-    let at = (goal.at.returns-clause-whole g c).After-slots in
+pub returns-clause-written : goal.returns-clause-written
+returns-clause-written g c = λ start begins.
+    let at = (goal.at.returns-clause-written g c).After-slots in
     let text = summary-taken c.level_run_is_serial.ensures c.args.n c.args.done.now.run start c.args.done.now.ended (has g at start begins)
     c.args.plan.now c.records-records.result.now c.slots.result c.stand.result.now c.origin.result.now.window.until c.requires.plan (records g at) (slots g at)
     (c.stand.ensures ∙ ap (λ (x : DoneView). x.ended.stand) c.done.view_is)
     (ap (λ (o : Origin). o.window.until) c.origin.ensures ∙ ap (λ (x : DoneView). x.run.until) c.done.view_is) in
-    on_ok_weaker c.put_summary.result (λ is. is ∙ ap (appended (g.O.Sink.taken c.args.out.now)) text) c.put_summary.ensures.whole
-
-pub returns-clause-prefix : goal.returns-clause-prefix
-returns-clause-prefix g c = λ start begins.
-    let at = (goal.at.returns-clause-prefix g c).After-slots in
-    let text = summary-taken c.level_run_is_serial.ensures c.args.n c.args.done.now.run start c.args.done.now.ended (has g at start begins)
-    c.args.plan.now c.records-records.result.now c.slots.result c.stand.result.now c.origin.result.now.window.until c.requires.plan (records g at) (slots g at)
-    (c.stand.ensures ∙ ap (λ (x : DoneView). x.ended.stand) c.done.view_is)
-    (ap (λ (o : Origin). o.window.until) c.origin.ensures ∙ ap (λ (x : DoneView). x.run.until) c.done.view_is) in
-    on_err_weaker c.put_summary.result (λ p. subst (AppendsPrefix (g.O.Sink.taken c.args.out.now) (g.O.Sink.taken c.put_summary.new.out)) text p) c.put_summary.ensures.prefix
+    writes-same text c.put_summary.ensures

@@ -11,5 +11,4 @@ returns g c =
     let driven = sym c.drive-done.ensures.run in
     let run = subst (IsDemoRun c.args.n) driven c.requires.run in
     let text = summary-of c.args.n c.drive-done.result.run c.deref-2.result.now run (c.deref-2.ensures ∙ (c.requires.plan ∙ ap (λ (r : RunView). r.plan) driven)) in
-    let put = c.write_summary.ensures in
-    writes-same text (record { whole = put.whole _ run.begins; prefix = put.prefix _ run.begins; cause = put.cause })
+    writes-same text (c.write_summary.ensures.written _ run.begins)

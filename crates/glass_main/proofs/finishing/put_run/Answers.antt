@@ -12,5 +12,4 @@ pub returns-clause-written : goal.returns-clause-written
 returns-clause-written g c = λ stop_after planned from e is.
     let same = ap run_report c.from_ref.ensures.value
     ∙ text-of c.unstopped_run_is_whole.ensures c.level_report_is_serial.ensures stop_after planned from e c.args.done.now.run c.args.done.now.ended is c.requires.ended in
-    let put = c.print_report.ensures in
-    writes-same same (record { whole = put.whole; prefix = put.prefix; cause = put.cause })
+    writes-same same c.print_report.ensures
