@@ -1,10 +1,13 @@
 -- What an epoch adds to the sums of 64 samples.
 use Rattle.std.specs.Prelude.{◌≡◌, ℕ, ◌/◌, ◌<◌, ◌≤◌, ℤ, pos, nat_abs, ◌+ℤ◌, ◌*ℤ◌, ◌==◌, List, [], ◌∷◌, slice_index_or}
 use Rattle.spin_model.specs.Words.{one_if}
+use Rattle.spin_model.specs.Lattice.{IsLawfulSize}
+use Rattle.scalar_rule.specs.Plan.{Plan}
+use Rattle.scalar_rule.specs.declared.sample.PlainSlot.{PlainSlot}
 use Rattle.measured_sums.specs.OverlapField.{total_overlap, link_overlap}
 use Rattle.measured_sums.specs.PlaneCorrelations.{axis_correlation, face_correlation}
 use Rattle.measured_sums.specs.EpochBins.{class_of, overlap_classes}
-use Rattle.measured_sums.specs.MeasuredSums.{Observed, Quantity, Number, Energies, EnergySquares, EnergyProducts, Links, LinkSquares, Overlaps, Magnitudes, OverlapSquares, OverlapFourths, EnergyOverlapSquares, EnergyOverlapFourths, InClass, Axes, Faces, square}
+use Rattle.measured_sums.specs.MeasuredSums.{Observed, observed_in, Quantity, Number, Energies, EnergySquares, EnergyProducts, Links, LinkSquares, Overlaps, Magnitudes, OverlapSquares, OverlapFourths, EnergyOverlapSquares, EnergyOverlapFourths, InClass, Axes, Faces, square}
 use Rattle.plane_sums.specs.declared.measured.Measured.{Measured}
 use Rattle.plane_sums.specs.Correlations.{signed_at}
 
@@ -64,3 +67,8 @@ pub record Tells (l : ℕ) (seen : Measured) (observed : ℕ → Observed) : Typ
   pub overlaps : (b : ℕ) → b < 64 → signed_at seen.overlaps b ≡ total_overlap l (observed b).field
   pub axis : (r b : ℕ) → r ≤ l / 2 → b < 64 → signed_at (slice_index_or seen.axis r []) b ≡ axis_correlation l (observed b).field r
   pub face : (r b : ℕ) → r ≤ l / 2 → b < 64 → signed_at (slice_index_or seen.face r []) b ≡ face_correlation l (observed b).field r
+
+-- what is measured of the slots of 64 samples is within
+abbrev pub MeasuredIsWithin : Type 0
+MeasuredIsWithin = (plan : Plan) (slot : ℕ → PlainSlot) (seen : Measured) → IsLawfulSize plan.size
+    → Tells plan.size seen (λ b. observed_in plan b (slot b)) → IsWithin plan.size seen

@@ -17,7 +17,7 @@ mod slot_sums;
 mod totals;
 
 pub use epoch_bins::BinSums;
-pub use measured::Measured;
+pub use measured::{Measured, measured_is_within};
 pub use numbers::{plane_numbers, plane_numbers_between};
 pub use products::correlations;
 pub use room::Planes3;

@@ -1,5 +1,7 @@
 //! What is measured of a slot in an epoch.
 
+ghost use Rattle.plane_sums.specs.Measured.{MeasuredIsWithin};
+
 /// The numbers of 64 samples.
 #[derive(Drop)]
 pub struct Measured {
@@ -16,3 +18,8 @@ pub struct Measured {
     /// Those across the diagonals of the faces.
     pub face: [[i64; 64]; 33],
 }
+
+/// What is measured of a run is never too great to be added. A law: the body is empty.
+pub fn measured_is_within()
+    ensures { MeasuredIsWithin }
+{}
