@@ -31,10 +31,10 @@ use Rattle.measured_sums.proofs.BoundedSums.{abs-sum, abs-product, sum-bound, ov
 -- ---- what is measured
 
 -- a record of what is measured whose numbers are those of some configurations
-record IsMeasured (l : ℕ) (seen : Observed) : Type 0 where
-  first : nat_abs seen.first_energy ≤ bond_count l
-  second : nat_abs seen.second_energy ≤ bond_count l
-  field_bound : (i : ℕ) → nat_abs (seen.field i) ≤ 1
+pub record IsMeasured (l : ℕ) (seen : Observed) : Type 0 where
+  pub first : nat_abs seen.first_energy ≤ bond_count l
+  pub second : nat_abs seen.second_energy ≤ bond_count l
+  pub field_bound : (i : ℕ) → nat_abs (seen.field i) ≤ 1
 
 difference-bound : (a v : ℕ) → a ≤ v → nat_abs (pos (2 * a) -ℤ pos v) ≤ v
 difference-bound a v most =
@@ -50,7 +50,7 @@ difference-bound a v most =
 energy-bound : (l : ℕ) (bonds : Bonds) (spins : List Bool) → nat_abs (energy l bonds spins) ≤ bond_count l
 energy-bound l bonds spins = difference-bound (unsatisfied l bonds spins) (bond_count l) (count-most (is_unsatisfied l bonds spins) (bond_count l))
 
-measured : (plan : Plan) (b : ℕ) (slot : PlainSlot) → IsMeasured plan.size (observed_in plan b slot)
+pub measured : (plan : Plan) (b : ℕ) (slot : PlainSlot) → IsMeasured plan.size (observed_in plan b slot)
 measured plan b slot = record {
   first = energy-bound plan.size (bonds_of plan.couplings b) slot.first.spins;
   second = energy-bound plan.size (bonds_of plan.couplings b) slot.second.spins;
@@ -96,7 +96,7 @@ fourth-bound l seen h =
 own-size : (n : ℕ) → nat_abs (pos n) ≤ n
 own-size n = omega arith
 
-term-most : (l : ℕ) (seen : Observed) (quantity : Quantity) → IsMeasured l seen → nat_abs (term_of l seen quantity) ≤ greatest_term l quantity
+pub term-most : (l : ℕ) (seen : Observed) (quantity : Quantity) → IsMeasured l seen → nat_abs (term_of l seen quantity) ≤ greatest_term l quantity
 term-most l seen Number h = own-size 1
 term-most l seen Energies h = energies-bound l seen h
 term-most l seen EnergySquares h =
@@ -150,10 +150,10 @@ epochs-few every k c e most = let few = count-most (λ j. is_measured every k (c
 
 -- ---- the greatest
 
-sites : (l : ℕ) → IsLawfulSize l → (volume l ≤ 262144) × (bond_count l ≤ 786432)
+pub sites : (l : ℕ) → IsLawfulSize l → (volume l ≤ 262144) × (bond_count l ≤ 786432)
 sites l lawful = let most = volume-bound l lawful in (most, omega arith)
 
-fifth-power : (l : ℕ) → IsLawfulSize l → l * (l * l * (l * l)) ≤ 1073741824
+pub fifth-power : (l : ℕ) → IsLawfulSize l → l * (l * l * (l * l)) ≤ 1073741824
 fifth-power l lawful =
     let side = lawful.1 in
     let face = mul-le l l 64 64 side side in

@@ -5,3 +5,5 @@ pub mod Projecting
 pub mod Sums
 pub mod Signed
 pub mod Distances
+pub mod Powers
+pub mod BinnedSums

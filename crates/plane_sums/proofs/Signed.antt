@@ -1,4 +1,5 @@
 -- Signed numbers by sample, their ranges, and sums of products.
+use Rattle.std.specs.Int.{w128}
 use Rattle.std.proofs.Common.{inl, inr, ◌≡◌, ℕ, ◌+◌, ◌%◌, ◌^◌, ◌<◌, ◌≤◌, List, length, set, ℤ, pos, nat_abs, ◌+ℤ◌, ◌*ℤ◌, FitsSigned, w16, w32, w64, add-one, replicate, refl, ◌∙◌, arith}
 use Rattle.std.proofs.lemmas.Bool.{cases_lt}
 use Rattle.std.proofs.lemmas.Int.{fits_signed_from_abs}
@@ -64,3 +65,6 @@ product-bound l numbers f r b side small =
     (λ m within. product-small (number_in numbers f m b) (number_in numbers f ((m + r) % l) b) (small m within) (small ((m + r) % l) (mod_below (m + r) l some))) in
     let all = mul-le l (2 ^ 24) 64 (2 ^ 24) few (omega arith) in
     omega (arith, each, all)
+
+pub fits-128 : (z : ℤ) → nat_abs z < 2 ^ 127 → FitsSigned w128 z
+fits-128 z small = fits_signed_from_abs w128 z small

@@ -4,3 +4,6 @@ pub mod Projected
 pub mod Families
 pub mod Rooms
 pub mod Correlations
+pub mod Measured
+pub mod Bins
+pub mod Sums

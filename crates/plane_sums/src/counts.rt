@@ -17,33 +17,40 @@ pub(crate) struct Counts<const W: usize> {
 
 impl<const W: usize> Counts<W> {
     /// Adds two words at each of the first places, the second of which are used up. No sum may reach
-    /// 2^W.
+    /// 2^width, and no plane from there on is touched.
     pub fn add_words<const M: usize>(
         &mut self,
         words: &[u64; M],
         more: &mut [u64; 64],
         places: usize,
+        width: usize,
     )
-        requires width { 1 ≤ W }
+        requires width { (1 ≤ width) × (width ≤ W) }
         requires places { places ≤ 64 }
         requires words { places ≤ M }
-        requires room { (k b : ℕ) → k < places → b < 64 → count_at self.old.planes k b + 2 < 2 ^ W }
+        requires room { (k b : ℕ) → k < places → b < 64 → count_at self.old.planes k b + 2 < 2 ^ width }
         ensures { (k b : ℕ) → k < places → b < 64 → count_at self.new.planes k b
             ≡ count_at self.old.planes k b + bit_at (slice_index words.now k) b
             + bit_at (slice_index more.old k) b }
     {
         add_plane(&mut self.planes[0], words, 0, more, places);
-        self.carry_up(1, more, places);
+        self.carry_up(1, width, more, places);
     }
 
     /// Adds to the numbers at the first places those at as many places from one on. No sum may reach
-    /// 2^W.
-    pub fn add_counts<const V: usize>(&mut self, other: &Counts<V>, from: usize, places: usize)
-        requires width { V ≤ W }
+    /// 2^width.
+    pub fn add_counts<const V: usize>(
+        &mut self,
+        other: &Counts<V>,
+        from: usize,
+        places: usize,
+        width: usize,
+    )
+        requires width { (V ≤ width) × (width ≤ W) }
         requires places { places ≤ 64 }
         requires from { from + places ≤ 128 }
         requires room { (k b : ℕ) → k < places → b < 64
-            → count_at self.old.planes k b + count_at other.now.planes (from + k) b < 2 ^ W }
+            → count_at self.old.planes k b + count_at other.now.planes (from + k) b < 2 ^ width }
         ensures { (k b : ℕ) → k < places → b < 64 → count_at self.new.planes k b
             ≡ count_at self.old.planes k b + count_at other.now.planes (from + k) b }
     {
@@ -57,17 +64,17 @@ impl<const W: usize> Counts<W> {
                 places,
             );
         }
-        self.carry_up(V, &mut carry, places);
+        self.carry_up(V, width, &mut carry, places);
     }
 
     /// Adds a word at each of the first places to plane w, the carries rippling upwards.
-    fn carry_up(&mut self, from: usize, carry: &mut [u64; 64], places: usize)
-        requires width { from ≤ W }
+    fn carry_up(&mut self, from: usize, width: usize, carry: &mut [u64; 64], places: usize)
+        requires width { (from ≤ width) × (width ≤ W) }
         requires places { places ≤ 64 }
-        ensures { (k b : ℕ) → k < places → count_at self.new.planes k b + 2 ^ W * bit_at (slice_index carry.new k) b
+        ensures { (k b : ℕ) → k < places → count_at self.new.planes k b + 2 ^ width * bit_at (slice_index carry.new k) b
             ≡ count_at self.old.planes k b + 2 ^ from * bit_at (slice_index carry.old k) b }
     {
-        'planes: for w in from..W {
+        'planes: for w in from..width {
             add_carry(&mut self.planes[w], carry, places);
         }
     }
@@ -197,5 +204,41 @@ fn double_plane(own: &mut [u64; 128], places: usize)
 {
     'places: for k in 0..places {
         own[places + k] = own[k];
+    }
+}
+
+/// In how many planes a count along a line fits.
+pub(crate) fn line_width(size: usize) -> usize
+    requires { size ≤ 64 }
+    ensures fits { size < 2 ^ result }
+    ensures some { 1 ≤ result }
+    ensures most { result ≤ 7 }
+{
+    if size < 16 {
+        4
+    } else if size < 32 {
+        5
+    } else if size < 64 {
+        6
+    } else {
+        7
+    }
+}
+
+/// In how many planes a count over a plane of sites fits, and a count along a line.
+pub(crate) fn plane_width(sites: usize) -> usize
+    requires { sites ≤ 4096 }
+    ensures fits { sites < 2 ^ result }
+    ensures some { 7 ≤ result }
+    ensures most { result ≤ 13 }
+{
+    if sites < 128 {
+        7
+    } else if sites < 512 {
+        9
+    } else if sites < 2048 {
+        11
+    } else {
+        13
     }
 }

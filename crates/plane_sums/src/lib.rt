@@ -2,14 +2,23 @@
 #![tactic(auto)]
 
 mod agreement;
+mod classes;
 mod counts;
+mod distance_sums;
+mod epoch_bins;
 mod families;
+mod measured;
+mod moments;
 mod numbers;
 mod products;
 mod projections;
 mod room;
+mod slot_sums;
 mod totals;
 
+pub use epoch_bins::BinSums;
+pub use measured::{Measured, measured_is_within};
 pub use numbers::{plane_numbers, plane_numbers_between};
 pub use products::correlations;
 pub use room::Planes3;
+pub use slot_sums::SlotSums;

@@ -11,7 +11,7 @@ ghost use Rattle.spin_model.specs.Lattice.{IsLawfulSize};
 ghost use Rattle.spin_model.specs.Steps.{count_below};
 
 use crate::agreement::{fill, turn};
-use crate::counts::Counts;
+use crate::counts::{Counts, line_width};
 use plain_list::Items;
 use plane_sweep::Replica;
 
@@ -91,10 +91,11 @@ fn sum_rows(total: &mut Counts<7>, rows: &Items<[u64; 64]>, size: usize)
     ensures { (k b : ℕ) → k < 2 * size → b < 64 → count_at total.new.planes k b
         ≡ count_below (λ j. is_set (word_in rows.now j (k % size)) b) size }
 {
+    let width = line_width(size);
     total.clear(size);
     'pairs: for pair in 0..size / 2 {
         let mut more = *rows.at(2 * pair + 1);
-        total.add_words(rows.at(2 * pair), &mut more, size);
+        total.add_words(rows.at(2 * pair), &mut more, size, width);
     }
     total.double(size);
 }
@@ -109,15 +110,18 @@ fn add_pair(
     requires size { size ≤ 64 }
     requires lines { length lines.old ≡ 64 }
     requires sheets { (length front.now ≡ 64) × (length back.now ≡ 64) }
-    requires room { (j k b : ℕ) → j < size → k < size → b < 64 → count_at (line_at lines.old j) k b + 2 < 2 ^ 7 }
+    requires room { (j k b : ℕ) → j < size → k < size → b < 64 → count_at (line_at lines.old j) k b + 2 ≤ size }
     ensures sum { (j k b : ℕ) → j < size → k < size → b < 64 → count_at (line_at lines.new j) k b
         ≡ count_at (line_at lines.old j) k b + one_if (is_set (word_in front.now j k) b)
         + one_if (is_set (word_in back.now j k) b) }
     ensures long { length lines.new ≡ 64 }
 {
+    let width = line_width(size);
     'lines: for j in 0..size {
         let mut more = *back.at(j);
-        lines.at_mut(j).add_words(front.at(j), &mut more, size);
+        lines
+            .at_mut(j)
+            .add_words(front.at(j), &mut more, size, width);
     }
 }
 

@@ -6,7 +6,7 @@ ghost use Rattle.plane_sums.specs.Counts.{count_at, line_at};
 ghost use Rattle.plane_sums.specs.Lines.{begins_at};
 ghost use Rattle.scalar_rule.specs.Positions.{sum_below};
 
-use crate::counts::Counts;
+use crate::counts::{Counts, plane_width};
 use bit_compare::add;
 use multispin_word::Planes;
 use plain_list::Items;
@@ -43,9 +43,10 @@ pub(crate) fn sum_across(total: &mut Counts<13>, lines: &Items<Counts<7>>, turn:
     ensures { (m b : ℕ) → m < size → b < 64 → count_at total.new.planes m b
         ≡ sum_below (λ o. count_at (line_at lines.now o) (begins_at turn size o + m) b) size }
 {
+    let width = plane_width(size * size);
     total.clear(size);
     'lines: for line in 0..size {
-        total.add_counts(lines.at(line), turn.begin(size, line), size);
+        total.add_counts(lines.at(line), turn.begin(size, line), size, width);
     }
 }
 

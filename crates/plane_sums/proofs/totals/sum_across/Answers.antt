@@ -1,5 +1,5 @@
 -- Each line is added from the place on at which plane 0 meets it.
-use Rattle.std.proofs.Common.{◌+◌, ◌*◌, ◌≤◌, ap, sym, ◌∙◌, arith}
+use Rattle.std.proofs.Common.{◌≡◌, ◌+◌, ◌*◌, ◌≤◌, ap, sym, ◌∙◌, arith}
 use Rattle.std.proofs.lemmas.Nat.{mul-le}
 use Rattle.scalar_rule.proofs.Extremes.{sum-most}
 use Rattle.plane_sums.specs.Counts.{count_at, line_at}
@@ -34,8 +34,9 @@ add_counts-requires c = (
               let before = c.lines.invariant m b h i in
               let most = sum-most (λ o. count_at (line_at lines o) (begins_at c.args.turn size o + m) b) line size
               (λ o below. small o (begins_at c.args.turn size o + m) b (omega arith) (let within = begins-within c.args.turn size o (omega arith) in omega arith) i) in
-              let all : line * size ≤ 63 * 64 = mul-le line size 63 64 (omega (arith, c.requires.size)) (omega (arith, c.requires.size)) in
-              omega (arith, own, last, before, most, all, c.requires.size),
+              let all : (line + 1) * size ≤ size * size = mul-le (line + 1) size size size (omega arith) (omega arith) in
+              let next : (line + 1) * size ≡ line * size + size = omega arith in
+              omega (arith, own, last, before, most, all, next, c.plane_width-width.ensures.fits),
         ),
       ),
     ),

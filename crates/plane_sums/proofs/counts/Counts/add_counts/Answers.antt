@@ -37,5 +37,5 @@ returns g c = λ k b h l.
     let all = whole other c.planes.w b (last ∙ sym (planes-long c.args.other.now.planes (c.args.from + k) ∙ c.planes.invariant.other_long)) in
     let carried = c.carry_up.ensures k b h in
     let before = rw last at (c.planes.invariant.added k b h) in
-    no-carry (count_at c.carry_up.new.self.planes k b) (2 ^ g.row.W) (bit_at (get_or c.carry_up.new.carry k 0) b) _ (bit_at-lt _ b)
+    no-carry (count_at c.carry_up.new.self.planes k b) (2 ^ c.args.width) (bit_at (get_or c.carry_up.new.carry k 0) b) _ (bit_at-lt _ b)
     (carried ∙ before ∙ ap (λ n. count_at c.args.self.now.planes k b + n) (rw last at all)) (c.requires.room k b h l)

@@ -20,5 +20,5 @@ returns g c = λ k b h l.
     let first = bit_at-lt (get_or c.args.words.now k 0) b in
     let second = bit_at-lt (get_or c.args.more.now k 0) b in
     let room = c.requires.room k b h l in
-    no-carry (count_at c.carry_up.new.self.planes k b) (2 ^ g.row.W) (bit_at (get_or c.carry_up.new.carry k 0) b) _ (bit_at-lt _ b)
+    no-carry (count_at c.carry_up.new.self.planes k b) (2 ^ c.args.width) (bit_at (get_or c.carry_up.new.carry k 0) b) _ (bit_at-lt _ b)
     (omega (arith, carried, more)) (omega arith)
