@@ -3,6 +3,7 @@ import math
 
 import numpy as np
 import pytest
+from chances import are_distances
 from lines_report_test import SAMPLES, SLOTS, text_of_lines, true_lines, with_errors
 
 from glass_analysis import axis_correlations, blocks, coherence_length, jackknife, link_overlap, read_lines
@@ -54,12 +55,12 @@ def test_the_length_of_a_known_shape(noise):
     assert wanted == pytest.approx(3 * math.gamma(2.6 / 1.5) / math.gamma(1.6 / 1.5), rel=0.06)
     shape = np.concatenate([[1], aging_shape(3, np.arange(1.0, 17))])
     away = []
-    for seed in range(24):
+    for seed in range(60):
         found = coherence_length(noisy(shape, noise, 16, seed), 32)
         assert found.refusal == "" and 5 <= found.cut <= 14
         away.append((found.length.value - wanted) / found.length.error)
-    # Distances in errors: their mean is 0 to within 0.2, their standard deviation 1; a cut without its tail is many errors low.
-    assert abs(np.mean(away)) < 0.7 and 0.7 < np.std(away) < 1.4
+    # A cut without its tail is many errors low.
+    assert are_distances(away, 15)
 
 
 def test_what_the_cut_leaves_out_is_told():

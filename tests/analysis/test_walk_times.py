@@ -3,13 +3,14 @@ import math
 
 import numpy as np
 import pytest
-from scipy import fft
+from chances import normal_bound, squares
+from scipy import fft, stats
 from scipy.signal import lfilter
 from make_tables import Refusal
 from test_estimates import records_with
 
 from glass_analysis import autocorrelation_time, walk_times
-from glass_analysis.walk_times import integrated_time, walk_correlations
+from glass_analysis.walk_times import independent_labels, integrated_time, noise_of, slot_function, walk_correlations
 
 SLOTS = 12
 
@@ -42,14 +43,92 @@ def integrated(time):
     return 0.5 + 1 / math.expm1(1 / time)
 
 
-@pytest.mark.parametrize("time, epochs", [(6.0, 2000), (20.0, 4000), (60.0, 8000)])
-def test_walks_of_one_time(time, epochs):
-    found = walk_times(walks([time] * 16, epochs, 1))
-    assert found.is_settled.all()
-    away = (found.integrated - integrated(time)) / found.error
-    assert abs(away.mean()) < 0.6 and 0.4 < away.std() < 1.5
-    assert found.exponential.mean() == pytest.approx(time, rel=0.05)
-    assert (abs(found.exponential / time - 1) < 0.5).all()
+def stands(found, errors, true, bias):
+    """Whether independent times are right in the mean to within `bias` of themselves, and their errors hold, but for chance.
+
+    Of Gaussian times with the errors that are told, 68 % are within one and 95 % within two. So much as an error that is a tenth
+    too small is let pass, 64 % and 93 %, and one that is two fifths too great, 84 %."""
+    found, errors = found.reshape(-1), errors.reshape(-1)
+    away = abs(found - true) / errors
+    within = [(away < 1).mean(), (away < 2).mean()]
+    chance = normal_bound() * np.sqrt(np.array([0.68 * 0.32, 0.95 * 0.05]) / len(away))
+    assert abs(found.mean() / true - 1) < bias + normal_bound() * stats.sem(found) / true
+    assert 0.64 - chance[0] < within[0] < 0.84 + chance[0] and within[1] > 0.93 - chance[1], within
+
+
+@pytest.mark.parametrize("time, lengths, bias", [(6, 25, 0.06), (20, 12, 0.1), (20, 50, 0.04)])
+def test_walks_of_one_time(time, lengths, bias):
+    """A sum that is cut, and an error that is made of it, are right to the order of the window over the run."""
+    found = walk_times(walks([time] * 500, lengths * time, 1))
+    stands(found.integrated, found.error, integrated(time), bias)
+    if lengths >= 50:
+        told = found.exponential[np.isfinite(found.exponential)]
+        assert len(told) > 800 and told.mean() == pytest.approx(time, abs=normal_bound() * stats.sem(told) + 0.04 * time)
+
+
+def traded(found, epoch, chance, random):
+    """Labels after an epoch in which each second pair of neighbours trades with a probability."""
+    for pair in range(epoch % 2, found.shape[1] - 1, 2):
+        trade = random.random((len(found), 2)) < chance
+        one, other = found[:, pair].copy(), found[:, pair + 1].copy()
+        found[:, pair], found[:, pair + 1] = np.where(trade, other, one), np.where(trade, one, other)
+
+
+def correlation_of_pairs(slots, chance, every):
+    """That of the slot function by lag in records, of walks in which each second pair trades with one probability: powers of the
+    matrix of two epochs."""
+    after = []
+    for parity in (0, 1):
+        of_one = np.eye(slots)
+        for pair in range(parity, slots - 1, 2):
+            of_one[pair:pair + 2, pair:pair + 2] = [[1 - chance, chance], [chance, 1 - chance]]
+        after.append(of_one)
+    matrix, values = np.linalg.matrix_power(after[0] @ after[1], every // 2), slot_function(slots)
+    found, moved = [], values.copy()
+    while not found or found[-1] > 1e-9:
+        found.append(values @ moved / (values @ values))
+        moved = matrix @ moved
+    return np.array(found)
+
+
+@pytest.mark.parametrize("slots, chance, every, records, bias", [(12, 0.37, 20, 30, 0.1), (12, 0.37, 20, 80, 0.05), (4, 0.3, 4, 100, 0.1)])
+def test_walks_through_pairs_that_trade_by_turns(slots, chance, every, records, bias):
+    """As the program's walks go, recorded each so many epochs, from 12 to 50 times on."""
+    random, true = np.random.default_rng(21), correlation_of_pairs(slots, chance, every).sum() - 0.5
+    now = np.argsort(random.random((500, slots, 2)), axis=1).astype(np.int8)
+    found = np.empty((records, 500, slots, 2), np.int8)
+    for epoch in range(records * every):
+        if epoch % every == 0:
+            found[epoch // every] = now
+        traded(now, epoch, chance, random)
+    times = walk_times(records_with(labels=found))
+    stands(times.integrated, times.error, true, bias)
+
+
+def test_the_time_of_a_decay_without_noise_is_exact_wherever_it_is_cut():
+    lags = np.arange(400)
+    for time in (0.3, 2.0, 10.0):
+        for independent in (0.05, 0.5, 11, 1e9):
+            assert integrated_time(np.exp(-lags / time), independent)[0] == pytest.approx(integrated(time), rel=2e-3 if independent > 1e3 else 1e-12)
+
+
+def test_the_noise_of_labels_is_that_of_one_walk_less_than_there_are():
+    """Of labels that are drawn anew for each record, each correlation from lag 1 on is noise alone."""
+    for slots in (2, 5, 12):
+        labels = np.argsort(np.random.default_rng(slots).random((500, 8, slots, 2)), axis=2)
+        line = walk_correlations(records_with(labels=labels))[1:11]
+        noise = [noise_of(np.array(0.5), 500 - lag, independent_labels(slots)) for lag in range(1, 11)]
+        low, high = squares(line.size)
+        assert low < ((line.reshape(10, -1) / np.array(noise)[:, None]) ** 2).sum() < high
+
+
+def test_the_noise_of_a_slow_series_is_bartletts():
+    """Of six series of a time of 10 records, at lags where the correlation itself is gone."""
+    random = np.random.default_rng(22)
+    line = np.array([autoregressive(10, 2000, random)[100:1000:100] for _ in range(300)])
+    noise = noise_of(np.array(integrated(10)), 2000 - np.arange(100, 1000, 100), 6)
+    low, high = squares(line.size)
+    assert low < ((line / noise) ** 2).sum() < high
 
 
 def test_three_hard_samples_of_64_are_seen():
@@ -79,11 +158,13 @@ def test_times_that_are_spread_log_normally():
     epochs = 1200
     found = walk_times(walks(true, epochs, 5))
     short = ~found.is_settled.all(axis=1)
+    # Of a time near a twelfth of the run the greatest of two replicas and the exponential one spread by up to a half.
     assert short[true > 1.6 * epochs / 12].all() and not short[true < 0.5 * epochs / 12].any()
     assert (true > 1.6 * epochs / 12).sum() > 3
     settled = found.is_settled.all(axis=1)
-    ratio = np.log(found.integrated[settled].mean(axis=1) / [integrated(time) for time in true[settled]])
-    assert abs(np.median(ratio)) < 0.05 and ratio.std() < 0.25
+    away = ((found.integrated - np.array([[integrated(time)] for time in true])) / found.error)[settled]
+    share, low = (away < 0).mean(), normal_bound() * 0.5 / away.size ** 0.5
+    assert abs(share - 0.5) < low + 0.04 and abs((abs(away) < 1).mean() - 0.6827) < 0.1 + low
 
 
 def autoregressive(time, epochs, random):
@@ -95,25 +176,39 @@ def autoregressive(time, epochs, random):
     return fft.irfft(power, 2 * epochs)[:epochs] / np.arange(epochs, 0, -1)
 
 
-@pytest.mark.parametrize("time, lengths, error, deviation", [(6, 25, 0.5, 1.5), (30, 25, 0.5, 1.5), (6, 100, 0.22, 1.3), (30, 100, 0.22, 1.3)])
-def test_times_of_autoregressive_series(time, lengths, error, deviation):
-    """The median is right to within 5 %; the error of a time is too small where the run is short, by at most so many deviations."""
+@pytest.mark.parametrize("time, lengths, bias", [(6, 12, 0.12), (6, 25, 0.07), (30, 25, 0.07), (6, 100, 0.04), (30, 100, 0.04)])
+def test_times_of_autoregressive_series(time, lengths, bias):
+    """Series of Gaussian values, six for each time, with the correlation 1 at lag 0 as that of labels has."""
     random, true = np.random.default_rng(8), integrated(time)
-    found = np.array([integrated_time(autoregressive(time, lengths * time, random), 12) for _ in range(2000 if time < 30 else 500)])
-    away = (found[:, 0] - true) / found[:, 1]
-    assert abs(np.median(found[:, 0]) / true - 1) < 0.05 and 0.8 < away.std() < deviation
-    assert math.sqrt(np.mean((found[:, 0] / true - 1) ** 2)) < error
+    lines = [autoregressive(time, lengths * time, random) for _ in range(2000 if time < 30 else 500)]
+    found = np.array([integrated_time(line / line[0], 6) for line in lines])
+    stands(found[:, 0], found[:, 1], true, bias)
+    # U. Wolff's window, which balances what is cut off and the noise, spreads as much or more.
+    other = np.array([of_wolffs_window(line / line[0], 6) for line in lines])
+    assert np.mean((found[:, 0] - true) ** 2) < 1.1 * np.mean((other - true) ** 2)
+
+
+def of_wolffs_window(line, independent):
+    times = np.cumsum(line) - 0.5
+    with np.errstate(divide="ignore", invalid="ignore"):
+        decay = np.where(times > 0.5, 1.5 / np.log((2 * times + 1) / (2 * times - 1)), 1e-9)
+    lags = np.arange(1, len(line))
+    enough = np.flatnonzero(np.exp(-lags / decay[1:]) < decay[1:] / np.sqrt(lags * len(line) * independent))
+    return times[1 + enough[0]]
 
 
 def test_autoregressive_times_that_are_spread_log_normally():
     """Of settled samples the times are right in the median, and spread no more than their errors and the limit explain."""
     random, epochs = np.random.default_rng(9), 2000
     true = np.maximum(np.exp(random.normal(3, 0.8, 400)), 3)
-    found = np.array([integrated_time(autoregressive(time, epochs, random), 12) for time in true])
+    lines = [autoregressive(time, epochs, random) for time in true]
+    found = np.array([integrated_time(line / line[0], 6) for line in lines])
     settled = epochs >= 12 * found[:, 0]
-    ratio = np.log(found[:, 0] / [integrated(time) for time in true])[settled]
+    away = ((found[:, 0] - [integrated(time) for time in true]) / found[:, 1])[settled]
     assert settled[true < epochs / 50].all() and settled.mean() > 0.95
-    assert abs(np.median(ratio)) < 0.03 and ratio.std() < 0.3
+    # In errors of their own: the median to within its own error, that of a sign test, and a tenth; the spread to within a fifth.
+    share, low = (away < 0).mean(), normal_bound() * 0.5 / len(away) ** 0.5
+    assert abs(share - 0.5) < low + 0.04 and abs((abs(away) < 1).mean() - 0.6827) < 0.1 + low
 
 
 def test_walks_that_are_gone_within_a_record_have_an_integrated_time_alone():

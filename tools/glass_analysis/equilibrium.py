@@ -1,11 +1,12 @@
 """Whether a run is equilibrated: parts of it that double, sample by sample, and two runs that meet from both sides."""
 from __future__ import annotations
 
+from functools import lru_cache
 from typing import List, NamedTuple, Optional, Sequence, Tuple
 
 import numpy as np
 from numpy.typing import NDArray
-from scipy import stats
+from scipy import optimize, stats
 
 from make_tables import Refusal
 
@@ -125,16 +126,27 @@ def last_movers(reports: Sequence[Parts], slot: int, moment: int, count: int = 1
                          count)
 
 
-def greatest_expected(samples: int, shorter: float) -> float:
-    """How far the farthest of so many samples is by chance alone, in errors from pieces of two parts: it is beyond this
-    in one study of two.
+def chance_beyond(bound: float, shorter: float) -> float:
+    """The probability that a sample's distance is by chance beyond a bound, in errors from pieces of two parts, one of which
+    is so many times as long as the other: 2 for parts that double, 1 for parts of two runs.
 
-    One part is so many times as long as the other, whose mean has that many times the variance: 2 for parts that double,
-    1 for parts of two runs. Student's distribution, with the degrees of freedom of both variances
-    (B. L. Welch, Biometrika 34, 28 (1947)).
+    Means over pieces are taken as Gaussian, so those of the shorter part have s times the variance of the longer one's. The
+    two variances that are measured have chi-squares of f = PIECES - 1 degrees of freedom. Their sum, of 2 f degrees, is
+    independent of the longer part's share b in it, which has the beta distribution of f / 2 and f / 2. So the distance is
+    Student's t of 2 f degrees times the root of (1 + s) / (2 (b + s (1 - b))).
     """
-    freedom = (1 + shorter) ** 2 / (1 + shorter ** 2) * (PIECES - 1)
-    return float(stats.t.isf((1 - 0.5 ** (1 / samples)) / 2, freedom))
+    half = (PIECES - 1) / 2
+    nodes, weights = np.polynomial.legendre.leggauss(64)
+    share = (1 + nodes) / 2
+    wider = np.sqrt(2 * (share + shorter * (1 - share)) / (1 + shorter))
+    return float(weights / 2 * stats.beta.pdf(share, half, half) @ (2 * stats.t.sf(bound * wider, 4 * half)))
+
+
+@lru_cache(maxsize=None)
+def greatest_expected(samples: int, shorter: float) -> float:
+    """How far the farthest of so many samples is by chance alone: it is beyond this in one study of two."""
+    single = 1 - 0.5 ** (1 / samples)
+    return float(optimize.brentq(lambda bound: chance_beyond(bound, shorter) - single, 0, 1e6))
 
 
 class Meeting(NamedTuple):
