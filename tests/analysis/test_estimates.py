@@ -4,6 +4,7 @@ import math
 import numpy as np
 import pytest
 from analyse_test import acceptance as acceptance_by_rows
+from chances import normal_bound, student_bound
 from analyse_test import text_of_lines
 from make_tables import Refusal
 from scipy import stats
@@ -98,9 +99,11 @@ def test_the_specific_heat_is_that_of_short_runs_too():
     records = records_with(energies=energies)
     wanted = beta ** 2 * bonds / 64 / math.cosh(beta) ** 2
     value, error = jackknife(blocks([energy_moments(records)]), lambda means: specific_heat(means, [beta], 64))
-    assert abs(value[0] - wanted) < 3 * error[0] and error[0] < wanted / 100
+    # By 8192 samples the error is a normal one. Each has 16 energies: the variance of their variance is 2 / 15 of its square.
+    bound = normal_bound(2)
+    assert abs(value[0] - wanted) < bound * error[0] and bound * error[0] < wanted / 20
     of_its_own_mean = beta ** 2 / 64 * energies.var(axis=(0, 3)).mean()
-    assert of_its_own_mean == pytest.approx(wanted * 15 / 16, rel=0.02)
+    assert of_its_own_mean == pytest.approx(wanted * 15 / 16, rel=bound * math.sqrt(2 / 15 / 8192))
 
 
 @pytest.mark.parametrize("memory", [0.0, 0.5, 0.9])
@@ -161,27 +164,67 @@ def test_blocks_of_one_report_are_of_equal_size():
             blocks([values], count)
 
 
-def chain(chances, epochs, seed):
-    """Walks of 8 samples, in which pair k trades with its own chance whenever it has its turn."""
+def chain(chances, epochs, seed, samples=8):
+    """Walks of some samples, in which pair k trades with its own chance whenever it has its turn."""
     random, slots = np.random.default_rng(seed), len(chances) + 1
-    labels = np.tile(np.arange(slots, dtype=np.int8)[:, None], (8, 1, 2))
-    found = np.empty((epochs, 8, slots, 2), np.int8)
+    labels = np.tile(np.arange(slots, dtype=np.int8)[:, None], (samples, 1, 2))
+    found = np.empty((epochs, samples, slots, 2), np.int8)
     for epoch in range(epochs):
         found[epoch] = labels
         for pair in range(epoch % 2, slots - 1, 2):
-            trade = random.random((8, 2)) < chances[pair]
+            trade = random.random((samples, 2)) < chances[pair]
             one, other = labels[:, pair].copy(), labels[:, pair + 1].copy()
             labels[:, pair], labels[:, pair + 1] = np.where(trade, other, one), np.where(trade, one, other)
     return records_with(labels=found)
 
 
+def known_share(chances, epochs):
+    """The share from the hottest slot that so many epochs of `chain` have in the mean: each label walks by itself, so its
+    probability to be in a slot and to come from an end goes from epoch to epoch by a matrix."""
+    slots = len(chances) + 1
+    # By label, slot, and where it comes from: the hottest slot, the coldest one, or neither yet.
+    now, total = np.zeros((slots, slots, 3)), np.zeros((slots, 2))
+    now[np.arange(slots), np.arange(slots), 2] = 1
+    for epoch in range(epochs):
+        for place, end in ((slots - 1, 0), (0, 1)):
+            arrived = now[:, place].sum(axis=-1)
+            now[:, place] = 0
+            now[:, place, end] = arrived
+        total += now[..., :2].sum(axis=0)
+        for pair in range(epoch % 2, slots - 1, 2):
+            moved = chances[pair] * (now[:, pair + 1] - now[:, pair])
+            now[:, pair] += moved
+            now[:, pair + 1] -= moved
+    return total[:, 0] / total.sum(axis=-1)
+
+
+def steady_rises(chances):
+    """What the share rises by from slot to slot in the steady state, but for a factor.
+
+    In each epoch in which pair k has its turn p_k times the rise is the current J, one for all pairs. Between two turns of pair k
+    an inner slot gives on to one neighbour what it got from the other, so its share is J less in one of two epochs. In the
+    mean over all epochs it rises by J (1 / p - 1), by J (1 / p - 1 / 2) beside an end, whose share is 0 or 1 at all times.
+    """
+    inner = np.ones(len(chances))
+    inner[[0, -1]] = 0.5
+    return 1 / chances - inner
+
+
 def test_the_share_from_the_hottest_slot_rises_as_the_resistances():
-    """In the steady state as many come through each pair, p_k (f_k+1 - f_k) is one for all, so f rises by 1 / p_k."""
+    chances, epochs = np.array([0.4, 0.4, 0.04, 0.4, 0.2]), 3000
+    wanted, steady = known_share(chances, epochs), np.concatenate([[0], np.cumsum(steady_rises(chances))])
+    # The rest is of the beginning.
+    assert np.allclose(wanted, steady / steady[-1], atol=2e-3)
+    value, error = jackknife(downward_counts(chain(chances, epochs, 1, 32)).astype(float), downward_share)
+    assert value[0] == 0 and value[-1] == 1
+    assert (abs(value - wanted)[1:-1] < student_bound(31, 4) * error[1:-1]).all() and (error < 0.01).all()
+
+
+def test_the_acceptance_of_pairs_that_trade_with_known_chances():
     chances = np.array([0.4, 0.4, 0.04, 0.4, 0.2])
-    share = downward_share(downward_counts(chain(chances, 12000, 1)).sum(axis=0))
-    wanted = np.concatenate([[0], np.cumsum(1 / chances)]) / (1 / chances).sum()
-    assert share[0] == 0 and share[-1] == 1 and np.allclose(share, wanted, atol=0.04)
-    assert acceptance([chain(chances, 3000, 2)]).value == pytest.approx(chances, rel=0.1)
+    # Each of 16 replicas tries a pair in every second epoch, the last one of which isn't seen.
+    error = np.sqrt(chances * (1 - chances) / (16 * 1500))
+    assert (abs(acceptance([chain(chances, 3001, 2)]).value - chances) < normal_bound(5) * error).all()
 
 
 def test_feedback_puts_temperatures_where_walks_are_slow():

@@ -63,15 +63,21 @@ def test_the_length_of_a_known_shape(noise):
     assert are_distances(away, 15)
 
 
-def test_what_the_cut_leaves_out_is_told():
-    shape = np.concatenate([[1], aging_shape(3, np.arange(1.0, 17))])
-    found = coherence_length(noisy(shape, 0.003, 16, 1), 32)
-    steps = np.arange(1, 17)
-    inner, outer = steps[:found.cut], steps[found.cut:]
-    without = inner ** 2 @ shape[inner] / (inner @ shape[inner])
-    whole = steps ** 2 @ shape[steps] / (steps @ shape[steps])
-    assert len(outer) and found.tail == pytest.approx(whole - without, rel=0.3) and found.tail > 0
-    assert found.nearer < 0 or abs(found.nearer) < 3 * found.length.error
+@pytest.mark.parametrize("noise", [0.001, 0.003, 0.01])
+def test_what_the_cut_leaves_out_is_told(noise):
+    """Of blocks whose mean is the shape itself, both changes are exact."""
+    far = np.arange(1.0, 200)
+    shape = np.concatenate([[1], aging_shape(3, far)])
+    parts = noisy(shape[:17], noise, 16, 1)
+    parts += shape[:17] - parts.mean(axis=0)
+    found = coherence_length(parts, 32)
+
+    def summed(cut):
+        return far[:cut] ** 2 @ shape[1:cut + 1] / (far[:cut] @ shape[1:cut + 1])
+
+    whole = far ** 2 @ shape[1:] / (far @ shape[1:])
+    assert found.length.value == pytest.approx(whole) and found.tail == pytest.approx(whole - summed(found.cut)) and found.tail > 0
+    assert found.nearer == pytest.approx(0, abs=1e-9)
 
 
 def free_field(side, length):

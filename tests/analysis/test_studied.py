@@ -6,15 +6,17 @@ import tracemalloc
 
 import numpy as np
 import pytest
+from chances import student_bound
 from long_run_folder import digest_of
 from make_tables import outcome
-from test_estimates import chain, records_with
+from test_estimates import chain, known_share, records_with, steady_rises
 from test_walk_times import walks
 from written import text_of_records, write_run
 
 import estimate
 import manifest
-from glass_analysis import of_each_report, read_report
+from glass_analysis import jackknife, of_each_report, read_report
+from glass_analysis.walks import downward_counts, downward_share
 
 
 def call(*words):
@@ -54,17 +56,28 @@ def test_one_temperature_has_no_walk_and_each_sample_its_series(tmp_path):
     assert "one temperature has no walk" in out and out.splitlines()[-1].split()[3] == "4/4"
 
 
+def placed_by_hand(temperatures, share):
+    """Equal steps along the sum of the roots of what the share rises by."""
+    along = np.concatenate([[0], np.cumsum(np.sqrt(np.diff(share)))])
+    return np.interp(np.linspace(0, along[-1], len(temperatures)), along, temperatures)
+
+
 def test_feedback_of_a_slow_pair(tmp_path):
     """Pair 1 trades a tenth as often, so the temperatures move to it."""
-    records = chain(np.array([0.5, 0.05, 0.5, 0.5]), 4000, 3)
+    chances, temperatures, epochs = np.array([0.5, 0.05, 0.5, 0.5]), np.array([1, 1.2, 1.5, 1.9, 2.4]), 2000
+    records = chain(chances, epochs, 3, 32)
     energies = np.broadcast_to(4 * np.array([-30, -25, -20, -15, -10])[:, None], (*records.labels.shape[:3], 2))
     (tmp_path / "r.txt").write_text(text_of_records(records_with(labels=records.labels, energies=energies)))
-    status, out, err = call("walks", tmp_path / "r.txt", "--run", write_run(tmp_path, [1, 1.2, 1.5, 1.9, 2.4]), "--feedback")
+    status, out, err = call("walks", tmp_path / "r.txt", "--run", write_run(tmp_path, temperatures), "--feedback")
     assert (status, err) == (0, "") and "warning" not in out
     placed = [float(text) for text in re.search("optimised by feedback: (.*)", out)[1].split()]
-    # The roots of 1 / p along the pairs: 1.41, 4.47, 1.41, 1.41, and four equal steps of 2.18.
-    assert placed == pytest.approx([1, 1.2 + 0.3 * (2.178 - 1.414) / 4.472, 1.2 + 0.3 * (4.355 - 1.414) / 4.472,
-                                    1.5 + 0.4 * (6.533 - 5.886) / 1.414, 2.4], abs=0.08)
+    wanted = placed_by_hand(temperatures, known_share(chances, epochs))
+    # In the steady state the rises are 1.5, 19, 1 and 1.5: their roots add up to 7.808, four steps of 1.952.
+    assert steady_rises(chances) == pytest.approx([1.5, 19, 1, 1.5])
+    assert wanted == pytest.approx([1, 1.2 + 0.3 * (1.952 - 1.225) / 4.359, 1.2 + 0.3 * (3.904 - 1.225) / 4.359,
+                                    1.5 + 0.4 * (5.856 - 5.584), 2.4], abs=2e-3)
+    error = jackknife(downward_counts(records).astype(float), lambda counts: placed_by_hand(temperatures, downward_share(counts))).error
+    assert (abs(placed - wanted)[1:-1] < student_bound(31, 3) * error[1:-1]).all() and (error < 0.02).all()
     assert placed[0] == 1 and placed[-1] == 2.4 and "of even acceptance: 1 " in out
 
 
