@@ -113,6 +113,13 @@ def chi_square(found: Sequence[Tuple[float, int]]) -> Tuple[float, int, float]:
     return total, degrees, float(stats.chi2.sf(total, degrees))
 
 
+def beside_one(ours: Sequence[Estimate], known: Known) -> Tuple[float, int]:
+    """The probability that several values are as far from one number, whose error they have in common, and how many they are."""
+    apart = np.array([float(one.value) - known.value for one in ours])
+    covariance = np.diag([float(one.error) ** 2 for one in ours]) + known.error ** 2
+    return float(stats.chi2.sf(apart @ np.linalg.solve(covariance, apart), len(apart))), len(apart)
+
+
 def halves(runs: Runs) -> float:
     """The probability that first and second halves differ as much as they do by chance: a run that was equilibrated
     before its first half has none of it left."""
@@ -220,17 +227,20 @@ def print_reference(folder: Path) -> None:
         print(f"\nThe least of these probabilities is {min(found):.3f}.")
 
 
-def published(what: str, known: Known, ours: Estimate, runs: int) -> float:
+def published(what: str, known: Known, ours: Estimate, runs: int, places: int = 5) -> float:
     """Prints a row, and answers its probability."""
     away = distance(ours, known)
-    print(f"| {what} | {spelled(known.value, 5)} ± {spelled(known.error, 5)} | {spelled(float(ours.value), 5)} "
+    print(f"| {what} | {spelled(known.value, places)} ± {spelled(known.error, places)} | {spelled(float(ours.value), 5)} "
           f"| {spelled(float(ours.error), 5)} | {runs} | {away:+.2f} | {chance(away, runs):.2f} |")
     return chance(away, runs)
 
 
-def print_published(folder: Path) -> None:
+def print_published(folder: Path) -> List[Tuple[float, int]]:
+    """The rows of published numbers, and by number its probability and how many values of ours stand beside it."""
     head("what", "published", "measured", "error", "runs", "in errors", "probability")
     chances: List[float] = []
+    numbers: List[Tuple[float, int]] = []
+    ratios: List[Estimate] = []
     sizes = {size: read_runs(folder, f"critical_{size}") for size in (8, 12, 16, 24)}
     energies = {size: deviation(runs.whole[:, 0]) for size, runs in sizes.items() if runs is not None}
     for size, energy in energies.items():
@@ -240,22 +250,29 @@ def print_published(folder: Path) -> None:
     are_known = {size: energy for size, energy in energies.items() if len(sizes[size].whole) >= ENOUGH}  # type: ignore[union-attr]
     if len(are_known) > 2:
         limit, square = at_infinity(list(are_known), list(are_known.values()))
-        chances.append(published("the same of the infinite lattice, from these", CRITICAL_ENERGY, limit, ENOUGH))
+        fewest = min(len(sizes[size].whole) for size in are_known)  # type: ignore[union-attr]
+        chances.append(published("the same of the infinite lattice, from these", CRITICAL_ENERGY, limit, fewest, 7))
+        numbers.append((chances[-1], 1))
         print(f"| chi-square of that fit, with {len(are_known) - 3} degrees of freedom | | {square:.2f} | | | | |")
     for size in (4, 6, 8, 12):
         found = read_runs(folder, f"binder_{size}")
         if found is not None:
-            chances.append(published(f"Binder ratio at T = 1.1019, size {size}", BINDER, jackknife(found.whole, binder), len(found.whole)))
+            ratios.append(jackknife(found.whole, binder))
+            chances.append(published(f"Binder ratio at T = 1.1019, size {size}", BINDER, ratios[-1], len(found.whole)))
+    if ratios:
+        numbers.append(beside_one(ratios, BINDER))
     for size, known in GROUND.items():
         found = read_runs(folder, f"ground_{size}")
         if found is not None:
             energy = Estimate(*(part[0] for part in deviation(found.whole)))
             chances.append(published(f"mean ground-state energy per site, size {size}", known, energy, len(found.whole)))
+            numbers.append((chances[-1], 1))
             print(f"| samples of size {size} whose least energy one replica alone has seen | | {spelled(found.whole[:, 1].mean(), 5)} "
                   "| | | | |")
     if chances:
         print(f"\nOf the {len(chances)} numbers with a published one beside them the least probability is {min(chances):.2f}; "
               f"the least of so many is as small by chance with probability {1 - (1 - min(chances)) ** len(chances):.2f}.")
+    return numbers
 
 
 def print_runs(folder: Path) -> None:
@@ -282,7 +299,11 @@ def print_all(folder: Path) -> None:
         total, degrees, chance = chi_square(found)
         print(f"\nChi-square of all exact numbers: {total:.1f} with {degrees} degrees of freedom, probability {chance:.3f}.")
     print_reference(folder)
-    print_published(folder)
+    published_ones = print_published(folder)
+    if found and published_ones:
+        total, degrees, chance = chi_square(found + published_ones)
+        print(f"\nAll numbers together, exact and published: chi-square {total:.1f} with {degrees} degrees of freedom, probability "
+              f"{chance:.3f}.")
     print_runs(folder)
 
 

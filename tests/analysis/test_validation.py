@@ -5,6 +5,7 @@ from pathlib import Path
 
 import numpy as np
 import pytest
+from chances import CHANCE
 from scipy import stats
 
 FOLDER = Path(__file__).resolve().parent.parent.parent / "examples" / "validation"
@@ -29,7 +30,7 @@ def studies(count, number):
 
 def test_the_probability_of_exact_means_is_uniform_where_values_follow_each_other_and_runs_are_few():
     chances = [compare.probability(values, KNOWN) for values in studies(700, 12)]
-    assert stats.kstest(chances, "uniform").pvalue > 0.01
+    assert stats.kstest(chances, "uniform").pvalue > CHANCE
     # Squares of distances in errors, summed as if the values were independent, are no chi-square with three degrees.
     sums = [sum(compare.distance(Estimate(*(part[n] for part in compare.deviation(values))), compare.Known(KNOWN[n])) ** 2 for n in range(3))
             for values in studies(700, 12)]
@@ -57,7 +58,7 @@ def test_probabilities_are_joined_by_their_chi_squares():
     assert compare.chi_square(list(zip(chances, [4, 9]))) == pytest.approx((10.5, 13, stats.chi2.sf(10.5, 13)))
     random = np.random.default_rng(3)
     joined = [compare.chi_square([(random.random(), 4), (random.random(), 9), (random.random(), 1)])[2] for _ in range(700)]
-    assert stats.kstest(joined, "uniform").pvalue > 0.01
+    assert stats.kstest(joined, "uniform").pvalue > CHANCE
 
 
 def test_parts_whose_runs_have_couplings_in_common_are_one_study():
@@ -68,11 +69,24 @@ def test_parts_whose_runs_have_couplings_in_common_are_one_study():
         parts = [common + 0.3 * random.normal(size=(20, 1)), common[:15] + 0.3 * random.normal(size=(15, 1))]
         chances.append(compare.probability(compare.beside(parts), [0, 0]))
         apart.append(compare.chi_square([(compare.probability(values, [0]), 1) for values in parts])[2])
-    assert stats.kstest(chances, "uniform").pvalue > 0.01 and stats.kstest(apart, "uniform").pvalue < 1e-4
+    assert stats.kstest(chances, "uniform").pvalue > CHANCE and stats.kstest(apart, "uniform").pvalue < 1e-4
 
 
 def test_a_distance_has_both_errors():
     assert compare.distance(Estimate(np.array(1.5), np.array(0.3)), compare.Known(1.0, 0.4)) == pytest.approx(1)
+
+
+def test_values_beside_one_number_have_its_error_in_common():
+    random, errors = np.random.default_rng(6), np.array([0.5, 0.5, 1.0])
+    chances, apart = [], []
+    for _ in range(2000):
+        known = compare.Known(float(random.normal(0, 1.5)), 1.5)
+        ours = [Estimate(np.array(random.normal(0, error)), np.array(error)) for error in errors]
+        chances.append(compare.beside_one(ours, known)[0])
+        apart.append(stats.chi2.sf(sum(compare.distance(one, known) ** 2 for one in ours), 3))
+    assert stats.kstest(chances, "uniform").pvalue > CHANCE and stats.kstest(apart, "uniform").pvalue < 1e-4
+    one = Estimate(np.array(2.0), np.array(0.5))
+    assert compare.beside_one([one], compare.Known(1.0, 1.2)) == (pytest.approx(2 * stats.norm.sf(1 / 1.3)), 1)
 
 
 @pytest.mark.parametrize("sizes", [(8, 12, 16), (8, 12, 16, 24)])
