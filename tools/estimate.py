@@ -40,7 +40,7 @@ from typing import Optional, Sequence
 
 sys.dont_write_bytecode = True
 from exit_status import status_of  # noqa: E402
-from make_tables import OneLineParser, Refusal, add_temperatures  # noqa: E402
+from make_tables import OneLineParser, Refusal  # noqa: E402
 from run_temperatures import add_run  # noqa: E402
 
 NEEDED = "numpy, scipy and matplotlib are needed: sudo apt-get install python3-numpy python3-scipy python3-matplotlib"
@@ -92,7 +92,7 @@ def parser_of_words() -> argparse.ArgumentParser:
         if command not in ("times", "export"):
             words.add_argument("--blocks", type=int, metavar="K", help="of one file: the number of blocks of its samples")
             words.add_argument("--plot", metavar="FILE", help="write a figure: .png, .svg or .pdf")
-        add_run(add_temperatures(words))
+        add_run(words)
         add_own_words(command, words)
     return parser
 

@@ -11,11 +11,14 @@ from glass_analysis.export import Hdf5File, write_csv, write_npz
 from long_run_folder import Value
 from make_tables import Refusal
 from manifest import read_manifest
+from run_temperatures import check_run
 
 
 def lengths(options: argparse.Namespace) -> None:
     states = read_lines(options.reports)
     slots, first = Slots(options, states[0].slots), states[0]
+    if options.run:
+        check_run(options.run, first.name, size=first.size, samples=first.samples)
     parts = blocks([axis_correlations(state) for state in states], slots.blocks)
     link, correlation = jackknife(parts, link_overlap), jackknife(parts)
     title = first.name if slots.files == 1 else f"{slots.files} files"

@@ -9,22 +9,14 @@ from glass_analysis import of_each_report
 from glass_analysis.errors import uncertainty
 from glass_analysis.reports import Records
 from long_run_folder import digest_of
-from make_tables import Refusal, inverse_temperatures
+from make_tables import Refusal
 from manifest import Study, study_of
 from report_errors import few_blocks
-from run_temperatures import rule_table, run_betas
+from run_temperatures import check_run, rule_table, run_betas
 
 Taken = TypeVar("Taken")
 NOTE = """note: the error is over the disorder: the samples of one run share each random number.
       Several reports, of other seeds, have the whole error."""
-
-
-def betas_of(options: argparse.Namespace) -> Optional[List[float]]:
-    """The inverse temperatures that a run file tells, or that were typed."""
-    if options.run:
-        return run_betas(options.run)
-    typed = inverse_temperatures(options)
-    return [float(beta) for beta in typed] if typed else None
 
 
 def check_table(run_file: str, study: Study) -> None:
@@ -38,18 +30,16 @@ class Slots:
     """The number of files that a command line names, and what their slots are called."""
 
     def __init__(self, options: argparse.Namespace, slots: int) -> None:
-        self.betas = betas_of(options)
+        self.betas = run_betas(options.run) if options.run else None
         self.files = len(options.reports)
         self.blocks: Union[int, Sequence[int], None] = options.blocks
         if self.blocks is not None and self.files > 1:
             raise Refusal("of several files each is a block: --blocks is for one")
         if self.betas and len(self.betas) != slots:
             raise Refusal(f"{len(self.betas)} temperatures, and there are {slots} slots")
-        self.head = "beta" if options.betas else "T" if self.betas else ""
-        self.names: List[str] = (options.betas or options.temperatures
-                                 or [f"{1 / beta:.6g}" if beta else "inf" for beta in self.betas or []] or [""] * slots)
+        self.head, self.axis = ("T", "temperature") if self.betas else ("", "slot")
+        self.names = [f"{1 / beta:.6g}" if beta else "inf" for beta in self.betas or []] or [""] * slots
         self.across = [float(name) for name in self.names] if self.betas else [float(slot) for slot in range(slots)]
-        self.axis = ("inverse temperature" if options.betas else "temperature") if self.betas else "slot"
 
     def slot(self, number: int) -> int:
         if not 0 <= number < len(self.names):
@@ -127,6 +117,8 @@ class Words:
                 self.run, self.slots = Outline.of(records), Slots(self.options, records.slots)
                 # Of several reports the number of each one's couplings file.
                 self.slots.blocks = self.study.blocks or self.slots.blocks
+                if self.options.run:
+                    check_run(self.options.run, records.name, size=records.size, samples=records.samples, rule=records.rule)
             return take(records)
 
         return of_each_report(self.options.reports, taken, self.options.skip)

@@ -76,6 +76,14 @@ def rule_table(name: str) -> Path:
     return beside if beside.exists() else Path(table)
 
 
+def check_run(name: str, report: str, **found: Value) -> None:
+    """Refuses a report whose first line is not that of a run file: its size, samples and rule, as far as it tells them."""
+    keys = keys_of(name)
+    for key, value in found.items():
+        if keys[key] != value:
+            raise Refusal(f"{report} is no report of {name}: {key} is {value} there, and {keys[key]} in the run file")
+
+
 def run_betas(name: str) -> List[float]:
     """The inverse temperatures of a run file's slots, the coldest first."""
     rule, path = str(keys_of(name)["rule"]), rule_table(name)

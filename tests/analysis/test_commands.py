@@ -6,9 +6,11 @@ from pathlib import Path
 import analyse
 import estimate
 import pytest
-from analyse_test import true_report
-from lines_report_test import text_of_lines, true_lines
+from analyse_test import SAMPLES, true_report
+from lines_report_test import SAMPLES as SAMPLES_OF_LINES
+from lines_report_test import SIZE, text_of_lines, true_lines
 from make_tables import outcome
+from written import write_run
 
 
 @pytest.fixture(scope="module")
@@ -28,7 +30,8 @@ def test_a_figure_and_a_table(reports, command, words):
     picture = reports / f"{command}.png"
     for several in ([1], [1, 2, 3]):
         given = [reports / f"{seed}.txt" for seed in several]
-        status, out, err = call(command, *given, "--temperatures", 1, 1.5, 2, "--plot", picture, *words)
+        run = write_run(reports, [1, 1.5, 2], "metropolis", samples=SAMPLES)
+        status, out, err = call(command, *given, "--run", run, "--plot", picture, *words)
         assert (status, err) == (0, "") and f"wrote {picture}" in out
         assert picture.read_bytes()[:4] == b"\x89PNG"
         assert ("share each random number" in out) == (len(several) == 1)
@@ -49,13 +52,15 @@ def test_a_figure_and_a_table_of_lengths(tmp_path):
         name.write_text(text_of_lines(true_lines(seed)[0]))
     picture = tmp_path / "lengths.png"
     for files in (given[:1], given):
-        status, out, err = call("lengths", *files, "--temperatures", 1, 1.5, "--plot", picture)
+        run = write_run(tmp_path, [1, 1.5], size=SIZE, samples=SAMPLES_OF_LINES)
+        status, out, err = call("lengths", *files, "--run", run, "--plot", picture)
         assert (status, err) == (0, "") and picture.read_bytes()[:4] == b"\x89PNG"
         assert ("share each random number" in out) == (len(files) == 1)
         other = outcome([str(name) for name in files] + ["--temperatures", "1", "1.5"], analyse.main)[1].splitlines()[2:4]
         for mine, theirs in zip(out.splitlines()[2:4], other):
             assert mine.split()[:4] == theirs.split()[:4] and " no length: " in mine
-    for words in ([given[0], given[0]], [given[0], "--blocks", 2], [tmp_path / "none"], [given[0], "--temperatures", 1]):
+    for words in ([given[0], given[0]], [given[0], "--blocks", 2], [tmp_path / "none"], [given[0], "--temperatures", 1, 1.5],
+                  [given[0], "--run", write_run(tmp_path, [1, 1.5, 2], size=SIZE, samples=SAMPLES_OF_LINES)]):
         assert call("lengths", *words)[0] == 2
 
 

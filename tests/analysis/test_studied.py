@@ -68,7 +68,7 @@ def test_feedback_of_a_slow_pair(tmp_path):
     records = chain(chances, epochs, 3, 32)
     energies = np.broadcast_to(4 * np.array([-30, -25, -20, -15, -10])[:, None], (*records.labels.shape[:3], 2))
     (tmp_path / "r.txt").write_text(text_of_records(records_with(labels=records.labels, energies=energies)))
-    status, out, err = call("walks", tmp_path / "r.txt", "--run", write_run(tmp_path, temperatures), "--feedback")
+    status, out, err = call("walks", tmp_path / "r.txt", "--run", write_run(tmp_path, temperatures, samples=32), "--feedback")
     assert (status, err) == (0, "") and "warning" not in out
     placed = [float(text) for text in re.search("optimised by feedback: (.*)", out)[1].split()]
     wanted = placed_by_hand(temperatures, known_share(chances, epochs))
@@ -165,6 +165,16 @@ def test_temperatures_of_another_table_are_refused(tmp_path):
     write_run(tmp_path, [4, 5.1])
     status, _, err = call("means", *given, "--run", run)
     assert status == 2 and "another rule table" in err
+
+
+@pytest.mark.parametrize("other, told", [({"rule": "metropolis"}, "rule is heat there, and metropolis"), ({"size": 6}, "size is 4 there, and 6"),
+                                         ({"samples": 5}, "samples is 4 there, and 5")])
+def test_temperatures_of_another_run_are_refused_without_a_manifest(tmp_path, other, told):
+    given = report_of_bonds(tmp_path, 1, [0.25, 0.2])
+    for command, *words in (["means"], ["reweight", "--at", "4.5"], ["equilibration"]):
+        assert call(command, given, "--run", write_run(tmp_path, [4, 5]), *words)[0] == 0
+        status, out, err = call(command, given, "--run", write_run(tmp_path, [4, 5], **other), *words)
+        assert (status, out) == (2, "") and told in err
 
 
 def test_several_reports_in_one_file(tmp_path):

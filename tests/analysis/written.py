@@ -18,12 +18,12 @@ def text_of_records(records):
     return out.getvalue() + f"end,{records.until}\n"
 
 
-def write_run(folder, temperatures, rule="metropolis"):
+def write_run(folder, temperatures, rule="heat", size=4, samples=4):
     """A run file of these temperatures and its tables."""
     tables = ["--rules", str(folder / "rules.csv"), "--swaps", str(folder / "swaps.csv")]
     assert outcome([rule, "--temperatures", *map(str, temperatures), *tables], make_tables)[0] == 0
     texts = {"rule": rule, "rules": "rules.csv", "swaps": "swaps.csv", "couplings": "random", "start": "random"}
-    numbers = {"size": 4, "sweeps": 1, "seed": 1, "samples": 1, "epochs": 1, "every": 1}
+    numbers = {"size": size, "sweeps": 1, "seed": 1, "samples": samples, "epochs": 1, "every": 1}
     run = folder / "run.toml"
     run.write_text("".join(f'{key} = "{value}"\n' for key, value in texts.items())
                    + "".join(f"{key} = {value}\n" for key, value in numbers.items()) + "spins = false\n")
