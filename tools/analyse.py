@@ -33,7 +33,7 @@ sys.dont_write_bytecode = True
 from exit_status import status_of  # noqa: E402
 from make_tables import OneLineParser, Refusal, add_temperatures, inverse_temperatures  # noqa: E402
 from manifest import add_run, study_of  # noqa: E402
-from report_errors import deviation, errors_of  # noqa: E402
+from report_errors import deviation, errors_of, print_few  # noqa: E402
 from report_plot import plot_text  # noqa: E402
 
 Header = namedtuple("Header", "size slots samples rule first until")
@@ -296,6 +296,7 @@ def print_comparison(reports, names, head, exact, blocks=None):
         if exact and error:
             line += f" {(mean - exact[slot]) / error:>+9.2f}"
         print(line)
+    print_few(len(set(blocks)) if blocks else len(reports))
 
 
 # ---------------------------------------------------------------- the program

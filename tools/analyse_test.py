@@ -154,6 +154,7 @@ def check_several(checks, caller, reports, records):
         mean, error = statistics.mean(means), statistics.stdev(means) / math.sqrt(len(means))
         wanted = [mean, error, float(exact[slot]), mean - float(exact[slot]), (mean - float(exact[slot])) / error]
         checks.same(f"comparison of slot {slot}", [abs(a - b) < 0.006 for a, b in zip(printed, wanted)], [True] * 5)
+    checks.same("how many blocks an error has", out.splitlines()[-1].split(" blocks")[0], f"errors are over {len(reports)}")
     refused = {"the same rows": [reports[0], reports[1], reports[0]], "of another run": [reports[0], HOTTER_FIRST]}
     for text, given in refused.items():
         status, out, err = caller.call(given)

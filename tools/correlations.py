@@ -26,6 +26,7 @@ sys.dont_write_bytecode = True
 from analyse import deviation, read_each, spelled  # noqa: E402
 from exit_status import status_of  # noqa: E402
 from make_tables import Checks, OneLineParser, Refusal, outcome  # noqa: E402
+from report_errors import few_blocks  # noqa: E402
 
 MOST_SLOTS, MOST_SAMPLES, MOST_TIMES, MOST_SWEEPS = 32, 64, 32, 1000000
 LONGEST_LINE = 80
@@ -132,6 +133,9 @@ def table(groups):
         for group in groups:
             for t, c, error in averaged(group, slot):
                 yield f"{slot:4d} {group[0].wait:8d} {t:8d} {c:10.6f} {spelled(error, 6, 9)} {len(group):5d}"
+    fewest = few_blocks(min(len(group) for group in groups if len(group) > 1) if any(group[1:] for group in groups) else 0)
+    if fewest:
+        yield fewest
 
 
 def draw(groups, path):
@@ -242,6 +246,7 @@ def check_seeds(checks, folder):
     means = [(one + other) / 128 for one, other in values.values()]
     wanted = ["0", "0", "1", f"{statistics.mean(means):.6f}", f"{statistics.stdev(means) / math.sqrt(3):.6f}", "3"]
     checks.same("three seeds", (status, err, out.splitlines()[3].split(), "note:" in out), (0, "", wanted, False))
+    checks.same("how many seeds", "errors are over 3 blocks, and are themselves uncertain by 50%" in out.splitlines()[-1], True)
     Path(names[0]).write_text(BY_HAND.replace("tw=0", "tw=1"))
     out = outcome(names, main)[1]
     checks.same("two waiting times", [line.split()[-1] for line in out.splitlines()[2:6]], ["1", "1", "2", "2"])

@@ -16,6 +16,7 @@ from fractions import Fraction
 from analyse import COUNT, LONGEST_LINE, spelled
 from jackknife import jackknife_error
 from make_tables import Refusal
+from report_errors import print_few
 
 Header = namedtuple("Header", "size slots samples epoch")
 # Sums over samples: their number, A, and for each distance the sum of B over the three directions.
@@ -125,3 +126,4 @@ def print_estimates(files, names, head):
     for slot, (name, blocks) in enumerate(zip(names, slots)):
         print(f"{slot:>4} {name:>10} " + " ".join(f"{spelled(value, 6, 10)} {spelled(error, 6, 9)}"
                                                   for value, error in estimates(blocks, header.size)))
+    print_few(len(slots[0]))

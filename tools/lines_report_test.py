@@ -61,6 +61,7 @@ def check_values(checks, caller, texts, blocks, first):
     status, out, err = caller.call(texts, "--betas", "1.5", "0.75")
     checks.same("status", (status, err), (0, ""))
     checks.same("first line", out.splitlines()[0].endswith(first), True)
+    checks.same("how many blocks", out.splitlines()[-1].split(" blocks")[0] == f"errors are over {len(blocks[0])}", len(blocks[0]) > 1)
     for slot in range(SLOTS):
         printed = out.splitlines()[2 + slot].split()
         checks.same("slot", printed[:2], [str(slot), ("1.5", "0.75")[slot]])

@@ -14,6 +14,12 @@ def few_blocks(count):
             f"take {FEW_BLOCKS} or more for a result")
 
 
+def print_few(count):
+    line = few_blocks(count)
+    if line:
+        print(line)
+
+
 def deviation(values):
     """The standard deviation of a list of values, None of fewer than two."""
     if len(values) < 2:
