@@ -23,6 +23,12 @@ walks          acceptance by pair, round trips through the slots by label, and t
 lengths        of what `glass lines` prints: link overlap and coherence length xi_12 of each slot
 export         the rows as arrays for numpy.load, in an HDF5 file, or as comma-separated text
 
+Of texts of sums over runs by bins of epochs (docs/specification/measure.md), with errors over seeds and over samples:
+
+sums           energy, specific heat, link overlap, susceptibility, xi/L, R12, U4 and its slope of each slot, and P(q)
+bins           the same bin by bin, with the step to the next bin in its own errors: whether a run is equilibrated
+scaling        xi/L, R12 and U4 of several sizes, their crossings, and with --collapse T_c and nu of all sizes together
+
 Errors are jackknife errors. Of several reports, which must differ in their seeds alone, each is a block; those
 whose manifests (tools/manifest.py) name couplings files are one block for each file. Of one report its samples
 are blocks, or --blocks groups of them: they share each random number, so that error is over the disorder
@@ -47,7 +53,10 @@ NEEDED = "numpy, scipy and matplotlib are needed: sudo apt-get install python3-n
 # The module that has each command.
 MODULES = {"means": "estimate_means", "reweight": "estimate_means", "overlaps": "estimate_means",
            "equilibration": "estimate_runs", "bracket": "estimate_runs", "times": "estimate_runs", "walks": "estimate_runs",
-           "lengths": "estimate_files", "export": "estimate_files"}
+           "lengths": "estimate_files", "export": "estimate_files",
+           "sums": "estimate_sums", "bins": "estimate_sums", "scaling": "estimate_sums"}
+# Those of texts of sums over runs, which are no reports.
+OF_SUMS = ("sums", "bins", "scaling")
 
 
 def add_own_words(command: str, words: argparse.ArgumentParser) -> None:
@@ -78,6 +87,21 @@ def add_own_words(command: str, words: argparse.ArgumentParser) -> None:
         words.add_argument("--hdf5", metavar="FILE", help="arrays of all reports, a group each")
 
 
+def add_words_of_sums(command: str, words: argparse.ArgumentParser) -> None:
+    words.add_argument("--run", nargs="+", default=[], metavar="FILE",
+                       help="run files, one for each size, whose rule tables tell the temperatures")
+    words.add_argument("--plot", metavar="FILE", help="write a figure: .png, .svg or .pdf")
+    if command in ("sums", "bins"):
+        words.add_argument("--slot", type=int, nargs="+", default=[], metavar="N",
+                           help="these slots (0)" if command == "bins" else "also P(q) of these slots")
+    if command in ("sums", "scaling"):
+        words.add_argument("--from-bin", type=int, default=0, metavar="K", help="leave out the bins before this one")
+        words.add_argument("--to-bin", type=int, metavar="K", help="leave out the bins behind this one")
+    if command == "scaling":
+        words.add_argument("--collapse", type=float, nargs=2, metavar=("T", "NU"),
+                           help="also a collapse of all sizes, looked for from T_c and nu on")
+
+
 def parser_of_words() -> argparse.ArgumentParser:
     parser = OneLineParser(prog="estimate", description=__doc__, allow_abbrev=False,
                            formatter_class=argparse.RawDescriptionHelpFormatter)
@@ -87,6 +111,9 @@ def parser_of_words() -> argparse.ArgumentParser:
         words.add_argument("reports", nargs="*", default=["-"], metavar="FILE",
                            help="files, or - for standard input (the default)")
         words.set_defaults(blocks=None, plot=None)
+        if command in OF_SUMS:
+            add_words_of_sums(command, words)
+            continue
         if command != "lengths":
             words.add_argument("--skip", type=int, default=0, metavar="EPOCH", help="leave out the epochs before this one")
         if command not in ("times", "export"):
@@ -105,7 +132,7 @@ def main(words: Optional[Sequence[str]] = None) -> int:
         except ImportError:
             raise Refusal(NEEDED) from None
         command = getattr(importlib.import_module(MODULES[options.command]), options.command)
-        if options.command == "lengths":
+        if options.command in ("lengths", *OF_SUMS):
             command(options)
         else:
             from estimate_words import Words

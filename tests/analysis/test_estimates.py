@@ -4,7 +4,7 @@ import math
 import numpy as np
 import pytest
 from analyse_test import acceptance as acceptance_by_rows
-from chances import normal_bound, student_bound
+from chances import normal_bound, squares, student_bound
 from analyse_test import text_of_lines
 from make_tables import Refusal
 from scipy import stats
@@ -49,7 +49,8 @@ def test_the_binder_ratio_is_one_of_a_single_modulus_and_near_zero_of_gaussian_o
     assert binder(moments(records_with(random.choice([-32, 32], (50, 2, 1)))).mean(axis=0)) == pytest.approx(1)
     gaussian = np.rint(random.normal(0, 1e6, (20000, 4, 1))).astype(np.int64)
     value, error = jackknife(blocks([moments(records_with(gaussian))]), binder)
-    assert abs(value) < 0.03
+    # Of n Gaussian values q^4 / q^2^2 has the variance 24 / n.
+    assert abs(value) < normal_bound() * math.sqrt(24 / gaussian.size) / 2
 
 
 def test_the_distribution_is_symmetric_and_normal():
@@ -85,8 +86,10 @@ def test_small_overlaps_of_each_sample_with_errors():
     overlaps[:, 0, 0] = random.choice([48, -20, 32, -32], 4000)
     records = records_with(overlaps=overlaps)
     value, error = below(records, 0, 0.5), below_errors(records, 0, 0.5)
-    assert value[1] == error[1] == 0 and abs(value[0] - 0.25) < 4 * error[0]
-    assert error[0] == pytest.approx(math.sqrt(0.25 * 0.75 / 4000), rel=0.6)
+    # The error is of eight pieces of independent records.
+    low, high = squares(7)
+    assert value[1] == error[1] == 0 and abs(value[0] - 0.25) < student_bound(7) * error[0]
+    assert low < 7 * error[0] ** 2 * 4000 / (0.25 * 0.75) < high
     assert np.isnan(below_errors(records.part(0, 7), 0, 0.5)).all()
 
 
@@ -116,7 +119,7 @@ def test_autocorrelation_times_of_autoregressive_series(memory):
         series[t] = memory * series[t - 1] + noise[t]
     time = autocorrelation_time(series)
     assert time.is_settled
-    assert abs(time.value - (1 + memory) / (1 - memory) / 2) < 4 * time.error
+    assert abs(time.value - (1 + memory) / (1 - memory) / 2) < normal_bound() * time.error
 
 
 def test_the_mean_that_is_taken_off_short_series_is_allowed_for():
@@ -152,8 +155,9 @@ def test_what_samples_have_in_common_shows_over_seeds_alone():
     of_one = np.mean([jackknife(blocks([run.reshape(64, 1)])).error for run in runs])
     whole = np.std([run.mean() for run in runs])
     of_seeds = jackknife(blocks([run.reshape(64, 1) for run in runs])).error[0] * math.sqrt(len(runs))
-    assert of_one == pytest.approx(1 / 8, rel=0.05)
-    assert whole == pytest.approx(math.sqrt(1 / 64 + 1 / 4), rel=0.1) and of_seeds == pytest.approx(whole, rel=0.01)
+    # Deviations of 400 runs are known to a part 1 / sqrt(800), those of 64 samples in each of them far better.
+    assert of_one == pytest.approx(1 / 8, rel=0.02)
+    assert whole == pytest.approx(math.sqrt(1 / 64 + 1 / 4), rel=normal_bound() / math.sqrt(800)) and of_seeds == pytest.approx(whole, rel=0.01)
 
 
 def test_blocks_of_one_report_are_of_equal_size():
@@ -240,7 +244,8 @@ def test_the_bootstrap_of_a_mean_and_of_what_is_not_always_there():
     values = np.random.default_rng(14).normal(3, 1, (100, 1))
     found = bootstrap([values], lambda means: means[0])
     assert found.value == values.mean() and found.missing == 0
-    assert (found.high - found.low) / 2 == pytest.approx(0.1, rel=0.25) and found.low < found.value < found.high
+    # The deviation of 100 values is known to a part 1 / sqrt(198), half of the interval of 1000 resamples to one of 1 / 30.
+    assert (found.high - found.low) / 2 == pytest.approx(0.1, rel=normal_bound() * math.hypot(198 ** -0.5, 1 / 30)) and found.low < found.value < found.high
     half = bootstrap([values], lambda means: means[0] if means[0] > values.mean() else np.nan)
     assert half.missing == pytest.approx(0.5, abs=0.06) and values.mean() < half.low < half.high
     assert bootstrap([values], lambda means: np.nan).missing == 1

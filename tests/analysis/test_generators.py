@@ -1,6 +1,7 @@
 """The independent program over arrays, with the program's generator and with a second one."""
 import numpy as np
 import pytest
+from chances import student_bound
 from make_tables import inverse_temperatures, rule_record, swap_record
 from reference.arrays import Lattice, Philox, Registers, Tempering
 from reference.grid import Tempering as OneSample
@@ -39,4 +40,4 @@ def test_a_second_generator_leads_to_the_exact_energies_of_the_ferromagnet():
     energies, _ = run.records(240, 4)
     by_sample = energies[10:].mean(axis=(0, 3)) / 64
     error = by_sample.std(axis=0, ddof=1) / 8
-    assert (abs(by_sample.mean(axis=0) - exact) < 4 * error).all() and (error < 0.01).all()
+    assert (abs(by_sample.mean(axis=0) - exact) < student_bound(63, 3) * error).all() and (error < 0.01).all()

@@ -106,7 +106,7 @@ def test_reweighted_energies_and_those_out_of_reach(tmp_path):
     assert (status, err) == (0, "") and "errors are over 20 blocks, and are themselves uncertain by 16%\n" in out
     for line, temperature in zip(out.splitlines()[2:4], (4.3, 5)):
         value, error = map(float, line.split()[1:3])
-        assert abs(value + 3 * math.tanh(4 / temperature)) < 4 * error < 0.02
+        assert abs(value + 3 * math.tanh(4 / temperature)) < student_bound(19, 2) * error < 0.03
     status, out, err = call("reweight", *given[:2], "--run", run, "--at", "4.3", "--from-slot", "0")
     assert status == 0 and "take 16 or more" in out
     status, out, err = call("reweight", *given, "--run", run, "--at", "2")
@@ -124,7 +124,7 @@ def test_a_run_from_above_and_one_from_below(tmp_path):
     status, out, err = call("bracket", tmp_path / "up.txt", "--random", tmp_path / "random.txt", "--plot", tmp_path / "x.png")
     assert (status, err) == (0, "") and "wrote " in out
     first, last = (line.split() for line in (out.splitlines()[3], out.splitlines()[9]))
-    assert float(first[-1]) > 10 and abs(float(last[-1])) < 4 and last[1] == "256"
+    assert float(first[-1]) > 10 and abs(float(last[-1])) < student_bound(15) and last[1] == "256"
     assert re.search(r"q\^2: \S+up.txt sample 11 \(\+", out)
 
 

@@ -9,6 +9,7 @@ from pathlib import Path
 import numpy as np
 import pytest
 from analyse_test import text_of_lines, true_report
+from chances import normal_bound, student_bound
 from make_tables import Refusal
 
 EXAMPLES = Path(__file__).resolve().parent.parent.parent / "examples"
@@ -73,7 +74,7 @@ def test_crossings_of_noisy_curves_have_ends_and_no_error_that_is_nan():
         return examples.Size(moments[:, :, None], np.zeros((6, 8, 1)), [])
 
     steep = examples.crossing_of(temperatures, size(0.2), size(0.6))
-    assert steep.missing < 0.01 and steep.low < 1.1 < steep.high and steep.high - steep.low < 0.06
+    assert steep.missing < 0.01 and abs(steep.value - 1.1) < student_bound(47) * (steep.high - steep.low) / 2 < 0.15
     flat = examples.crossing_of(temperatures, size(0.2), size(0.21))
     assert 0 < flat.missing < 1 and math.isfinite(flat.low) and math.isfinite(flat.high)
     assert examples.told(steep).startswith("at T = 1.") and "of the resamples do, between " in examples.told(flat)
@@ -94,4 +95,6 @@ def test_what_samples_have_in_common_is_in_the_distance_alone():
     random = np.random.default_rng(6)
     energies = -1.5 + random.normal(0, 1, (400, 64)) + random.normal(0, 0.5, (400, 1))
     distance, of_samples = study("nishimori_8").squares(energies, -1.5)
-    assert distance == pytest.approx(1 / 64 + 1 / 4, rel=0.2) and of_samples == pytest.approx(1 / 64, rel=0.05)
+    # Squares of 400 distances, and of 400 times 63 within them.
+    rel = [normal_bound(2) * (2 / count) ** 0.5 for count in (400, 400 * 63)]
+    assert distance == pytest.approx(1 / 64 + 1 / 4, rel=rel[0]) and of_samples == pytest.approx(1 / 64, rel=rel[1])

@@ -109,7 +109,7 @@ def test_the_time_of_a_decay_without_noise_is_exact_wherever_it_is_cut():
     lags = np.arange(400)
     for time in (0.3, 2.0, 10.0):
         for independent in (0.05, 0.5, 11, 1e9):
-            assert integrated_time(np.exp(-lags / time), independent)[0] == pytest.approx(integrated(time), rel=2e-3 if independent > 1e3 else 1e-12)
+            assert integrated_time(np.exp(-lags / time), independent)[0] == pytest.approx(integrated(time), rel=1e-12)
 
 
 def test_the_noise_of_labels_is_that_of_one_walk_less_than_there_are():

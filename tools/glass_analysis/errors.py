@@ -4,7 +4,7 @@ B. Efron, The Jackknife, the Bootstrap and Other Resampling Plans, SIAM 1982.
 """
 from __future__ import annotations
 
-from typing import Callable, NamedTuple, Sequence
+from typing import Callable, List, NamedTuple, Sequence
 
 import numpy as np
 from numpy.typing import NDArray
@@ -41,7 +41,12 @@ class Interval(NamedTuple):
 
 
 def bootstrap(groups: Sequence[Numbers], function: Callable[..., Numbers], count: int = 1000, seed: int = 1) -> Interval:
-    """A number that is a function of the means of several independent groups of blocks, which need not always exist.
+    """A number that is a function of the means of several independent groups of blocks, which need not always exist."""
+    return bootstraps(groups, lambda *means: [function(*means)], count, seed)[0]
+
+
+def bootstraps(groups: Sequence[Numbers], function: Callable[..., Sequence[Numbers]], count: int = 1000, seed: int = 1) -> List[Interval]:
+    """Several numbers that are functions of them.
 
     In each of `count` resamples of all groups, with as many blocks as they have, `function` gets the means of each
     group. The interval is from the 16th to the 84th percentile of those resamples that have a value.
@@ -49,10 +54,14 @@ def bootstrap(groups: Sequence[Numbers], function: Callable[..., Numbers], count
     random = np.random.default_rng(seed)
     found = np.array([function(*(group[random.integers(len(group), size=len(group))].mean(axis=0) for group in groups))
                       for _ in range(count)], float)
+    return [interval(float(value), column) for value, column in
+            zip(function(*(group.mean(axis=0) for group in groups)), found.T)]
+
+
+def interval(value: float, found: Numbers) -> Interval:
     known = found[np.isfinite(found)]
     low, high = np.percentile(known, (16, 84)) if len(known) else (np.nan, np.nan)
-    return Interval(float(function(*(group.mean(axis=0) for group in groups))), float(low), float(high),
-                    1 - len(known) / count)
+    return Interval(value, float(low), float(high), 1 - len(known) / len(found))
 
 
 def uncertainty(blocks: int) -> float:

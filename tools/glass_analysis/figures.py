@@ -2,7 +2,7 @@
 from __future__ import annotations
 
 from pathlib import Path
-from typing import Optional, Sequence, Tuple
+from typing import Dict, Optional, Sequence, Tuple
 
 import matplotlib
 
@@ -18,6 +18,7 @@ from .equilibrium import Bin, Meeting  # noqa: E402
 from .errors import Estimate  # noqa: E402
 from .observables import ENERGY, SQUARE  # noqa: E402
 from .reports import Records  # noqa: E402
+from .sums import BinStep  # noqa: E402
 from .walks import positions  # noqa: E402
 
 # Walks that are drawn of longer runs have so many points.
@@ -54,6 +55,30 @@ def overlaps(named: Sequence[Tuple[str, Distribution]]) -> Figure:
         panel.fill_between(middle, density.value - error, density.value + error, alpha=0.3, color=line.get_color())
     panel.set(xlabel="q", ylabel="P(q)", ylim=(0, None))
     panel.legend()
+    return figure
+
+
+def bins(found: Dict[str, Sequence[BinStep]], slots: Sequence[int], names: Sequence[str]) -> Figure:
+    """Figures by the number of the bin, a panel each and a curve for each slot."""
+    figure, panels = plt.subplots(1, len(found), figsize=(3.2 * len(found), 3), layout="constrained", squeeze=False)
+    for panel, (name, steps) in zip(panels[0], found.items()):
+        for slot in slots:
+            panel.errorbar([one.number for one in steps], [one.value.value[slot] for one in steps],
+                           np.nan_to_num([one.value.error[slot] for one in steps]),
+                           label=f"T = {names[slot]}" if names[slot] else f"slot {slot}", **MARKS)
+        panel.set(xlabel="bin of epochs", ylabel=name)
+    panels[0, 0].legend(fontsize=7)
+    return figure
+
+
+def scaling(temperatures: Sequence[float], curves: Dict[str, Dict[int, Estimate]]) -> Figure:
+    """Dimensionless figures by temperature, a panel each and a curve for each size."""
+    figure, panels = plt.subplots(1, len(curves), figsize=(3.4 * len(curves), 3.2), layout="constrained", squeeze=False)
+    for panel, (name, by_size) in zip(panels[0], curves.items()):
+        for size, estimate in by_size.items():
+            panel.errorbar(temperatures, estimate.value, np.nan_to_num(estimate.error), label=f"L = {size}", **MARKS)
+        panel.set(xlabel="temperature", ylabel=name)
+    panels[0, 0].legend(fontsize=7)
     return figure
 
 
