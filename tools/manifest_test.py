@@ -230,8 +230,8 @@ def check_printed(checks: Checks, folder: Path) -> None:
     lines = outcome(names, jackknife.main)[1].splitlines()
     checks.same("jackknife", [*lines[2].split()[1:3], lines[5].split()[1]], wanted)
     checks.same("its numbers", (lines[0], "of 3 4 2 reports" in lines[3]), ("size 8, slots 1, samples 3, blocks 3, rows 9", True))
-    line = outcome(names, analyse.main)[1].splitlines()[-1].split()
-    checks.same("analyse", line[1:4], wanted)
+    line, blocks = outcome(names, analyse.main)[1].splitlines()[-2:]
+    checks.same("analyse", (line.split()[1:4], blocks.split(" blocks")[0]), (wanted, "errors are over 3"))
     one = outcome(names[:3], jackknife.main)[1].splitlines()
     checks.same("one file has no error over the disorder", (one[2].split()[2], one[5].split()[1]), ("-", f"{math.sqrt(squares[0]) / 512:.6f}"))
     write_study(folder, energies, "random")
