@@ -1,7 +1,8 @@
 #!/usr/bin/env python3
 """Holds the prose of pages to sentences of at most 40 words, paragraphs of at most 90, and the field's words.
 
-It holds an entry of docs/decisions to 60 words, and pages that are read at one go to their most kilobytes (LONGEST).
+A sentence of a page for users (SHORT) has at most 30. An entry of docs/decisions is held to 60 words, and a page that is
+read at one go to its most kilobytes (LONGEST).
 
     python3 tools/check_prose.py            the pages that the gate holds: PAGES below
     python3 tools/check_prose.py PAGE ..    other pages, by their paths
@@ -21,6 +22,8 @@ from typing import Iterator, List, NamedTuple, Sequence
 import source_check
 
 MOST_IN_SENTENCE = 40
+# README and manual, which are read by most.
+SHORT, MOST_IN_SHORT = ("README.md", "docs/manual/"), 30
 MOST_IN_PARAGRAPH = 90
 MOST_IN_DECISION = 60
 DECISIONS = "docs/decisions/"
@@ -95,11 +98,12 @@ def faults(name: str, page: str) -> Iterator[str]:
     if name.startswith(WITHOUT_TABLES):
         page = "\n".join("" if line.startswith("|") else line for line in page.splitlines())
     most = MOST_IN_DECISION if name.startswith(DECISIONS) else MOST_IN_PARAGRAPH
+    most_in_sentence = MOST_IN_SHORT if name.startswith(SHORT) else MOST_IN_SENTENCE
     for line, text in paragraphs(page):
         if words(text) > most:
             yield f"{name}:{line}: a paragraph of {words(text)} words: {text[:60]}"
         for sentence in sentences(text):
-            if words(sentence) > MOST_IN_SENTENCE:
+            if words(sentence) > most_in_sentence:
                 yield f"{name}:{line}: a sentence of {words(sentence)} words: {sentence[:60]}"
         yield from (f"{name}:{line}: \"{gone}\"; say {GONE[gone]}" for gone in GONE if gone in text.lower())
 
@@ -130,6 +134,7 @@ def self_test() -> int:
     named = [("page", page, wanted) for page, wanted in cases.items()]
     named.append((WITHOUT_TABLES[0] + "/run.md", f"| {long} |\n\n{long}\n", [3]))
     named += [(DECISIONS + "run.md", f"{half}\n\n{half} {half}\n", [3]), (DECISIONS + "run.md", "a\n\n" * 3500, [1]),
+              ("docs/manual/page.md", f"{half}\n", [1]), ("page", f"{half}\n", []),
               ("README.md", "a\n\n" * 2389, []), ("README.md", "a\n\n" * 2390, [1]), ("page", "a\n\n" * 9000, []),
               ("crates/a/README.md", "a\n\n" * 1025, [1])]
     for name, page, wanted in named:
