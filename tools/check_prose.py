@@ -36,7 +36,7 @@ GONE = {"gone on with": "resumed", "want of memory": "lack of memory", "leavings
         "and so is that of": "two sentences"}
 PAGES = ("README.md", "CONTRIBUTING.md", "CHANGELOG.md", "bench/README.md", "docs/architecture.md", "docs/glossary.md",
          "docs/trust.md", "docs/to_change.md", "docs/proofs.md", "docs/proofs/*.md", "docs/proofs/tried/*.md",
-         "docs/architecture/*.md", "dist/README.md", "tests/README.md",
+         "docs/architecture/*.md", "dist/README.md", "tests/README.md", "examples/*/README.md", "tools/*/README.md",
          "docs/decisions/*.md", "docs/manual/*.md", "docs/specification/*.md", "crates/*/README.md")
 # A cell there has all clauses, definitions or edits of a promise, or a comment of the code: these tables are lists and no prose.
 WITHOUT_TABLES = ("docs/proofs", "crates/")
