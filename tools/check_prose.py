@@ -22,8 +22,8 @@ from typing import Iterator, List, NamedTuple, Sequence
 import source_check
 
 MOST_IN_SENTENCE = 40
-# README and manual, which are read by most.
-SHORT, MOST_IN_SHORT = ("README.md", "docs/manual/"), 30
+# What is read by most.
+SHORT, MOST_IN_SHORT = ("README.md", "CONTRIBUTING.md", "docs/manual/", "docs/trust.md", "docs/to_change.md"), 30
 MOST_IN_PARAGRAPH = 90
 MOST_IN_DECISION = 60
 DECISIONS = "docs/decisions/"
