@@ -40,6 +40,8 @@ PAGES = ("README.md", "CONTRIBUTING.md", "CHANGELOG.md", "bench/README.md", "doc
          "docs/decisions/*.md", "docs/manual/*.md", "docs/specification/*.md", "crates/*/README.md")
 # A cell there has all clauses, definitions or edits of a promise, or a comment of the code: these tables are lists and no prose.
 WITHOUT_TABLES = ("docs/proofs", "crates/")
+# But in a row of four cells the second says what a call promises, and the fourth what it doesn't say.
+WITH_PROMISES = re.compile(r"docs/proofs/(?!source)\w+\.md")
 
 # Where a link leads that has a number in the text.
 TARGET = re.compile(r"\[\d+\]: ")
@@ -75,7 +77,7 @@ def blocks(page: str) -> Iterator[Paragraph]:
         if fence or is_code or is_indented or not line.strip() or line.startswith(("#", "<!--")) or TARGET.match(line):
             continue
         if line.startswith("|"):
-            yield from (Paragraph(number, cell) for cell in re.split(r"(?<!\\)\|", line)[1:-1])
+            yield from (Paragraph(number, cell) for cell in cells_of(line))
             continue
         start = start if held else number
         held.append(re.sub(r"^\s*([-*+]|\d+\.)\s+", "", line) if begins else line.strip())
@@ -94,10 +96,23 @@ def words(text: str) -> int:
     return sum(1 for word in text.split() if re.search(r"\w", word))
 
 
+def cells_of(row: str) -> List[str]:
+    """The cells of a table's row."""
+    return re.split(r"(?<!\\)\|", row)[1:-1]
+
+
+def prose_of(line: str, has_promises: bool) -> str:
+    """A line as prose: of a table's row only what is promised, and what is not said."""
+    if not line.startswith("|"):
+        return line
+    cells = cells_of(line)
+    return f"|{cells[1]}|{cells[3]}|" if has_promises and len(cells) == 4 else ""
+
+
 def faults(name: str, page: str) -> Iterator[str]:
     """What a page has that is too long, and the words that it should not have."""
     if name.startswith(WITHOUT_TABLES):
-        page = "\n".join("" if line.startswith("|") else line for line in page.splitlines())
+        page = "\n".join(prose_of(line, bool(WITH_PROMISES.fullmatch(name))) for line in page.splitlines())
     most = MOST_IN_DECISION if name.startswith(DECISIONS) else MOST_IN_PARAGRAPH
     most_in_sentence = MOST_IN_SHORT if name.startswith(SHORT) else MOST_IN_SENTENCE
     for line, text in paragraphs(page):
@@ -134,6 +149,9 @@ def self_test() -> int:
         f"{long[:100]}. {long[:100]}.\n": [], "1. First\n   and more.\n2. Second.\n": []}
     named = [("page", page, wanted) for page, wanted in cases.items()]
     named.append((WITHOUT_TABLES[0] + "/run.md", f"| {long} |\n\n{long}\n", [3]))
+    row, other = f"| {long} | a | {long} | a |\n", f"| a | {long} | a | {long} |\n"
+    named += [("docs/proofs/run.md", row + other, [2, 2]), ("docs/proofs/source.md", other, []), ("docs/proofs/tried/run.md", other, []),
+              ("crates/a/README.md", other, [])]
     named += [(DECISIONS + "run.md", f"{half}\n\n{half} {half}\n", [3]), (DECISIONS + "run.md", "a\n\n" * 3500, [1]),
               ("docs/manual/page.md", f"{half}\n", [1]), ("page", f"{half}\n", []),
               ("README.md", "a\n\n" * 2389, []), ("README.md", "a\n\n" * 2390, [1]), ("page", "a\n\n" * 9000, []),
