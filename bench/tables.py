@@ -1,8 +1,9 @@
 #!/usr/bin/env python3
-"""Makes the tables of bench/README.md from the measurements in bench/results, and tells how a figure went over time.
+"""Makes the tables of bench/README.md and of other pages (PAGES) from the measurements in bench/results, and tells how
+a figure went over time.
 
-    python3 bench/tables.py --write             the page gets its tables
-    python3 bench/tables.py --check             the page has them, else status 1
+    python3 bench/tables.py --write             the pages get their tables
+    python3 bench/tables.py --check             they have them, and machines their rows, else status 1
     python3 bench/tables.py --show NAME         a file of bench/results as a table, the latest measurements alone
     python3 bench/tables.py --trend NAME        all measurements of the file, case by case in the order of their days
     python3 bench/tables.py --self-test         the tests of this tool
@@ -18,7 +19,7 @@ import csv
 import re
 import sys
 from pathlib import Path
-from typing import Callable, Dict, Iterable, List, NamedTuple, Optional, Sequence, Tuple
+from typing import Callable, Dict, Iterable, List, NamedTuple, Optional, Sequence, Tuple, Union
 
 HERE = Path(__file__).resolve().parent
 sys.path.insert(0, str(HERE.parent / "tools"))
@@ -29,6 +30,7 @@ HEAD = ["machine", "commit", "date", "load", "turns"]
 UNITS = ("min", "s", "ms", "us", "ns", "ps", "mb", "kb", "percent")
 RATIOS = ("ratio", "times", "four_runs_times", "two_workers", "four_workers", "eight_workers", "two_pieces",
           "four_pieces")
+PAGE, CONTRIBUTING, FRONT, COST = PAGES = ("bench/README.md", "CONTRIBUTING.md", "README.md", "docs/manual/speed.md")
 MARK = re.compile(r"(<!-- table (\w+) -->\n)(.*?)(<!-- end -->)", re.DOTALL)
 Row = Dict[str, str]
 
@@ -90,9 +92,64 @@ class Table(NamedTuple):
     across: str
     cell: Callable[[Row], str]
     only: Tuple[Tuple[str, str], ...] = ()
+    page: str = PAGE
 
 
-TABLES = {
+class Listed(NamedTuple):
+    """A table of a page: the rows of a file that have the values `only`, all or the latest, with what the columns say of
+    each under their heads."""
+
+    file: str
+    columns: Tuple[Tuple[Callable[[Row], str], str], ...]
+    only: Tuple[Tuple[str, str], ...] = ()
+    page: str = PAGE
+    is_latest: bool = False
+
+
+class Made(NamedTuple):
+    """A table of a page that a function makes."""
+
+    text: Callable[[], str]
+    page: str
+
+
+def value_of(name: str) -> Callable[[Row], str]:
+    """A cell with what a row has in a column."""
+    return lambda row: row[name]
+
+
+def span(what: str, unit: str) -> Callable[[Row], str]:
+    """A cell with the least and the most of what was measured."""
+
+    def cell(row: Row) -> str:
+        least, most = row[f"{what}_from_{unit}"], row[f"{what}_to_{unit}"]
+        return least if least == most else f"{least} to {most}"
+
+    return cell
+
+
+def least_to_most(values: Sequence[float]) -> str:
+    """Numbers to a tenth, from the least to the greatest."""
+    shown = in_order(f"{value:.1f}" for value in sorted(values))
+    return shown[0] if len(shown) == 1 else f"{shown[0]} to {shown[-1]}"
+
+
+def front_table() -> str:
+    """The speed of whole runs with AVX2 and ten sweeps an epoch, and of four workers, by size."""
+    chosen = (("processor", "x86-64-v3"), ("sweeps", "10"))
+    runs, workers = (latest([row for row in read_results(file) if all(row[key] == value for key, value in chosen)])
+                     for file in ("whole_runs", "workers"))
+    sizes, rules = in_order(row["size"] for row in runs), in_order(row["rule"] for row in runs)
+    of = {(row["rule"], row["size"]): row for row in runs}
+    body = [[rule, *(f"{float(of[rule, size]['ps']):.0f}" for size in sizes)] for rule in rules]
+    body.append(["of a hand-made C++ program's time, by rule", *(", ".join(
+        f"{float(of[rule, size]['glass_ms']) / float(of[rule, size]['cpp_ms']):.2f}" for rule in rules) for size in sizes)])
+    body.append(["four workers, times as fast as one", *(least_to_most(
+        [float(row["times"]) for row in workers if row["size"] == size]) for size in sizes)])
+    return lines_of(["size", *sizes], body)
+
+
+TABLES: Dict[str, Union[Table, Listed, Made]] = {
     "whole_runs": Table("whole_runs", ("processor", "rule", "sweeps"), "size", ratio("glass_ms", "cpp_ms", 0)),
     "workers": Table("workers", ("sweeps",), "size", lambda row: row["times"]),
     "workers_bound": Table("workers", ("sweeps",), "size", lambda row: row["four_runs_times"]),
@@ -101,6 +158,15 @@ TABLES = {
                          (("processor", "x86-64-v3"),)),
     "potts": Table("potts", ("processor",), "size", ratio("glass_ps", "c_ps", 0)),
     "banks": Table("banks", ("processor",), "size", ratio("ms_256", "ms_64", 0)),
+    "gate": Listed("gate", tuple((value_of(name), head) for name, head in (
+        ("date", "day"), ("machine", "machine"), ("processors", "processors"), ("clock_min", "by the clock"),
+        ("all_min", "processor time"), ("proof_min", "proofs"), ("tests_min", "tests"), ("edits_min", "edits"),
+        ("edits", "edits tried"))), (("crates", "all"),), CONTRIBUTING),
+    "run_cost": Listed("run_cost", (
+        (value_of("size"), "size"), (span("metropolis", "ps"), "a by Metropolis, ps"),
+        (span("heat_bath", "ps"), "a by heat bath, ps"), (span("epoch", "us"), "c, microseconds"),
+        (span("start", "s"), "start, seconds")), (), COST, True),
+    "speed": Made(front_table, FRONT),
 }
 
 
@@ -111,8 +177,8 @@ def in_order(values: Iterable[str]) -> List[str]:
 
 def lines_of(header: Sequence[str], rows: Iterable[Sequence[str]]) -> str:
     """A table of the page's markup."""
-    lines = [header, ["---"] * len(header), *rows]
-    return "".join(f"| {' | '.join(line)} |\n" for line in lines)
+    lines = [f"| {' | '.join(line)} |\n" for line in (header, *rows)]
+    return lines[0] + "|" + "---|" * len(header) + "\n" + "".join(lines[1:])
 
 
 def page_table(table: Table, rows: Sequence[Row]) -> str:
@@ -127,16 +193,30 @@ def page_table(table: Table, rows: Sequence[Row]) -> str:
     return lines_of([*table.keys, *(f"{table.across} {column}" for column in columns)], body)
 
 
-def with_tables(page: str) -> str:
-    """The page with each marked table as it is made; refuses a mark that is none of ours."""
+def listed_table(table: Listed, rows: Sequence[Row]) -> str:
+    """A table of the page with the columns of a file's rows."""
+    chosen = [row for row in rows if all(row[name] == value for name, value in table.only)]
+    chosen = latest(chosen) if table.is_latest else chosen
+    return lines_of([head for _, head in table.columns], ([cell(row) for cell, _ in table.columns] for row in chosen))
+
+
+def made_table(table: Union[Table, Listed, Made]) -> str:
+    if isinstance(table, Made):
+        return table.text()
+    rows = read_results(table.file)
+    return page_table(table, rows) if isinstance(table, Table) else listed_table(table, rows)
+
+
+def with_tables(page: str, name: str = PAGE) -> str:
+    """The page of this name with each marked table as it is made; refuses a mark that is none of its own."""
+    own = {key for key, table in TABLES.items() if table.page == name}
 
     def made(found: "re.Match[str]") -> str:
-        name = found.group(2)
-        if name not in TABLES:
-            raise Refusal(f"{name} is no table of the page")
-        return found.group(1) + page_table(TABLES[name], read_results(TABLES[name].file)) + found.group(4)
+        if found.group(2) not in own:
+            raise Refusal(f"{found.group(2)} is no table of the page")
+        return found.group(1) + made_table(TABLES[found.group(2)]) + found.group(4)
 
-    missing = set(TABLES) - {name for _, name, _, _ in MARK.findall(page)}
+    missing = own - {mark for _, mark, _, _ in MARK.findall(page)}
     if missing:
         raise Refusal(f"the page has no place for {', '.join(sorted(missing))}")
     return MARK.sub(made, page)
@@ -192,10 +272,20 @@ def self_test() -> int:
             dict(machine="A", date="2026-11-28", **head, size="16", glass_ms="30", cpp_ms="40")]
     checks.same("the last day of each case", [row["glass_ms"] for row in latest(rows)], ["12", "30"])
     table = Table("f", ("load",), "size", ratio("glass_ms", "cpp_ms", 0))
-    wanted = "| load | size 8 | size 16 |\n| --- | --- | --- |\n| quiet | 12 · 0.75 | 30 · 0.75 |\n"
+    wanted = "| load | size 8 | size 16 |\n|---|---|---|\n| quiet | 12 · 0.75 | 30 · 0.75 |\n"
     checks.same("a table of the page", page_table(table, rows), wanted)
     last = [line.rpartition(" | ")[2] for line in trend(rows).splitlines()[2:]]
     checks.same("of the first of its machine", last, ["- |", "0.75 |", "- |", "- |"])
+    listed = Listed("f", ((value_of("date"), "day"), (value_of("glass_ms"), "ours")), (("size", "16"),))
+    checks.same("rows as they are", listed_table(listed, rows), "| day | ours |\n|---|---|\n| 2026-11-28 | 30 |\n")
+    checks.same("the latest rows", len(listed_table(listed._replace(only=(), is_latest=True), rows).splitlines()), 4)
+    checks.same("one value", span("a", "ps")({"a_from_ps": "7", "a_to_ps": "7"}), "7")
+    checks.same("two values", span("a", "ps")({"a_from_ps": "7", "a_to_ps": "9"}), "7 to 9")
+    checks.same("least to most", least_to_most([3.68, 3.53, 3.69]), "3.5 to 3.7")
+    checks.same("all alike", least_to_most([3.98, 4.02]), "4.0")
+    machines = "### Machines\n\n| name | what |\n|---|---|\n| A | a |\n\n### Others\n\n| B | b |\n"
+    checks.same("a machine without a row", unnamed_machines(machines, rows), ["B"])
+    checks.same("a table of another page", refusal(lambda: with_tables("<!-- table gate -->\n<!-- end -->"))[:4], "the ")
     for column, answer in (("glass_ms", True), ("size", False), ("ratio", True), ("what", False), ("mb_64", True)):
         checks.same(f"{column} is measured", is_measured(column), answer)
     for file in sorted((HERE / "results").glob("*.csv")):
@@ -208,17 +298,30 @@ def self_test() -> int:
     return checks.end()
 
 
+def unnamed_machines(page: str, rows: Iterable[Row]) -> List[str]:
+    """The machines of rows that have no row in the page's table of machines."""
+    table = page.partition("### Machines\n")[2].partition("\n#")[0]
+    named = re.findall(r"^\| (\w+) \|", table, re.MULTILINE)
+    return sorted({row["machine"] for row in rows} - set(named))
+
+
 def write_or_check(is_check: bool) -> int:
-    page = HERE / "README.md"
-    text = page.read_text(encoding="utf-8")
-    made = with_tables(text)
-    if is_check and made != text:
-        print("bench/README.md: its tables are not those of bench/results; bench/tables.py --write makes them",
-              file=sys.stderr)
-        return 1
-    if not is_check:
-        page.write_text(made, encoding="utf-8")
-    return 0
+    status = 0
+    for name in PAGES:
+        page = HERE.parent / name
+        text = page.read_text(encoding="utf-8")
+        made = with_tables(text, name)
+        if not is_check:
+            page.write_text(made, encoding="utf-8")
+        elif made != text:
+            print(f"{name}: its tables are not those of bench/results; bench/tables.py --write makes them", file=sys.stderr)
+            status = 1
+    rows = (row for file in (HERE / "results").glob("*.csv") for row in read_results(file.stem))
+    unnamed = unnamed_machines((HERE.parent / PAGE).read_text(encoding="utf-8"), rows)
+    if is_check and unnamed:
+        print(f"{PAGE}: its table of machines has no row of {', '.join(unnamed)}", file=sys.stderr)
+        status = 1
+    return status
 
 
 def main(words: Optional[Sequence[str]] = None) -> int:

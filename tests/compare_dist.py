@@ -98,7 +98,7 @@ def main(words: List[str]) -> int:
     try:
         held(dist.TOP, kit_folder(), manifest)
     except (Wrong, dist.NotTaken) as why:
-        print(f"compare_dist: FAILED: {why}", file=sys.stderr)
+        print(f"compare_dist: FAILED: {why}; here it is {dist.answer_of(['rt', 'version'], dist.TOP)}", file=sys.stderr)
         return 1
     print(f"compare_dist: the programs for {' and '.join(dist.PROCESSORS)} are, byte by byte, what their sources give")
     return 0

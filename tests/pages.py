@@ -1,14 +1,19 @@
 #!/usr/bin/env python3
 """Runs the commands of manual pages, and compares what they print with what the pages show.
 
-    python3 tests/pages.py PROGRAM [PAGE ..]        PAGES below, which are quick, where none is named
+    python3 tests/pages.py PROGRAM [PAGE ..]        all pages of docs/manual but ON_DEMAND below, where none is named
+    python3 tests/pages.py --not-run                the blocks of docs/manual that it leaves out, each with its reason
     python3 tests/pages.py --self-test
 
 A page is read from its top, and its commands go to one shell. A block that is indented by four blanks is of
 commands; a block between ``` is what the blocks of commands before it print, output and errors together, since the
 last one. Under a heading nothing may be printed that the page doesn't show, and where nothing is shown the last
-command of each block ends with status 0. Blocks that get the program or show a manual page (SKIPPED) are left out.
+command of each block ends with status 0. A block between ```text and ``` is neither.
 An indented block whose first line begins with "$ " has commands behind that mark, and between them what they print.
+
+Behind a line `<!-- not run: REASON -->` the next block of commands is left out. Behind `<!-- differs: PATTERN -->` the
+next shown block is compared without what the pattern finds, in it and in what is printed, as times and names of machines.
+
 The folder is a new one with the program as ./glass, which is also found as glass, the tools, and copies of the examples.
 Commands begin there, or in the folder of it that a line `<!-- commands begin in FOLDER -->` names.
 
@@ -23,60 +28,88 @@ from pathlib import Path
 from typing import Iterator, List, NamedTuple, Tuple
 
 TOP = Path(__file__).resolve().parent.parent
-PAGES = ("docs/manual/tutorial.md", "docs/manual/long_runs.md", "docs/manual/when_a_run_ends_badly.md")
+MANUAL = "docs/manual"
+# It needs numpy, scipy, matplotlib and h5py, and takes a minute and a half of processor time.
+ON_DEMAND = ("docs/manual/from_rows_to_figures.md",)
 BEGIN = re.compile(r"^<!-- commands begin in (\S+) -->$", re.MULTILINE)
-SKIPPED = ("make", "tools/build", "man -l ../docs/manual/glass.1",
-           "sudo apt-get install python3-numpy python3-scipy python3-matplotlib python3-h5py")
+NOT_RUN = re.compile(r"<!-- not run: (.+) -->")
+DIFFERS = re.compile(r"<!-- differs: (.+) -->")
 MARK = "@@ end of block"
 
 
+class Segment(NamedTuple):
+    """A part of a page: commands, shown output or a heading, with the number of its first line and the mark before it."""
+
+    kind: str
+    line: int
+    text: str
+    mark: str
+
+
 class Step(NamedTuple):
-    """Blocks of commands, what they are to print, and the page's line at which the first one begins."""
+    """Blocks of commands, what they are to print, and the page's line at which the first one begins. What the pattern
+    finds is not compared."""
 
     line: int
     blocks: List[str]
     shown: str
+    differs: str
 
 
-def segments(page: str) -> Iterator[Tuple[str, int, str]]:
-    """What a page has of commands, of shown output and of headings, each with the number of its first line."""
+def segments(page: str) -> Iterator[Segment]:
+    """What a page has of commands, of shown output and of headings."""
     lines = page.splitlines()
-    at = 0
+    at, mark = 0, ""
     while at < len(lines):
         start, line = at, lines[at]
         at += 1
         if line.startswith("```"):
             while at < len(lines) and not lines[at].startswith("```"):
                 at += 1
-            yield "shown", start + 1, "".join(text + "\n" for text in lines[start + 1:at])
+            if line == "```":
+                yield Segment("shown", start + 1, "".join(text + "\n" for text in lines[start + 1:at]), mark)
             at += 1
         elif line.startswith("    ") and (start == 0 or not lines[start - 1].strip()):
             while at < len(lines) and (lines[at].startswith("    ") or not lines[at].strip()):
                 at += 1
             block = "\n".join(text[4:] for text in lines[start:at]).strip()
-            yield from dialogue(block, start + 1) if block.startswith("$ ") else [("commands", start + 1, block)]
+            if NOT_RUN.fullmatch(mark) or not block.startswith("$ "):
+                yield Segment("commands", start + 1, block, mark)
+            else:
+                yield from dialogue(block, start + 1, mark)
         elif line.startswith("#"):
-            yield "heading", start + 1, line
+            yield Segment("heading", start + 1, line, "")
+        if line.strip():
+            mark = line if line.startswith("<!-- ") else ""
 
 
-def dialogue(block: str, start: int) -> Iterator[Tuple[str, int, str]]:
+def dialogue(block: str, start: int, mark: str) -> Iterator[Segment]:
     """The commands and the outputs of a block of both."""
     for part in re.split(r"^(?=\$ )", block, flags=re.MULTILINE)[1:]:
         command, _, shown = part.partition("\n")
-        yield "commands", start, command[2:]
-        yield "shown", start, shown.rstrip("\n") + "\n" if shown.strip() else ""
+        yield Segment("commands", start, command[2:], mark)
+        yield Segment("shown", start, shown.rstrip("\n") + "\n" if shown.strip() else "", mark)
 
 
 def steps(page: str) -> Iterator[Step]:
     """The steps of a page in their order; one whose output isn't shown is to print nothing."""
     start, blocks = 0, []  # type: int, List[str]
-    for kind, line, text in (*segments(page), ("heading", 0, "the end")):
-        if kind == "commands" and text not in SKIPPED:
+    for kind, line, text, mark in (*segments(page), Segment("heading", 0, "the end", "")):
+        if kind == "commands" and not NOT_RUN.fullmatch(mark):
             start = start if blocks else line
             blocks.append(text)
         elif kind != "commands" and blocks:
-            yield Step(start, blocks, text if kind == "shown" else "")
+            differs = DIFFERS.fullmatch(mark)
+            yield Step(start, blocks, text if kind == "shown" else "", differs[1] if differs else "(?!)")
             blocks = []
+
+
+def left_out(name: str, page: str) -> Iterator[str]:
+    """The blocks of a page that are not run, each with its place and reason."""
+    for segment in segments(page):
+        reason = NOT_RUN.fullmatch(segment.mark)
+        if segment.kind == "commands" and reason:
+            yield f"{name}:{segment.line}: {segment.text.splitlines()[0]}: {reason[1]}"
 
 
 def script(found: List[Step]) -> str:
@@ -104,9 +137,10 @@ def faults(name: str, page: str, folder: Path) -> Iterator[str]:
             text += output
             if status.strip() != "0" and not step.shown:
                 yield f"{name}:{step.line}: status {status.strip()} of {block.splitlines()[-1]}"
-        if text != step.shown:
+        if re.sub(step.differs, "", text) != re.sub(step.differs, "", step.shown):
             pairs = zip(text.splitlines() + ["(its end)"], step.shown.splitlines() + ["(its end)"])
-            one, other = next((got, shown) for got, shown in pairs if got != shown)
+            one, other = next(((got, shown) for got, shown in pairs
+                               if re.sub(step.differs, "", got) != re.sub(step.differs, "", shown)), (text, step.shown))
             yield f"{name}:{step.line}: the commands print {one!r}, and the page shows {other!r}"
 
 
@@ -123,7 +157,11 @@ def self_test() -> int:
     cases = {
         "Text\n\n    echo a\n\n```\na\n```\n": [], "Text\n\n    echo a\n\n```\nb\n```\n": [3],
         "    a=1\n\nText\n\n    echo $a\n\n```\n1\n```\n": [], "    echo a\n": [1], "    echo a\n\n# Next\n": [1],
-        "    false\n": [1], "    make\n\nText\n\n    true\n": [],
+        "    false\n": [1], "<!-- not run: why -->\n\n    false\n\nText\n\n    true\n": [],
+        "<!-- not run: why -->\n\nText\n\n    false\n": [5], "<!-- not run: why -->\n\n    $ false\n\n    true\n\nText\n\n    false\n": [9],
+        "    echo a 12 s\n\n<!-- differs: \\d+ s -->\n```\na 7 s\n```\n": [],
+        "    echo a 12 s\n    echo b\n\n<!-- differs: \\d+ s -->\n```\na 7 s\nc\n```\n": [1],
+        "    echo a 12 s\n\n```\na 7 s\n```\n": [1], "```text\nno output\n```\n\n    echo a\n\n```text\nb\n```\n\n```\na\n```\n": [],
         "    false\n    echo a >&2; false\n\n```\na\n```\n": [],
         "    cat <<'END'\n    x\n    END\n\n```\nx\n```\n": [],
         "    echo a >&2\n    echo b\n\nText\n\n```\na\nb\n```\n\n    echo c\n\n```\nd\n```\n": [11],
@@ -147,18 +185,23 @@ def main(words: List[str]) -> int:
         return 0
     if words == ["--self-test"]:
         return self_test()
+    pages = sorted(path.relative_to(TOP).as_posix() for path in (TOP / MANUAL).glob("*.md"))
+    if words == ["--not-run"]:
+        print("".join(f"{it}\n" for name in pages for it in left_out(name, (TOP / name).read_text(encoding="utf-8"))), end="")
+        return 0
     if not words or words[0].startswith("-") or not Path(words[0]).is_file():
         print("pages: name the program, and pages behind it; --help says more", file=sys.stderr)
         return 2
     found: List[str] = []
-    for name in words[1:] or PAGES:
+    chosen = words[1:] or [name for name in pages if name not in ON_DEMAND]
+    for name in chosen:
         with tempfile.TemporaryDirectory() as folder:
             prepare(Path(folder), Path(words[0]))
             found += faults(name, (TOP / name).read_text(encoding="utf-8"), Path(folder))
     for fault in found:
         print(fault, file=sys.stderr)
     if not found:
-        print(f"pages: passed, {', '.join(words[1:] or PAGES)}")
+        print(f"pages: passed, {', '.join(chosen)}")
     return 1 if found else 0
 
 

@@ -1,6 +1,8 @@
 #!/usr/bin/env python3
 """Holds the links of all pages to what they lead to: a file or folder that is there, and a heading of that page.
 
+A source that is named as code, as `top.rt` or `glass_main/src/top.rt`, is to be there too.
+
     python3 tools/check_links.py
 
 Links to other hosts are left out.
@@ -18,6 +20,8 @@ from typing import Iterator, List, Set
 import source_check
 
 LINK = re.compile(r"\]\(([^)\s]+)\)")
+# A source as pages name it, by the end of its path.
+SOURCE = re.compile(r"`([\w/-]+\.(?:rt|antt))`")
 
 
 def anchor(heading: str) -> str:
@@ -43,9 +47,17 @@ def anchors(path: Path) -> Set[str]:
     return found
 
 
-def faults(root: Path, page: Path) -> Iterator[str]:
-    """The links of a page that lead nowhere."""
-    for link in LINK.findall(without_code(page.read_text(encoding="utf-8"))):
+def sources(root: Path) -> Set[str]:
+    """The ends of the paths of all sources, as `a.rt`, `src/a.rt` and so on."""
+    paths = [path.relative_to(root).parts for path in (root / "crates").glob("*/*/**/*.*") if path.suffix in (".rt", ".antt")]
+    return {"/".join(parts[at:]) for parts in paths if parts[2] != "out" for at in range(len(parts))}
+
+
+def faults(root: Path, page: Path, known: Set[str]) -> Iterator[str]:
+    """The links of a page that lead nowhere, and the sources that it names and that aren't there."""
+    text = page.read_text(encoding="utf-8")
+    yield from (f"{page.relative_to(root)}: there is no source {name}" for name in SOURCE.findall(text) if name not in known)
+    for link in LINK.findall(without_code(text)):
         name, _, part = link.partition("#")
         if re.match(r"[a-z]+:", link):
             continue
@@ -64,7 +76,8 @@ def pages(root: Path) -> List[Path]:
 
 
 def differences(root: Path) -> List[str]:
-    return [fault for page in pages(root) for fault in faults(root, page)]
+    known = sources(root)
+    return [fault for page in pages(root) for fault in faults(root, page, known)]
 
 
 def self_test() -> int:
@@ -72,18 +85,27 @@ def self_test() -> int:
     links = {"other.md": 0, "other.md#a-heading-of-code": 0, "other.md#twice-1": 0, "folder": 0, "#here": 0,
              "https://example.org/x": 0, "none.md": 1, "other.md#no-heading": 1, "#there": 1,
              "other.md#in-code": 1, "other.md#twice-2": 1}
+    named = {"top.rt": 0, "a/src/top.rt": 0, "src/top.rt": 0, "op.rt": 1, "other.rt": 1, "Lib.antt": 1}
     with tempfile.TemporaryDirectory() as name:
         root = Path(name).resolve()
         (root / "folder").mkdir()
+        (root / "crates/a/src").mkdir(parents=True)
+        (root / "crates/a/src/top.rt").write_text("", encoding="utf-8")
         (root / "other.md").write_text("# A heading, of `code`\n## Twice\n## Twice\n```\n# In code\n```\n", encoding="utf-8")
         for link, wanted in links.items():
             page = root / "page.md"
             page.write_text(f"# Here\n[x]({link}) `[y](none.md)`\n\n```\n[z](none.md)\n```\n", encoding="utf-8")
-            found = list(faults(root, page))
+            found = list(faults(root, page, sources(root)))
             if len(found) != wanted:
                 print(f"check_links: self-test: {link}: {found}", file=sys.stderr)
                 return 1
-    print(f"check_links: {len(links)} tests passed")
+        for source, wanted in named.items():
+            page.write_text(f"See `{source}`.\n", encoding="utf-8")
+            found = list(faults(root, page, sources(root)))
+            if len(found) != wanted:
+                print(f"check_links: self-test: {source}: {found}", file=sys.stderr)
+                return 1
+    print(f"check_links: {len(links) + len(named)} tests passed")
     return 0
 
 

@@ -1,7 +1,8 @@
 #!/usr/bin/env python3
 """Holds the prose of pages to sentences of at most 40 words, paragraphs of at most 90, and the field's words.
 
-It holds an entry of docs/decisions to 60 words, and pages that are read at one go to their most kilobytes (LONGEST).
+A sentence of a page for users (SHORT) has at most 30. An entry of docs/decisions is held to 60 words, and a page that is
+read at one go to its most kilobytes (LONGEST).
 
     python3 tools/check_prose.py            the pages that the gate holds: PAGES below
     python3 tools/check_prose.py PAGE ..    other pages, by their paths
@@ -21,6 +22,8 @@ from typing import Iterator, List, NamedTuple, Sequence
 import source_check
 
 MOST_IN_SENTENCE = 40
+# What is read by most.
+SHORT, MOST_IN_SHORT = ("README.md", "CONTRIBUTING.md", "docs/manual/", "docs/trust.md", "docs/to_change.md"), 30
 MOST_IN_PARAGRAPH = 90
 MOST_IN_DECISION = 60
 DECISIONS = "docs/decisions/"
@@ -32,10 +35,13 @@ README_OF_CRATE, LONGEST_README = re.compile(r"crates/\w+/README\.md"), 3
 GONE = {"gone on with": "resumed", "want of memory": "lack of memory", "leavings": "what is left",
         "and so is that of": "two sentences"}
 PAGES = ("README.md", "CONTRIBUTING.md", "CHANGELOG.md", "bench/README.md", "docs/architecture.md", "docs/glossary.md",
-         "docs/trust.md", "docs/proofs.md", "docs/proofs/*.md", "docs/proofs/tried/*.md", "docs/architecture/*.md",
+         "docs/trust.md", "docs/to_change.md", "docs/proofs.md", "docs/proofs/*.md", "docs/proofs/tried/*.md",
+         "docs/architecture/*.md", "dist/README.md", "tests/README.md", "examples/*/README.md", "tools/*/README.md",
          "docs/decisions/*.md", "docs/manual/*.md", "docs/specification/*.md", "crates/*/README.md")
 # A cell there has all clauses, definitions or edits of a promise, or a comment of the code: these tables are lists and no prose.
 WITHOUT_TABLES = ("docs/proofs", "crates/")
+# But in a row of four cells the second says what a call promises, and the fourth what it doesn't say.
+WITH_PROMISES = re.compile(r"docs/proofs/(?!source)\w+\.md")
 
 # Where a link leads that has a number in the text.
 TARGET = re.compile(r"\[\d+\]: ")
@@ -71,7 +77,7 @@ def blocks(page: str) -> Iterator[Paragraph]:
         if fence or is_code or is_indented or not line.strip() or line.startswith(("#", "<!--")) or TARGET.match(line):
             continue
         if line.startswith("|"):
-            yield from (Paragraph(number, cell) for cell in re.split(r"(?<!\\)\|", line)[1:-1])
+            yield from (Paragraph(number, cell) for cell in cells_of(line))
             continue
         start = start if held else number
         held.append(re.sub(r"^\s*([-*+]|\d+\.)\s+", "", line) if begins else line.strip())
@@ -90,16 +96,30 @@ def words(text: str) -> int:
     return sum(1 for word in text.split() if re.search(r"\w", word))
 
 
+def cells_of(row: str) -> List[str]:
+    """The cells of a table's row."""
+    return re.split(r"(?<!\\)\|", row)[1:-1]
+
+
+def prose_of(line: str, has_promises: bool) -> str:
+    """A line as prose: of a table's row only what is promised, and what is not said."""
+    if not line.startswith("|"):
+        return line
+    cells = cells_of(line)
+    return f"|{cells[1]}|{cells[3]}|" if has_promises and len(cells) == 4 else ""
+
+
 def faults(name: str, page: str) -> Iterator[str]:
     """What a page has that is too long, and the words that it should not have."""
     if name.startswith(WITHOUT_TABLES):
-        page = "\n".join("" if line.startswith("|") else line for line in page.splitlines())
+        page = "\n".join(prose_of(line, bool(WITH_PROMISES.fullmatch(name))) for line in page.splitlines())
     most = MOST_IN_DECISION if name.startswith(DECISIONS) else MOST_IN_PARAGRAPH
+    most_in_sentence = MOST_IN_SHORT if name.startswith(SHORT) else MOST_IN_SENTENCE
     for line, text in paragraphs(page):
         if words(text) > most:
             yield f"{name}:{line}: a paragraph of {words(text)} words: {text[:60]}"
         for sentence in sentences(text):
-            if words(sentence) > MOST_IN_SENTENCE:
+            if words(sentence) > most_in_sentence:
                 yield f"{name}:{line}: a sentence of {words(sentence)} words: {sentence[:60]}"
         yield from (f"{name}:{line}: \"{gone}\"; say {GONE[gone]}" for gone in GONE if gone in text.lower())
 
@@ -129,7 +149,11 @@ def self_test() -> int:
         f"{long[:100]}. {long[:100]}.\n": [], "1. First\n   and more.\n2. Second.\n": []}
     named = [("page", page, wanted) for page, wanted in cases.items()]
     named.append((WITHOUT_TABLES[0] + "/run.md", f"| {long} |\n\n{long}\n", [3]))
+    row, other = f"| {long} | a | {long} | a |\n", f"| a | {long} | a | {long} |\n"
+    named += [("docs/proofs/run.md", row + other, [2, 2]), ("docs/proofs/source.md", other, []), ("docs/proofs/tried/run.md", other, []),
+              ("crates/a/README.md", other, [])]
     named += [(DECISIONS + "run.md", f"{half}\n\n{half} {half}\n", [3]), (DECISIONS + "run.md", "a\n\n" * 3500, [1]),
+              ("docs/manual/page.md", f"{half}\n", [1]), ("page", f"{half}\n", []),
               ("README.md", "a\n\n" * 2389, []), ("README.md", "a\n\n" * 2390, [1]), ("page", "a\n\n" * 9000, []),
               ("crates/a/README.md", "a\n\n" * 1025, [1])]
     for name, page, wanted in named:

@@ -107,8 +107,8 @@ def is_manifest(value: object) -> bool:
 
 
 def write_manifest(kit: str, commit: str, top: Path = TOP) -> None:
-    """Says of the programs in dist/ that they were built of the tree's sources. Where it said so before of an earlier
-    commit, that stays, so that who makes the same bytes again changes nothing."""
+    """Says of the programs in dist/ that they were built of the tree's sources. Where it said so before, that stays with
+    its commit and its kit, so that who makes the same bytes again changes nothing, also by another kit."""
     programs = {processor: file_of(processor, top).read_bytes() for processor in PROCESSORS}
     manifest = {"commit": commit, "glibc": max(map(oldest_glibc, programs.values()), key=numbers), "kit": kit,
                 "programs": {processor: sum_of(data) for processor, data in programs.items()},
@@ -117,7 +117,7 @@ def write_manifest(kit: str, commit: str, top: Path = TOP) -> None:
         before = read_manifest(top)
     except NotTaken:
         before = {}
-    if {**before, "commit": commit} != manifest:
+    if {**before, "commit": commit, "kit": kit} != manifest:
         (top / FOLDER / MANIFEST).write_text(json.dumps(manifest, indent=2) + "\n", encoding="utf-8")
 
 

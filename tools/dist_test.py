@@ -49,14 +49,15 @@ def why_not(change: Callable[[Path], object]) -> Optional[str]:
         return None if found == WANTS + dist.WIDE.encode() else "other bytes"
 
 
-def commit_after(change: Callable[[Path], object]) -> str:
-    """The commit that the manifest names after a change and a second making."""
+def named_after(change: Callable[[Path], object]) -> str:
+    """The commit and the kit that the manifest names after a change and a second making by another kit."""
     with tempfile.TemporaryDirectory() as folder:
         top = Path(folder)
         tree(top)
         change(top)
-        dist.write_manifest("a kit", "another commit", top)
-        return dist.read_manifest(top)["commit"]
+        dist.write_manifest("another kit", "another commit", top)
+        manifest = dist.read_manifest(top)
+        return f"{manifest['commit']}, {manifest['kit']}"
 
 
 def written(path: str, text: str) -> Callable[[Path], object]:
@@ -114,9 +115,9 @@ def test_manifest(checks: Checks) -> None:
                 "the SHA-256 of dist/glass-x86-64-v3 is not that of its manifest")
     checks.same("no file", why_not(lambda top: dist.file_of(dist.WIDE, top).unlink()),
                 "dist/glass-x86-64-v3 can't be read: No such file or directory")
-    checks.same("made again at another commit", commit_after(lambda top: None), "0123456789abcdef")
-    checks.same("made again of other sources", commit_after(written("crates/low/src/kept.rt", "another")), "another commit")
-    checks.same("made again over a damaged manifest", commit_after(written("dist/manifest.json", "{")), "another commit")
+    checks.same("made again at another commit", named_after(lambda top: None), "0123456789abcdef, a kit")
+    checks.same("made again of other sources", named_after(written("crates/low/src/kept.rt", "another")), "another commit, another kit")
+    checks.same("made again over a damaged manifest", named_after(written("dist/manifest.json", "{")), "another commit, another kit")
     checks.same("the other program changed", why_not(written("dist/glass-x86-64", "ELF")), None)
 
 

@@ -2,17 +2,22 @@
 """Runs the gate and tells what its time goes into, crate by crate.
 
     python3 tools/gate_times.py [--write FILE] [COMMAND ..]
+    python3 tools/gate_times.py --rows FILE MACHINE LOAD >> bench/results/gate.csv
 
 COMMAND is `.ci/run` where none is given; its output is passed on. Every half second the processes of the kit are looked
 at, and the processor time of each is put down for the crate that it works on: for its proof, for its tests, which are
 proved once more with the crate, for its must-fail edits, or for the program that is made of it. What a process took in
 the last half second of its life is missed. The table goes to FILE, or to the error output.
 
+--rows makes rows of bench/results/gate.csv of such a file: MACHINE is its name in bench/README.md, LOAD what else ran, as
+busy or quiet. A crate has a row of its own from SMALLEST minutes on. What the program took is with the proofs.
+
 It reads /proc, so it needs Linux. --self-test runs the tests of this tool.
 
 Status: that of COMMAND; 2 for a wrong word."""
 import os
 import platform
+import re
 import resource
 import subprocess
 import sys
@@ -24,6 +29,12 @@ from typing import Dict, List, NamedTuple, Optional, Sequence, Set, Tuple
 
 PARTS = ("proof", "tests", "edits", "program")
 SECONDS_BETWEEN = 0.5
+SMALLEST = 1.5
+TOP = Path(__file__).resolve().parent.parent
+# What a page tells of its run, and a row of its table.
+TOLD = re.compile(r"at (?P<commit>\w+) of (?P<date>[\d-]+), .*\n- (?P<processors>\d+) processors, .*\n"
+                  r"- \*\*(?P<clock>\d+) minutes by the clock, (?P<used>\d+) of the processor\*\*")
+ROW = re.compile(r"^\| (?:`(\w+)`|all) \| " + r" \| ".join(4 * [r"([\d.]*)"]) + r" \| [\d.]+ \|$", re.MULTILINE)
 # Processor seconds, of a crate and a part.
 Spent = Dict[Tuple[str, str], float]
 
@@ -157,6 +168,34 @@ Processor minutes. The proof of a crate with tests is in both columns, and each 
 """
 
 
+def csv_rows(text: str, machine: str, load: str, edits: Dict[str, int]) -> List[str]:
+    """The rows of bench/results/gate.csv of a page, by the number of edits of each crate: machine, commit, date, load,
+    turns, processors, crates, edits, and the minutes by the clock, of all, of proofs, tests and edits."""
+    told = TOLD.search(text)
+    if told is None:
+        return []
+    head = [machine, told["commit"][:7], told["date"], load, "1", told["processors"]]
+    spent = {found[0]: [float(it or 0) for it in found[1:]] for found in ROW.findall(text)}
+
+    def row(crates: str, tried: int, minutes: Sequence[float], *ends: str) -> str:
+        proof, tests, of_edits, program = minutes
+        shown = [f"{it:.1f}" if it else "" for it in (proof + program, tests, of_edits)]
+        return ",".join([*head, crates, str(tried or ""), *(ends or ("", "")), *shown])
+
+    of_all = spent.pop("")
+    large = sorted((crate for crate in spent if sum(spent[crate]) >= SMALLEST), key=lambda it: -sum(spent[it]))
+    small = [crate for crate in spent if crate not in large]
+    rest = [sum(spent[crate][part] for crate in small) for part in range(len(PARTS))]
+    return [*(row(crate, edits.get(crate, 0), spent[crate]) for crate in large),
+            row("the other crates", sum(edits.get(crate, 0) for crate in small), rest),
+            row("all", sum(edits.values()), of_all, told["clock"], told["used"])]
+
+
+def edits_now() -> Dict[str, int]:
+    """The edits that the gate tries of each crate, by the tree."""
+    return {folder.parent.name: len(list(folder.glob("*.edit"))) for folder in TOP.glob("crates/*/must-fail")}
+
+
 def run(command: Sequence[str], write: Optional[str]) -> int:
     """Runs the command, looks at the kit's processes until it ends, and writes the page. Returns its status."""
     account, ended = Account(), threading.Event()
@@ -202,6 +241,13 @@ def self_test() -> int:
               "| `low` | 1.5 | 0.5 |  |  | 2.0 |", "| all | 1.5 | 0.5 | 0.0 | 0.0 | 2.0 |"]
     assert table(account.spent).splitlines() == wanted
     assert stolen([0] * 8, [1, 0, 1, 1, 0, 0, 0, 1]) == 0.25
+    spent = {("low", "proof"): 90.0, ("low", "edits"): 30.0, ("tiny", "tests"): 6.0, ("low", "program"): 12.0}
+    text = re.sub(r"at .* of .*, .*", "at abcdef012 of 2026-12-01, a kit", page(["x"], 120.0, 300.0, 0.0, spent), count=1)
+    rows = csv_rows(text, "F", "busy", {"low": 3, "other": 1})
+    wanted = [["low", "3", "", "", "1.7", "", "0.5"], ["the other crates", "", "", "", "", "0.1", ""],
+              ["all", "4", "2", "5", "1.7", "0.1", "0.5"]]
+    assert [it.split(",")[6:] for it in rows] == wanted, rows
+    assert rows[0].startswith("F,abcdef0,2026-12-01,busy,1,") and csv_rows("no page", "F", "busy", {}) == []
     print("gate_times: the self-test passed")
     return 0
 
@@ -212,6 +258,14 @@ def main(words: List[str]) -> int:
         return 0
     if words == ["--self-test"]:
         return self_test()
+    if words[:1] == ["--rows"]:
+        is_asked = len(words) == 4 and Path(words[1]).is_file()
+        rows = csv_rows(Path(words[1]).read_text(encoding="utf-8"), *words[2:], edits_now()) if is_asked else []
+        if not rows:
+            print("gate_times: --rows takes a file that --write made, a machine's name and the load", file=sys.stderr)
+            return 2
+        print("\n".join(rows))
+        return 0
     write = None
     if words[:1] == ["--write"]:
         if len(words) < 2:

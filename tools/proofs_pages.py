@@ -34,6 +34,8 @@ SOURCE = "docs/proofs/source.md"
 FOLDER = "docs/proofs/"
 CALLS = re.compile(r"(?<=^<!-- calls: )([^>]*?)( -->\n).*?(?=^<!-- end of calls -->$)", re.MULTILINE | re.DOTALL)
 MOST = 10 * 1024
+# So many pages of a crate are told in one sentence.
+MOST_IN_LINE = 4
 PAGE = re.compile(r"^<!-- page (\S+) -->$")
 # Where a page gets a row for each page of the source that begins with a question in bold, and what is such a line.
 LAYERS = "<!-- layers -->"
@@ -351,6 +353,11 @@ def layers(page: Page, writers: List[Writer]) -> List[str]:
     return ["| question | crates |", "|---|---|", *rows]
 
 
+def listed(pages: List[str]) -> str:
+    """Pages in one sentence, or in a list where they are many."""
+    return f" {', '.join(pages)}." if len(pages) <= MOST_IN_LINE else "\n\n- " + "\n- ".join(pages)
+
+
 def readmes(root: Path, code: Code, writers: List[Writer], faults: List[str]) -> Iterator[Tuple[str, str]]:
     """The READMEs of crates that have a table of calls, with this table as it is to be."""
     for path in sorted(root.glob("crates/*/README.md")):
@@ -367,7 +374,7 @@ def readmes(root: Path, code: Code, writers: List[Writer], faults: List[str]) ->
                 sentence = in_a_cell(re.split(r"(?<=\.)\s+(?=[A-Z`])", item.words)[0])
                 rows.append(f"| [`{name}`]({place}) | {sentence} |")
             pages = [f"[{it.title}]({os.path.relpath(it.name, path.parent.relative_to(root))})" for it in writers if crate in it.crates]
-            told = ["", f"All its promises, with clauses and definitions: {', '.join(pages)}."] if pages else []
+            told = ["", "All its promises, with clauses and definitions:" + listed(pages)] if pages else []
             return found[1] + found[2] + "\n".join(rows + told) + "\n"
         if CALLS.search(text):
             yield str(path.relative_to(root)), CALLS.sub(table, text)
