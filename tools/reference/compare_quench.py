@@ -18,6 +18,7 @@ from statistics import mean, stdev
 sys.path.insert(0, str(Path(__file__).resolve().parents[1]))
 sys.dont_write_bytecode = True
 from reference.bonds import couplings_view  # noqa: E402
+from reference.copies import turned, two_time_field  # noqa: E402
 from reference.compare import DONE, same  # noqa: E402
 from reference.compare_sums import FULL, by_pairs, write_run  # noqa: E402
 from reference.demo import demo_rows  # noqa: E402
@@ -28,7 +29,7 @@ from reference.opening import Plan, opening  # noqa: E402
 from reference.overlaps import age_text, lines_text  # noqa: E402
 from reference.planes import total_overlap  # noqa: E402
 from reference.quench_cases import GLASS_ROWS, KNOWN, UP_ROWS, body, numbers_by, of_cross, of_quench, text_of  # noqa: E402
-from reference.quenched import QuenchHeading, kept_state, quench_text, still, two_time_field  # noqa: E402
+from reference.quenched import QuenchHeading, kept_state, quench_text, still  # noqa: E402
 
 # ---------------------------------------------------------------- the grid
 
@@ -173,7 +174,7 @@ def against_each_other():
     same("triangles", all(q[s, a, b] + q[s, b, c] + q[s, a, c] >= -64 for s in range(2) for a, b, c in triangles), True)
 
 
-def turned():
+def other_way_around():
     """Two seeds with equal couplings: the copies turned by two, the lines are the same."""
     write_run(GLASS_ROWS, (), rule="metropolis", start="random", seed=8)
     Path("b8").write_bytes(Path("b").read_bytes())
@@ -181,7 +182,7 @@ def turned():
     text_of("measure b --until 1 --save f")
     text_of("measure b8 --until 2 --save s")
     one, other = of_cross(text_of("cross b f 8 s")), of_cross(text_of("cross b8 s 7 f"))
-    same("turned by two", {(kind, b, t, *sorted(((x + 2) % 4, (y + 2) % 4))): n for (kind, b, t, x, y), n in other.items()}, one)
+    same("turned by two", {(kind, b, t, *sorted((turned(x), turned(y)))): n for (kind, b, t, x, y), n in other.items()}, one)
     fields = {}
     slots = [own_slots(seed, steps) for seed, steps in ((7, 1), (8, 2))]
     replicas = [replica for slot in slots for replica in slot]
@@ -239,7 +240,7 @@ def nothing_ages():
         near(f"C{pair}", means["C", *pair], wanted)
 
 
-PARTS = KNOWN + (small_quenches, two_banks, against_runs, against_age_and_lines, against_each_other, turned)
+PARTS = KNOWN + (small_quenches, two_banks, against_runs, against_age_and_lines, against_each_other, other_way_around)
 
 
 def main():

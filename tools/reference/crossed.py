@@ -1,24 +1,11 @@
-"""Four copies of equal couplings, from two states, and their text: docs/specification/quench.md."""
+"""The text of four copies of equal couplings: quenched_states/specs/CrossText.antt."""
 from collections import namedtuple
 
+from reference.copies import copy_pairs, pair_field
 from reference.epoch import slot_at
-from reference.planes import axis_correlation, face_correlation, link_overlap, site_overlap, total_overlap
-from reference.quenched import copy_of
+from reference.planes import axis_correlation, face_correlation, link_overlap, total_overlap
 
-# Two of the four copies.
-CopyPair = namedtuple("CopyPair", "one other")
 CrossHeading = namedtuple("CrossHeading", "size slots samples rule first_seed second_seed first_epoch second_epoch")
-
-copy_pairs = tuple(CopyPair(a, b) for a in range(4) for b in range(a + 1, 4))
-
-
-def copy_among(first, second, a):
-    """Copies 0 and 1 are those of the first slot, 2 and 3 those of the second."""
-    return copy_of(first, a) if a < 2 else copy_of(second, a - 2)
-
-
-def pair_field(first, second, pair):
-    return site_overlap(copy_among(first, second, pair.one).spins, copy_among(first, second, pair.other).spins)
 
 
 def cross_heading_line(h):
@@ -37,10 +24,17 @@ def pair_lines(l, sample, slot, pair, field):
             + copies_line("face", sample, slot, pair, (face_correlation(l, field, r) for r in distances)))
 
 
+def copies_lines(h, fields, b, t):
+    return "".join(pair_lines(h.size, b, t, pair, fields(b, t, pair)) for pair in copy_pairs)
+
+
+def slots_lines(h, fields, b):
+    return "".join(copies_lines(h, fields, b, t) for t in range(h.slots))
+
+
 def cross_text(h, fields):
     """Where `fields(b, t, pair)` is the field of two copies of slot t of sample b."""
-    return cross_heading_line(h) + "".join(pair_lines(h.size, b, t, pair, fields(b, t, pair)) for b in range(h.samples)
-                                           for t in range(h.slots) for pair in copy_pairs) + "end\n"
+    return cross_heading_line(h) + "".join(slots_lines(h, fields, b) for b in range(h.samples)) + "end\n"
 
 
 def copies_fields(first, second, b, t, pair):

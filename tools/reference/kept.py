@@ -1,78 +1,92 @@
-"""The bytes of kept states, and the order in which they are refused: docs/specification/quench.md."""
+"""The bytes of kept states, and the order in which they are refused: quenched_states/specs/KeptBytes.antt and KeptTests.antt."""
 from collections import namedtuple
 from hashlib import sha256
 
-from reference.words import big_bytes
+from reference.words import big_bytes, table
+from reference.quenched import time_at
 
 kept_kind = b"GLASSKS1"
-
-# How one state's checkpoint at one epoch is read: its length, its first refusal (None where it has none), its epoch.
-LevelTests = namedtuple("LevelTests", "len refuses epoch")
-# The first refusal, and what it tells.
-KeptRefused = namedtuple("KeptRefused", "name told")
+longest_kept = 544943596
 
 
 def kept_header(count):
     return kept_kind + big_bytes(4, count)
 
 
+def kept_body(states):
+    return kept_header(len(states)) + b"".join(states)
+
+
 def kept_encoding(states):
     """Of the states' checkpoints at one epoch each, in the order of their times."""
-    stored = kept_header(len(states)) + b"".join(states)
-    return stored + sha256(stored).digest()
+    return kept_body(states) + sha256(kept_body(states)).digest()
 
 
 def kept_length(count, level):
     return 44 + count * level
 
 
-def kept_count(stored):
-    return int.from_bytes(stored[8:12], "big")
+# ---------------------------------------------------------------- reading
 
-
-def state_bytes(level, j, stored):
-    return stored[12 + level * j:12 + level * (j + 1)]
+# How one state's checkpoint is read: its length, its first refusal (None where it has none), its epoch.
+LevelTests = namedtuple("LevelTests", "len refuses epoch")
+# What is told by each refusal of the frame and of the times.
+KeptRefusals = namedtuple("KeptRefusals", "short states other_length damaged other_time")
 
 
 def are_kept(stored):
     return stored[:8] == kept_kind
 
 
-def frame_refusal(level, most, stored):
-    """How long the bytes are, how many states they say to have, and their digest."""
-    if len(stored) < 44:
-        return KeptRefused("Short", (len(stored),))
-    count = kept_count(stored)
-    if not 1 <= count <= most:
-        return KeptRefused("States", (count, most))
-    if len(stored) != kept_length(count, level):
-        return KeptRefused("Length", (len(stored), kept_length(count, level)))
-    if stored[-32:] != sha256(stored[:-32]).digest():
-        return KeptRefused("Digest", (stored[-32:], sha256(stored[:-32]).digest()))
-    return None
+def kept_count(stored):
+    return int.from_bytes(stored[8:12], "big")
 
 
-def state_refusal(tests, pieces):
-    """The first refusal of a state by itself."""
-    found = next(filter(None, map(tests.refuses, pieces)), None)
-    return found and KeptRefused("State", (found,))
+def state_bytes(length, stored, j):
+    return stored[12 + length * j:12 + length * (j + 1)]
 
 
-def times_refusal(tests, times, pieces):
-    """The first state that isn't at its time."""
-    wrong = next((j for j, piece in enumerate(pieces) if tests.epoch(piece) != times[j]), None)
-    return None if wrong is None else KeptRefused("Times", (wrong, tests.epoch(pieces[wrong]), times[wrong]))
-
-
-def pieces_of(level, stored):
+def states_in(length, stored):
     """The checkpoints of the states: other bytes than kept states are that of one."""
-    return [state_bytes(level, j, stored) for j in range(kept_count(stored))] if are_kept(stored) else [stored]
+    return table(lambda j: state_bytes(length, stored, j), kept_count(stored)) if are_kept(stored) else (stored,)
 
 
-def kept_refusal(tests, times, stored):
-    """The first refusal of bytes that a quench of these times is to go on from."""
-    frame = frame_refusal(tests.len, len(times), stored) if are_kept(stored) else None
+def short_frame(tell, stored):
+    return tell.short(len(stored)) if len(stored) < 44 else None
+
+
+def wrong_count(tell, most, stored):
+    return None if 1 <= kept_count(stored) <= most else tell.states(kept_count(stored), most)
+
+
+def wrong_length(tell, length, stored):
+    wanted = kept_length(kept_count(stored), length)
+    return None if len(stored) == wanted else tell.other_length(len(stored), wanted)
+
+
+def wrong_digest(tell, stored):
+    computed = sha256(stored[:-32]).digest()
+    return None if stored[-32:] == computed else tell.damaged(stored[-32:], computed)
+
+
+def frame_refusal(tell, length, most, stored):
+    return (short_frame(tell, stored) or wrong_count(tell, most, stored) or wrong_length(tell, length, stored)
+            or wrong_digest(tell, stored))
+
+
+def state_refusal(level, states):
+    return next(filter(None, map(level.refuses, states)), None)
+
+
+def times_refusal(tell, level, times, states):
+    return next((tell.other_time(j, level.epoch(state), time_at(times, j)) for j, state in enumerate(states)
+                 if level.epoch(state) != time_at(times, j)), None)
+
+
+def kept_refusal(tell, level, times, stored):
+    """The first refusal of bytes from which a quench of these times is to go on."""
+    frame = frame_refusal(tell, level.len, len(times), stored) if are_kept(stored) else None
     if frame is not None:
         return frame
-    pieces = pieces_of(tests.len, stored)
-    return state_refusal(tests, pieces) or times_refusal(tests, times, pieces)
+    states = states_in(level.len, stored)
+    return state_refusal(level, states) or times_refusal(tell, level, times, states)

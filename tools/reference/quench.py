@@ -20,16 +20,15 @@ from input_judge import BANK, GREATEST_EPOCH, Open, Refused, number  # noqa: E40
 from reference.answers import ending_of, tell  # noqa: E402
 from reference.banks import banks_encoding, banks_len  # noqa: E402
 from reference.checkpoint import encoding, encoding_len  # noqa: E402
-from reference.kept import LevelTests, kept_encoding, kept_length, kept_refusal, pieces_of  # noqa: E402
+from reference.kept import KeptRefusals, LevelTests, kept_encoding, kept_length, kept_refusal, longest_kept, states_in  # noqa: E402
 from reference.measure import OPTIONS, level_bases, start_of  # noqa: E402
 from reference.opening import slots_of  # noqa: E402
 from reference.plain import number_word  # noqa: E402
-from reference.quenched import QuenchHeading, gone_on, quench_text, state_fields, state_seen, still, time_at  # noqa: E402
+from reference.quenched import QuenchHeading, gone_on, most_times, quench_text, state_fields, state_seen, still, time_at  # noqa: E402
 from reference.request_words import file_word, split_words  # noqa: E402
 
 QuenchOrder = namedtuple("QuenchOrder", "run times workers pieces from_ save")
 QUENCH_OPTIONS = {name: read for name, read in OPTIONS.items() if name != b"--until"}
-MOST_TIMES = 32
 
 
 # ---------------------------------------------------------------- words
@@ -37,7 +36,7 @@ MOST_TIMES = 32
 
 def times_of(words):
     """The listed times, None where the words are no number of times and as many of them, each above the one before it."""
-    count = number_word(1, MOST_TIMES, words[0]) if words else None
+    count = number_word(1, most_times, words[0]) if words else None
     times = [number_word(0, GREATEST_EPOCH, word) for word in words[1:]]
     if count is None or len(times) != count or None in times:
         return None
@@ -75,13 +74,11 @@ def level_epoch(planned, stored):
     return number(stored, 40 if len(planned.plans) == 1 else 12 + 40, 8)
 
 
-def line_of(refused):
-    """The refusal of kept states as it is told."""
-    told = refused.told
-    return {"Short": "the checkpoint is too short: {} bytes", "States": "the checkpoint has {} states, not 1 to {}",
-            "Length": "the checkpoint has {} bytes, not {}", "Digest": "the checkpoint is damaged: {} stored, {} computed",
-            "State": "{}", "Times": "the checkpoint has state {} at epoch {}, not {}"}[refused.name].format(
-                *(it.hex() if isinstance(it, bytes) else it for it in told))
+TELL = KeptRefusals(
+    short="the checkpoint is too short: {} bytes".format, states="the checkpoint has {} states, not 1 to {}".format,
+    other_length="the checkpoint has {} bytes, not {}".format,
+    damaged=lambda stored, computed: f"the checkpoint is damaged: {stored.hex()} stored, {computed.hex()} computed",
+    other_time="the checkpoint has state {} at epoch {}, not {}".format)
 
 
 def held_states(order, planned):
@@ -89,16 +86,16 @@ def held_states(order, planned):
     if order.from_ is None:
         return []
     stored = input_judge.fetched(order.from_.decode(), "checkpoint")
-    tests = LevelTests(level_length(planned), lambda piece: level_refusal(planned, piece), lambda piece: level_epoch(planned, piece))
-    refused = kept_refusal(tests, order.times, stored)
-    if refused is not None:
-        raise Refused(6, line_of(refused))
-    return [level_bases(piece, planned, GREATEST_EPOCH) for piece in pieces_of(tests.len, stored)]
+    tests = LevelTests(level_length(planned), lambda state: level_refusal(planned, state), lambda state: level_epoch(planned, state))
+    line = kept_refusal(TELL, tests, order.times, stored)
+    if line is not None:
+        raise Refused(6, line)
+    return [level_bases(state, planned, GREATEST_EPOCH) for state in states_in(tests.len, stored)]
 
 
 def check_states(order, planned):
     wanted = kept_length(len(order.times), level_length(planned))
-    if wanted > input_judge.LIMITS["checkpoint"]:
+    if wanted > longest_kept:
         raise Refused(3, f"too many bytes of states: {wanted}")
 
 

@@ -1,11 +1,13 @@
-"""Sweeps without exchange, the states that a quench keeps, and their text: docs/specification/quench.md."""
+"""Sweeps without exchange, the states that a quench keeps, and their text: quenched_states/specs/StillRule.antt, KeptStates.antt and
+QuenchText.antt."""
 from collections import namedtuple
 
 from reference.words import monus, slice_index, table
 from reference.opening import PlainCopy, PlainSlot, Sample, dynamics_of, slots_of
 from reference.sweep import Configuration, sweeps
 from reference.epoch import slot_at
-from reference.planes import distance_correlation, link_overlap, site_overlap, total_overlap
+from reference.copies import two_time_field
+from reference.planes import distance_correlation, link_overlap, total_overlap
 from reference.measured import observed_in
 
 # What the first line says: the rule as it is written, the listed times, and how many states were held from the beginning.
@@ -26,6 +28,9 @@ def still(plan, s, e):
     return Sample(s.bit, e, table(lambda t: still_slot(plan, s.bit, t, monus(e, s.epoch), slot_at(s.slots, t)), slots_of(plan)), s.pairs)
 
 
+most_times = 32
+
+
 def time_at(times, j):
     return slice_index(times, j)
 
@@ -37,17 +42,6 @@ def kept_state(plan, s, times, j):
 def gone_on(plan, times, count, held, j):
     """State j of a quench of which the first `count` states, at least one, are held: `held(k)` is state k of them."""
     return held(j) if j < count else still(plan, held(monus(count, 1)), time_at(times, j))
-
-
-# ---------------------------------------------------------------- fields of one copy at two times
-
-
-def copy_of(slot, a):
-    return slot.first if a == 0 else slot.second
-
-
-def two_time_field(earlier, later, a):
-    return site_overlap(copy_of(earlier, a).spins, copy_of(later, a).spins)
 
 
 # ---------------------------------------------------------------- the text
@@ -75,8 +69,12 @@ def slot_lines(h, seen, fields, j, b, t):
         pair_line(h.size, time_at(h.times, i), time, b, t, lambda a, i=i: fields(i, j, b, t, a)) for i in range(j))
 
 
+def sample_lines(h, seen, fields, j, b):
+    return "".join(slot_lines(h, seen, fields, j, b, t) for t in range(h.slots))
+
+
 def time_lines(h, seen, fields, j):
-    return "".join(slot_lines(h, seen, fields, j, b, t) for b in range(h.samples) for t in range(h.slots))
+    return "".join(sample_lines(h, seen, fields, j, b) for b in range(h.samples))
 
 
 def lines_between(h, seen, fields, first, end):

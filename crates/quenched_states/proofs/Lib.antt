@@ -1,0 +1,6 @@
+pub mod StillParts
+pub mod KeptLines
+pub mod Fields
+pub mod KnownQuenches
+pub mod KnownCopies
+pub mod KnownBytes
