@@ -1,6 +1,6 @@
 -- What holds of quenches, for every plan, state and list of times.
-use Rattle.std.specs.Prelude.{◌≡◌, ℕ, ◌+◌, ◌*◌, ◌<◌, ◌≤◌, ℤ, pos, nat_abs, ◌+ℤ◌, ◌≤ℤ◌, Bool, List, ◌++◌, length, take}
-use Rattle.spin_model.specs.Lattice.{volume}
+use Rattle.std.specs.Prelude.{◌≡◌, ℕ, ◌+◌, ◌*◌, ◌%◌, ◌<◌, ◌≤◌, ℤ, pos, nat_abs, ◌+ℤ◌, ◌≤ℤ◌, Bool, List, ◌++◌, length, take}
+use Rattle.spin_model.specs.Lattice.{IsLawfulSize, volume}
 use Rattle.scalar_rule.specs.Plan.{Plan, slots_of}
 use Rattle.scalar_rule.specs.Epoch.{swept_slots}
 use Rattle.scalar_rule.specs.Serial.{serial}
@@ -81,3 +81,8 @@ TrianglesHold = (l : ℕ) (a b c : List Bool)
 -- a sum over pairs of sites some steps apart is at most the number of these pairs
 abbrev pub DistancesAreBounded : Type 0
 DistancesAreBounded = (l : ℕ) (q : Field) (r : ℕ) → IsAtMostOne q → nat_abs (distance_correlation l q r) ≤ 3 * volume l
+
+-- and of two configurations it is a multiple of 4: steps of one length along an axis close into rings, and around a ring an even number
+-- of the products of neighbours is -1
+abbrev pub DistancesAreFours : Type 0
+DistancesAreFours = (l : ℕ) (first second : List Bool) (r : ℕ) → IsLawfulSize l → nat_abs (distance_correlation l (site_overlap first second) r) % 4 ≡ 0

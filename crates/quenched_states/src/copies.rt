@@ -1,6 +1,6 @@
 //! Overlap fields of copies: each law is the contract of a function with an empty body.
 
-ghost use Rattle.quenched_states.specs.Laws.{CopiesTurn, DistancesAreBounded, FieldsAreSymmetric, TrianglesHold, TwoTimesAreCopies};
+ghost use Rattle.quenched_states.specs.Laws.{CopiesTurn, DistancesAreBounded, DistancesAreFours, FieldsAreSymmetric, TrianglesHold, TwoTimesAreCopies};
 
 /// The field of a copy at two times is that of two of the four copies of both states.
 pub fn two_times_are_copies()
@@ -25,4 +25,9 @@ pub fn triangles_hold()
 /// The sum over pairs of sites some steps apart is at most the number of these pairs.
 pub fn distances_are_bounded()
     ensures { DistancesAreBounded }
+{}
+
+/// The sum over pairs of sites some steps apart, of the field of two configurations, is a multiple of 4.
+pub fn distances_are_fours()
+    ensures { DistancesAreFours }
 {}
