@@ -1,9 +1,13 @@
 pub mod FirstByIndex
 pub mod FirstRefusals
 pub mod Firsts
-pub mod KnownBytes
 pub mod Maps
 pub mod NumberBytes
 pub mod Numerals
+pub mod PartsWritten
+pub mod Paths
 pub mod Puts
+pub mod SaveParts
+pub mod Steps
+pub mod WholeFiles
 pub mod Writing

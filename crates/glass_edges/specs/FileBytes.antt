@@ -1,6 +1,5 @@
--- What a file gives and gets, as far as std's readers and writers know their bytes.
-use Rattle.std.specs.Prelude.{◌≡◌, ℕ, ◌≤◌, List, length, take, Option}
-use Rattle.std.specs.Io.KnownBytes.{Appends}
+-- What is answered of a file that can't be opened.
+use Rattle.std.specs.Prelude.{◌≡◌}
 use Rattle.std.specs.declared.io.ErrorKind.{ErrorKind}
 use Rattle.std.specs.declared.io.ErrorKind.TheVariants.{NotFound}
 use Rattle.glass_edges.specs.declared.shelf.Fetched.{Fetched}
@@ -11,9 +10,3 @@ use Rattle.glass_edges.specs.declared.shelf.Fetched.TheVariants.{Absent, Failed}
 pub record IsUnopened (kind : ErrorKind) (fetched : Fetched) : Type 0 where
   pub absent : kind ≡ NotFound → fetched ≡ Absent
   pub failed : ¬ (kind ≡ NotFound) → fetched ≡ Failed
-
--- a writer has got the first of the bytes and nothing else
-pub record AppendsFront (before now : Option (List ℕ)) (bytes : List ℕ) : Type 0 where
-  pub count : ℕ
-  pub within : count ≤ length bytes
-  pub front : Appends before now (take count bytes)

@@ -12,4 +12,6 @@ pub mod Writes
 -- what stores keep, and what the steps inside say: for proofs alone
 pub mod Entries
 pub mod FileBytes
+pub mod FolderSteps
+pub mod Saves
 pub mod StoreView

@@ -1,13 +1,12 @@
-//! The bytes of a file, read and written piece by piece, over any reader and writer.
+//! The bytes of a file, read piece by piece, over any reader.
 
-ghost use Rattle.std.specs.Prelude.{◌≡◌, ℕ, ◌+◌, ◌<◌, ◌≤◌, true, length, is_err, IfOk, IfErr, OnOk, OnErr, IfSome};
-ghost use Rattle.std.specs.Io.KnownBytes.{Appends};
+ghost use Rattle.std.specs.Prelude.{◌≡◌, ℕ, ◌+◌, ◌<◌, ◌≤◌, length, IfOk, IfErr, IfSome};
 ghost use Rattle.std.specs.IoError.{error_kind};
-ghost use Rattle.glass_edges.specs.FileBytes.{IsUnopened, AppendsFront};
+ghost use Rattle.glass_edges.specs.FileBytes.{IsUnopened};
 
-use crate::{Fault, Fetched};
+use crate::Fetched;
 use std::alloc::Global;
-use std::io::{self, ErrorKind, Read, Write};
+use std::io::{self, ErrorKind, Read};
 
 /// What a file of at most `limit` bytes gives, of which the system has told whether it can be read.
 pub(crate) fn read_opened<F: Read + Drop>(
@@ -67,34 +66,4 @@ fn read_within<F: Read>(file: &mut F, alloc: Global, limit: u64) -> Fetched
         }
     }
     Fetched::Failed
-}
-
-/// Writes all of the bytes to a file, of which the system has told whether it can be written.
-pub(crate) fn write_created<F: Write + Drop>(
-    created: io::Result<F>,
-    bytes: &[u8],
-) -> Result<(), Fault>
-    ensures { IfErr created (λ _. is_err result ≡ true) }
-{
-    match created {
-        Ok(mut file) => write_pieces(&mut file, bytes),
-        Err(_) => Err(Fault),
-    }
-}
-
-/// Writes all of the bytes, piece by piece. The first error of the system, and a length of 0, is a
-/// fault, after which nothing more is written: the writer has got a front of the bytes.
-pub(crate) fn write_pieces<W: Write>(writer: &mut W, bytes: &[u8]) -> Result<(), Fault>
-    ensures whole { OnOk result (Appends (W.contents writer.old) (W.contents writer.new) bytes.now) }
-    ensures front { OnErr result
-        (AppendsFront (W.contents writer.old) (W.contents writer.new) bytes.now) }
-{
-    let mut at = 0;
-    'pieces: while at < bytes.len() {
-        match writer.write(&bytes[at..]) {
-            Ok(count) if count > 0 => at += count,
-            _ => return Err(Fault),
-        }
-    }
-    Ok(())
 }

@@ -5,6 +5,7 @@ ghost use Rattle.glass_edges.specs.Causes.{one_more};
 
 use crate::file_bytes::read_opened;
 use crate::placing::place_file;
+use crate::system_folders::SystemFolders;
 use crate::{Fault, Fetched, Shelf};
 use std::alloc::Global;
 use std::fs::File;
@@ -16,7 +17,7 @@ use std::rt::Files;
 /// exception is a name that the system doesn't find at a fetch, which is absent.
 #[derive(Drop)]
 pub struct FileShelf<R> {
-    rt: R,
+    folders: SystemFolders<R>,
     faults: u64,
 }
 
@@ -33,7 +34,10 @@ impl<R: Files + Drop> FileShelf<R> {
     pub fn of(rt: R) -> FileShelf<R>
         ensures { result ≡ 0 }
     {
-        FileShelf { rt, faults: 0 }
+        FileShelf {
+            folders: SystemFolders { rt },
+            faults: 0,
+        }
     }
 }
 
@@ -52,7 +56,7 @@ impl<R: Files + Drop> Shelf for FileShelf<R> {
         ensures uncounted { ¬ (result ≡ Fetched.Failed) → self.new ≡ self.old }
         ensures later { self.old ≤ self.new }
     {
-        let fetched = read_opened(File::open(&self.rt, name), alloc, limit);
+        let fetched = read_opened(File::open(&self.folders.rt, name), alloc, limit);
         if let Fetched::Failed = fetched {
             self.faults = self.faults.saturating_add(1);
         }
@@ -66,7 +70,7 @@ impl<R: Files + Drop> Shelf for FileShelf<R> {
         ensures uncounted { OnOk result (self.new ≡ self.old) }
         ensures later { self.old ≤ self.new }
     {
-        let written = place_file(&self.rt, name, bytes);
+        let written = place_file(&mut self.folders, name, bytes);
         if written.is_err() {
             self.faults = self.faults.saturating_add(1);
         }
