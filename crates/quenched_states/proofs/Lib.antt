@@ -2,6 +2,7 @@ pub mod StillParts
 pub mod KeptLines
 pub mod Fields
 pub mod Rings
+pub mod KeptFrames
 pub mod KnownQuenches
 pub mod KnownCopies
 pub mod KnownBytes

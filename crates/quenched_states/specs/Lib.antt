@@ -6,3 +6,4 @@ pub mod CrossText
 pub mod KeptBytes
 pub mod KeptTests
 pub mod Laws
+pub mod ByteLaws

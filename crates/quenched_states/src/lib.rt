@@ -2,10 +2,14 @@
 //! and public laws over them: no code.
 #![tactic(auto)]
 
+mod bytes;
 mod copies;
 mod lines;
 mod motion;
 
+pub use bytes::{
+    kept_bytes_are_long, kept_bytes_are_one, kept_bytes_are_read, kept_bytes_have_frame,
+};
 pub use copies::{
     copies_turn, distances_are_bounded, distances_are_fours, fields_are_symmetric, triangles_hold,
     two_times_are_copies,
