@@ -25,11 +25,11 @@ pub enum Work {
     Plan,
     /// The state is written.
     Encode,
-    /// The same, and the digest of all bytes by sha2 alone.
+    /// The state is written, and sha2 alone digests its bytes.
     Sha2,
-    /// The same, and the bytes are read.
+    /// The state is written, and its bytes are read.
     Decode,
-    /// The same, and the state that was read is written and compared.
+    /// The state is written, its bytes are read, and what was read is written and compared.
     Again,
 }
 

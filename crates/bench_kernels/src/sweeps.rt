@@ -58,7 +58,8 @@ fn least_of<R: Clock + Threads + Sync>(
     Ok(least)
 }
 
-/// The same of both replicas of the slot, in turn where the lattice is large enough.
+/// Sweeps both replicas of the slot that many times in each pass, in turn where the lattice is large
+/// enough. Gives the least nanoseconds of a pass.
 fn least_of_both<R: Clock + Threads + Sync>(
     rt: &R,
     duo: &mut Duo,

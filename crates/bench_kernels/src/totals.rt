@@ -39,7 +39,7 @@ fn time_unsatisfied(rt: &HostRuntime, replica: &Replica, plan: &Plan, passes: u3
     Ok(())
 }
 
-/// The same of `agreeing`.
+/// Prints the least nanoseconds of a pass of `agreeing` and the planes that it left.
 fn time_agreeing(rt: &HostRuntime, a: &Replica, b: &Replica, passes: u32) -> Result<()>
     requires { HaveOneSize a.now b.now }
 {

@@ -143,8 +143,8 @@ impl Couplings {
         self.plane_of_size(self.size() as usize, colour, z, d)
     }
 
-    /// The same, for a caller that knows the size: where that is a constant, the compiler reaches the
-    /// planes of all directions from one address.
+    /// What `plane` gives, for a caller that knows the size: where that is a constant, the compiler reaches
+    /// the planes of all directions from one address.
     #[inline]
     pub fn plane_of_size(&self, size: usize, colour: u32, z: u32, d: u32) -> &[u64]
         requires size { size ≡ self.now.size }

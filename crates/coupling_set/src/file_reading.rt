@@ -26,7 +26,7 @@ pub(crate) fn read_samples(words: &mut [u64], lattice: &Lattice, bytes: &[u8], f
     read_samples_with(words, lattice, bytes, first, &mut column);
 }
 
-// The same, with a buffer for one byte of each sample.
+// Reads these samples by way of a buffer for one byte of each.
 fn read_samples_with(
     words: &mut [u64],
     lattice: &Lattice,

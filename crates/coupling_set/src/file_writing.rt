@@ -48,7 +48,7 @@ pub(crate) fn samples_of(
     Ok(bytes)
 }
 
-// The same, with a buffer for the words of the eight bonds of a byte.
+// Writes the samples by way of a buffer for the words of the eight bonds of a byte.
 fn write_samples(bytes: &mut [u8], couplings: &Couplings, samples: u32, words: &mut [u64])
     requires few { samples ≤ 64 }
     requires sized { length bytes.old ≡ samples * sample_bytes couplings.now.size }

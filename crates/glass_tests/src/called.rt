@@ -50,7 +50,7 @@ pub fn store<R: AllocGlobal>(rt: &R, run: &str, failing: u64) -> Result<MemorySh
     Ok(shelf)
 }
 
-/// The same of so many slots, all of one row of thresholds, which never swap.
+/// A store of a run file and the tables of so many slots, all of one row of thresholds, which never swap.
 pub fn store_of<R: AllocGlobal>(rt: &R, slots: u32) -> Result<MemoryShelf, Fail> {
     let mut rules = String::new(rt.alloc());
     let mut swaps = String::new(rt.alloc());

@@ -70,7 +70,7 @@ impl Gate for Entered {
     }
 }
 
-/// The same run file, of 65 samples and without spins: two banks.
+/// A run file of 65 samples, which are two banks, without spins.
 const RUN_OF_65: &str = "size = 4
 rule = \"heat\"
 rules = \"rules.csv\"

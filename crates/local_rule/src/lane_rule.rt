@@ -73,7 +73,7 @@ pub fn heat_bath_sites<const N: usize>(
     }
 }
 
-// The same by a row in order, with choices of two operations.
+// Heat bath by a row in order, with choices of two operations.
 #[inline(always)]
 fn heat_bath_rising<const N: usize>(
     draws: &[u32; N],
@@ -108,7 +108,7 @@ fn heat_bath_rising<const N: usize>(
     raised_lanes(fours, from_four, up_to_three).to_array()
 }
 
-// The same by any row. Out of line and borrowing copies alone, so that a loop over sites holds one body and
+// Heat bath by any row. Out of line and borrowing copies alone, so that a loop over sites holds one body and
 // keeps in registers what it lends to that.
 #[inline(never)]
 fn heat_bath_any<const N: usize>(
@@ -163,7 +163,7 @@ pub fn metropolis_sites<const N: usize>(
     flipped_sites(draws, ready, aligned, spins, spins)
 }
 
-// The same, where those bonds of a sample are satisfied whose bits are equal to that of `same`.
+// Metropolis, where those bonds of a sample are satisfied whose bits are equal to that of `same`.
 #[inline(always)]
 fn flipped_sites<const N: usize>(
     draws: &[u32; N],
@@ -188,7 +188,7 @@ fn flipped_sites<const N: usize>(
     }
 }
 
-// The same by a row in order, with choices of two operations.
+// Metropolis by a row in order, with choices of two operations.
 #[inline(always)]
 fn flipped_falling<const N: usize>(
     draws: &[u32; N],
@@ -215,7 +215,7 @@ fn flipped_falling<const N: usize>(
     differing_lanes(load(spins), joined_lanes(load(&no_four), flipped)).to_array()
 }
 
-// The same by any row, out of line as above.
+// Metropolis by any row, out of line as heat bath is.
 #[inline(never)]
 fn flipped_any<const N: usize>(
     draws: &[u32; N],

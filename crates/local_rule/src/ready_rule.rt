@@ -67,7 +67,7 @@ impl ReadyRule {
         self.in_order
     }
 
-    /// The same rule once more.
+    /// A copy.
     #[inline(always)]
     pub fn copy(&self) -> ReadyRule
         ensures { result ≡ self.now }
@@ -79,8 +79,7 @@ impl ReadyRule {
         }
     }
 
-    /// The same rule once more, which is of this kind and in order: so code that it is expanded in asks
-    /// for neither.
+    /// A copy of a rule that is of this kind and in order: code that it is expanded in asks for neither.
     #[inline(always)]
     pub fn copy_in_order(&self, kind: RuleKind) -> ReadyRule
         requires kind { kind ≡ self.now.kind }

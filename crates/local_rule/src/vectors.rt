@@ -116,7 +116,8 @@ pub fn accepted_lanes<const N: usize>(
     differing_lanes(by_ones, shared_lanes(twos, differing_lanes(four, six)))
 }
 
-/// The same, where the bits for six are among those for five, and these among those for four.
+/// What `accepted_lanes` gives where the bits for six are among those for five, and these
+/// among those for four.
 #[inline(always)]
 pub fn fallen_lanes<const N: usize>(
     ones: Simd<u64, N>,

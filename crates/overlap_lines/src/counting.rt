@@ -91,7 +91,7 @@ fn add_line(tally: &mut Tally, duo: &Duo, lattice: &Lattice, shift: Shift)
     add_planes(tally, &pairs, &mut overlaps, &mut ahead);
 }
 
-// The same plane by plane, with buffers for the overlaps in a plane.
+// Adds these sites plane by plane, with buffers for the overlaps in a plane.
 fn add_planes(tally: &mut Tally, pairs: &Pairs, overlaps: &mut [u64], ahead: &mut [u64])
     requires fits { FitsDuo pairs.now.lattice.now pairs.now.duo.now }
     requires direction { pairs.now.shift.direction < 3 }

@@ -74,7 +74,7 @@ fn put_samples<O: Sink>(potts: &Potts, samples: u32, out: &mut O) -> Result<(), 
     put_with(potts, samples, &energies, out)
 }
 
-// The same by their energies.
+// Puts the lines of samples that have these energies.
 fn put_with<O: Sink>(
     potts: &Potts,
     samples: u32,

@@ -68,7 +68,7 @@ pub(crate) fn half_sweep(
     half_sweep_with(sites, wheels, &sweep, &mut draws);
 }
 
-// The same, with a buffer for the draws of a plane.
+// The half sweep by way of a buffer for the draws of a plane.
 fn half_sweep_with(
     sites: &mut Items<[u64; 2]>,
     wheels: &mut Items<Wheel>,

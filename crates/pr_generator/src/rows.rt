@@ -80,7 +80,7 @@ pub fn fill_words(rows: &mut Rows, out: &mut [u32])
     fill_rest(rows, rest);
 }
 
-// The same for a multiple of eight.
+// Writes a multiple of eight random numbers.
 fn fill_rows(rows: &mut Rows, out: &mut [u32])
     requires rows { AreRows rows.old }
     requires whole { length out.old % 8 ≡ 0 }
@@ -236,7 +236,7 @@ pub fn turn_by(rows: &mut Rows, count: usize) -> [u32; 8]
     drawn
 }
 
-// The same by two words, as many as eights leave of a plane whose side is no multiple of four: in
+// A turn by two words, as many as eights leave of a plane whose side is no multiple of four: in
 // registers, since rows that are read beside the places where they were written wait for the writes.
 #[inline(always)]
 fn turn_by_two(rows: &mut Rows) -> [u32; 8]

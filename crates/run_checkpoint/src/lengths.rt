@@ -33,7 +33,7 @@ pub fn length_ragged(size: u32, slots: u32, pending: u64) -> u64
     uneven_len(size, slots, pending)
 }
 
-// The same for any number of records that four bytes hold.
+// The number of bytes for any number of records that four bytes hold.
 #[tactic(auto, unfolding(crate::specs::Lengths::uneven_len))]
 pub(crate) fn uneven_len(size: u32, slots: u32, pending: u64) -> u64
     requires size { size ≤ 64 }

@@ -103,7 +103,7 @@ pub(crate) fn unfilled_pairs(alloc: Global, count: usize) -> Result<Items<PairWh
     Ok(Items::of(pairs))
 }
 
-// The same, with positions and so many records.
+// A state to be filled whose slots have positions, with so many records.
 pub(crate) fn unfilled_ragged(
     alloc: Global,
     size: u32,

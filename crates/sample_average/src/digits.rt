@@ -54,7 +54,8 @@ pub(crate) fn number_at(most: u64, end: u8, bytes: &[u8]) -> Option<(u64, &[u8])
     Some((value, &bytes[count + 1..]))
 }
 
-/// The same of a number with a sign, of at most `most` on both sides of 0.
+/// The number with a sign that the bytes begin with, of at most `most` on both sides of 0, followed
+/// by the byte `end`.
 #[tactic(auto, unfolding(crate::specs::LineReading::signed_at))]
 pub(crate) fn signed_at(most: u64, end: u8, bytes: &[u8]) -> Option<(i32, &[u8])>
     requires { most < 2 ^ 31 }
