@@ -7,3 +7,6 @@ pub mod Signed
 pub mod Distances
 pub mod Powers
 pub mod BinnedSums
+pub mod Links
+pub mod MeasuredBounds
+pub mod SlotGrowth

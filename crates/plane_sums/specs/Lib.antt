@@ -6,4 +6,5 @@ pub mod Rooms
 pub mod Correlations
 pub mod Measured
 pub mod Bins
+pub mod Slots
 pub mod Sums

@@ -1,6 +1,6 @@
 //! The sums of a slot by bin.
 
-ghost use Rattle.std.specs.Prelude.{◌≡◌, ℕ, ◌+◌, ◌-◌, ◌<◌, ◌≤◌, ◌==◌, false, ◌+ℤ◌, pos, length, IfOk};
+ghost use Rattle.std.specs.Prelude.{◌≡◌, ℕ, ◌+◌, ◌-◌, ◌<◌, ◌≤◌, ◌==◌, false, ◌+ℤ◌, pos, ◌↔◌, IsTrue, length, IfOk};
 ghost use Rattle.measured_sums.specs.EpochBins.{bin_of};
 ghost use Rattle.measured_sums.specs.MeasuredSums.{Observed, Quantity, term_of};
 ghost use Rattle.plane_sums.specs.Bins.{bin_at, sum_in, AreBins, AreEmpty};
@@ -72,6 +72,13 @@ impl SlotSums {
     {
         let bin = (bin_of(epoch) - self.first) as usize;
         self.bins.at_mut(bin).add(seen, lattice);
+    }
+
+    /// Whether there is room for the epochs of a bin.
+    pub fn has_bin(&self, bin: u32) -> bool
+        ensures { IsTrue result ↔ (self.now.first ≤ bin) × (bin < self.now.first + length self.now.bins) }
+    {
+        self.first <= bin && ((bin - self.first) as usize) < self.bins.len()
     }
 
     /// The sums of a bin.
