@@ -52,13 +52,13 @@ rows-split m samples every c k e first second =
     ∙ ap (λ v. flat_map F (table (λ j. c + j) (k - c)) ++ flat_map F v) shift
 
 -- states of the 64 samples at one epoch, with the plan's numbers of slots and pairs
-record AreStates (plan : Plan) (start : ℕ → Sample) : Type 0 where
-  bits : (b : ℕ) → b < 64 → (start b).bit ≡ b
-  epochs_are : (b : ℕ) → b < 64 → (start b).epoch ≡ (start 0).epoch
-  slots : (b : ℕ) → b < 64 → length (start b).slots ≡ slots_of plan
-  pairs : (b : ℕ) → b < 64 → length (start b).pairs ≡ pairs_of plan
+pub record AreStates (plan : Plan) (start : ℕ → Sample) : Type 0 where
+  pub bits : (b : ℕ) → b < 64 → (start b).bit ≡ b
+  pub epochs_are : (b : ℕ) → b < 64 → (start b).epoch ≡ (start 0).epoch
+  pub slots : (b : ℕ) → b < 64 → length (start b).slots ≡ slots_of plan
+  pub pairs : (b : ℕ) → b < 64 → length (start b).pairs ≡ pairs_of plan
 
-abbrev IsFounded : Plan → Beginning → Type 0
+abbrev pub IsFounded : Plan → Beginning → Type 0
 IsFounded plan (Level start) = AreStates plan start
 IsFounded plan (Uneven stand) = length stand.places ≡ slots_of plan
 
@@ -84,7 +84,7 @@ read-founded planned until bytes (Level start) (are, within, is) =
     }
 read-founded planned until bytes (Uneven stand) are = are.0.places
 
-founded : (planned : Planned) (from : Beginning) → IsLawfulPlan planned.plan → AreLawfulOrders planned.orders → IsBeginning planned from → IsFounded planned.plan from
+pub founded : (planned : Planned) (from : Beginning) → IsLawfulPlan planned.plan → AreLawfulOrders planned.orders → IsBeginning planned from → IsFounded planned.plan from
 founded planned from lawful orders (inl opened) = subst (IsFounded planned.plan) (sym opened) (opening-founded planned)
 founded planned from lawful orders (inr (until, bytes, are, is)) = read-founded planned until bytes from (accepted planned until bytes from lawful orders are is)
 
@@ -96,7 +96,7 @@ rows-uneven plan samples every e (Level start) few f =
     (λ b k since on h. table-same _ _ (slots_of plan) (λ t ht. level-record plan start samples every b k t (f.bits b (omega arith)) (f.epochs_are b (omega arith)) since ht)))
 rows-uneven plan samples every e (Uneven stand) few f = refl
 
-start-floor : (plan : Plan) (from : Beginning) → 0 < slots_of plan → begins_at from ≡ floor_of (states_of plan from 0).positions
+pub start-floor : (plan : Plan) (from : Beginning) → 0 < slots_of plan → begins_at from ≡ floor_of (states_of plan from 0).positions
 start-floor plan (Level start) some =
     let n = slots_of plan in
     let e = (start 0).epoch in
@@ -129,7 +129,7 @@ rule-state : (plan : Plan) (from : Beginning) (b e : ℕ) → b < 64 → reached
 rule-state plan (Level start) b e small upto f = let same = f.epochs_are b small in serial-ready plan (start b) e (f.slots b small) (f.pairs b small) (omega arith)
 rule-state plan (Uneven stand) b e small upto f = refl
 
-rule-spins : (plan : Plan) (samples e : ℕ) (from : Beginning) → samples ≤ 64 → reached_by from ≤ e → IsFounded plan from
+pub rule-spins : (plan : Plan) (samples e : ℕ) (from : Beginning) → samples ≤ 64 → reached_by from ≤ e → IsFounded plan from
     → spins_at plan samples from e ≡ all_spins plan samples (λ b. (all_ready plan (states_of plan from b) e).slots)
 rule-spins plan samples e (Level start) few upto f = spins-same plan samples _ _ (λ b h. ap (λ (s : Sample). s.slots) (rule-state plan (Level start) b e (omega arith) upto f))
 rule-spins plan samples e (Uneven stand) few upto f = refl
@@ -158,7 +158,7 @@ rest-reached plan s c past =
     }
 
 -- no slot of a beginning is past what it has reached
-start-done : (plan : Plan) (from : Beginning) (b t : ℕ) → b < 64 → t < slots_of plan → IsFounded plan from → done (position_at (states_of plan from b) t) ≤ reached_by from
+pub start-done : (plan : Plan) (from : Beginning) (b t : ℕ) → b < 64 → t < slots_of plan → IsFounded plan from → done (position_at (states_of plan from b) t) ≤ reached_by from
 start-done plan (Level start) b t small h f =
     let there : Position = record { epoch = (start b).epoch; waits = false } in
     let at : done (position_at (level_start plan (start b)) t) ≡ (start b).epoch + 0 = ap done (get_or-table (λ k. there) (slots_of plan) t _ h) in
@@ -170,7 +170,7 @@ start-rank : (p : Position) (c : ℕ) → done p ≤ c → rank p ≤ 4 * c
 start-rank p c h = (rank-upto p.epoch c p.waits h).0
 
 -- a beginning has completed no more in all slots than in some
-begins-upto : (plan : Plan) (from : Beginning) → 0 < slots_of plan → IsFounded plan from → begins_at from ≤ reached_by from
+pub begins-upto : (plan : Plan) (from : Beginning) → 0 < slots_of plan → IsFounded plan from → begins_at from ≤ reached_by from
 begins-upto plan (Level start) some f = omega arith
 begins-upto plan (Uneven stand) some f = floor-upto stand (deepest_of (positions_of stand)) (omega (arith, f)) (omega arith)
 
@@ -179,7 +179,7 @@ left-state : (plan : Plan) (samples every : ℕ) (from : Beginning) (later : ℕ
     → later b ≡ all_ready plan (states_of plan from b) (later 0).epoch
 left-state plan samples every from later b small f left = left.1 b small ∙ rule-state plan from b (later 0).epoch small left.0 f
 
-left-founded : (plan : Plan) (samples every : ℕ) (from next : Beginning) → IsFounded plan from → Leaves plan samples every from next → IsFounded plan next
+pub left-founded : (plan : Plan) (samples every : ℕ) (from next : Beginning) → IsFounded plan from → Leaves plan samples every from next → IsFounded plan next
 left-founded plan samples every from (Level later) f left =
     let same = left-state plan samples every from later in
     record {
@@ -194,7 +194,7 @@ left-founded plan samples every from (Level later) f left =
     states-bit plan (Uneven stand) b small f = refl
 left-founded plan samples every from (Uneven came) f left = left.fits.places
 
-left-reached : (plan : Plan) (samples every : ℕ) (from next : Beginning) (b : ℕ) → b < 64 → IsFounded plan from → Leaves plan samples every from next
+pub left-reached : (plan : Plan) (samples every : ℕ) (from next : Beginning) (b : ℕ) → b < 64 → IsFounded plan from → Leaves plan samples every from next
     → IsReached plan (states_of plan from b) (states_of plan next b)
 left-reached plan samples every from (Level later) b small f left =
     let c = (later 0).epoch in
@@ -203,7 +203,7 @@ left-reached plan samples every from (Level later) b small f left =
 left-reached plan samples every from (Uneven came) b small f left = left.reached b small
 
 -- all slots have completed at least as many epochs
-left-since : (plan : Plan) (samples every : ℕ) (from next : Beginning) → 0 < slots_of plan → IsFounded plan from → Leaves plan samples every from next → begins_at from ≤ begins_at next
+pub left-since : (plan : Plan) (samples every : ℕ) (from next : Beginning) → 0 < slots_of plan → IsFounded plan from → Leaves plan samples every from next → begins_at from ≤ begins_at next
 left-since plan samples every from (Level later) some f left = let z = begins-upto plan from some f in let y = left.0 in omega arith
 left-since plan samples every from (Uneven came) some f left = left.since
 
@@ -220,7 +220,7 @@ together plan (Level later) b t small h f =
     get_or-table (λ k. at (later b).epoch) (slots_of plan) t _ h ∙ ap at (f.epochs_are b small) ∙ sym (get_or-table (λ k. at (later 0).epoch) (slots_of plan) t _ h)
 together plan (Uneven came) b t small h f = refl
 
-are-reached : (plan : Plan) (samples every : ℕ) (from next : Beginning) → 0 < slots_of plan → 1 ≤ samples → samples ≤ 64 → IsFounded plan from → Leaves plan samples every from next
+pub are-reached : (plan : Plan) (samples every : ℕ) (from next : Beginning) → 0 < slots_of plan → 1 ≤ samples → samples ≤ 64 → IsFounded plan from → Leaves plan samples every from next
     → AreReached plan samples every (states_of plan from) (kept_of from) (states_of plan next) (kept_of next)
 are-reached plan samples every from next some one few f left =
     let g = left-founded plan samples every from next f left in
@@ -234,7 +234,7 @@ are-reached plan samples every from next some one few f left =
     }
 
 -- the rows of a run, and those of one that goes on from what it left
-rows-step : (plan : Plan) (samples every e : ℕ) (from next : Beginning) → 0 < slots_of plan → 1 ≤ samples → samples ≤ 64 → IsFounded plan from → Leaves plan samples every from next → begins_at next ≤ e
+pub rows-step : (plan : Plan) (samples every e : ℕ) (from next : Beginning) → 0 < slots_of plan → 1 ≤ samples → samples ≤ 64 → IsFounded plan from → Leaves plan samples every from next → begins_at next ≤ e
     → rows_to plan samples every from e ≡ rows_to plan samples every from (begins_at next) ++ rows_to plan samples every next e
 rows-step plan samples every e from next some one few f left upto =
     let k = begins_at next in
@@ -264,18 +264,18 @@ rows-add plan samples every e from (next ∷ left) some one few f are =
 
 -- ---- the end
 
-last-founded : (plan : Plan) (samples every e : ℕ) (from : Beginning) (left : List Beginning) → IsFounded plan from → AreLeft plan samples every e from left → IsFounded plan (last_of from left)
+pub last-founded : (plan : Plan) (samples every e : ℕ) (from : Beginning) (left : List Beginning) → IsFounded plan from → AreLeft plan samples every e from left → IsFounded plan (last_of from left)
 unfolding AreLeft last_of
 last-founded plan samples every e from [] f are = f
 last-founded plan samples every e from (next ∷ left) f are = last-founded plan samples every e next left (left-founded plan samples every from next f are.0) are.2
 
-last-upto : (plan : Plan) (samples every e : ℕ) (from : Beginning) (left : List Beginning) → reached_by from ≤ e → AreLeft plan samples every e from left → reached_by (last_of from left) ≤ e
+pub last-upto : (plan : Plan) (samples every e : ℕ) (from : Beginning) (left : List Beginning) → reached_by from ≤ e → AreLeft plan samples every e from left → reached_by (last_of from left) ≤ e
 unfolding AreLeft last_of
 last-upto plan samples every e from [] upto are = upto
 last-upto plan samples every e from (next ∷ left) upto are = last-upto plan samples every e next left are.1 are.2
 
 -- the state at one epoch, from what the last run goes on from and from the start
-last-state : (plan : Plan) (samples every e b : ℕ) (from : Beginning) (left : List Beginning) → b < 64 → IsFounded plan from → AreLeft plan samples every e from left
+pub last-state : (plan : Plan) (samples every e b : ℕ) (from : Beginning) (left : List Beginning) → b < 64 → IsFounded plan from → AreLeft plan samples every e from left
     → all_ready plan (states_of plan (last_of from left) b) e ≡ all_ready plan (states_of plan from b) e
 unfolding AreLeft last_of
 last-state plan samples every e b from [] small f are = refl

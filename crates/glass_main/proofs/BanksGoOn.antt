@@ -19,7 +19,7 @@ use Rattle.scalar_rule.specs.Serial.{serial}
 use Rattle.scalar_rule.specs.declared.sample.Sample.{Sample}
 use Rattle.scalar_rule.specs.declared.sample.Start.{Start}
 use Rattle.scalar_rule.proofs.Resuming.{serial-serial, epoch-serial}
-use Rattle.glass_main.specs.ManyBanks.{PlannedBanks, openings_from, starts_at, banks_at}
+use Rattle.glass_main.specs.ManyBanks.{PlannedBanks, openings_from, starts_at, banks_at, banks_bytes}
 use Rattle.glass_main.specs.ResumeLaws.{AreBankPlans, AreBeginnings, banks_rows, banks_spins, BanksGoOnFrom}
 use Rattle.glass_main.proofs.AddingUp.{rows-split}
 use Rattle.glass_main.proofs.ReadRuns.{saved-banks-read}
@@ -48,7 +48,7 @@ banks-at c (plan ∷ plans) (start ∷ starts) are =
     ((λ b small. sym (epoch b small) ∙ (epoch 0 (omega arith) ∙ are.1)), banks-at c plans starts are.2)
 
 -- a run begins at one epoch
-begin-at : (planned : PlannedBanks) (starts : List (ℕ → Sample)) → AreBeginnings planned starts → (c : ℕ) × AreAt c planned.plans starts
+pub begin-at : (planned : PlannedBanks) (starts : List (ℕ → Sample)) → AreBeginnings planned starts → (c : ℕ) × AreAt c planned.plans starts
 begin-at planned starts begin = elim begin [
   | inl is ↦ (0, subst (AreAt 0 planned.plans) (sym is) (opened-at 0 planned.plans planned.orders.start))
   | inr held ↦ (held.0, banks-at held.0 planned.plans starts held.1)
@@ -128,7 +128,7 @@ banks-agree epoch (p ∷ ps) (s ∷ ss) (o ∷ os) are same = (
 -- ---- all together
 
 -- the report in its parts
-text-parts : (o : Orders) (until c : ℕ) (plan : Plan) (more plans : List Plan) (starts : List (ℕ → Sample)) → plans ≡ plan ∷ more → AreAt c plans starts
+pub text-parts : (o : Orders) (until c : ℕ) (plan : Plan) (more plans : List Plan) (starts : List (ℕ → Sample)) → plans ≡ plan ∷ more → AreAt c plans starts
     → banks_report (banks_with plans starts) o until
     ≡ header_line plan o.samples (starts_at starts) until
     ++ rows_in_order (banks_measured (banks_with plans starts)) o.samples o.every (starts_at starts) until
@@ -143,37 +143,51 @@ text-parts o until c plan more (p ∷ ps) (s ∷ ss) is at =
     let rows = rows_in_order (banks_measured bs) o.samples o.every (s 0).epoch until in
     ap (λ x. header_line x o.samples (s 0).epoch until ++ rows ++ end_line until ++ cond o.spins (all_spins x o.samples (banks_slots bs until)) []) first
 
+-- a run that goes on from states at epoch e, which are those of one that begins with `starts`: what both print and save
+pub record GoOn (planned : PlannedBanks) (starts later : List (ℕ → Sample)) (e until : ℕ) : Type 0 where
+  pub at : AreAt e planned.plans later
+  pub rows : banks_rows planned starts until ≡ banks_rows planned starts e ++ banks_rows planned later until
+  pub spins : (plan : Plan) → banks_spins plan planned starts until ≡ banks_spins plan planned later until
+  pub checkpoint : banks_bytes planned starts until ≡ banks_bytes planned later until
+
+pub go-on : (planned : PlannedBanks) (starts later : List (ℕ → Sample)) (c e until : ℕ) → 0 < length planned.plans → AreAt c planned.plans starts → c ≤ e → e ≤ until
+    → AreSameBanks later (banks_at planned.plans starts e) → GoOn planned starts later e until
+unfolding banks_encoding
+go-on planned starts later c e until some at before within same =
+    let ps = planned.plans in
+    let o = planned.orders in
+    let first = first-at c ps starts some at in
+    let next = later-at c e before ps starts later at same in
+    let from = first-at e ps later some next in
+    let m = banks_measured (banks_with ps starts) in
+    let n = banks_measured (banks_with ps later) in
+    let rest : rows_in_order m o.samples o.every e until ≡ rows_in_order n o.samples o.every e until =
+    rows-same m n o.samples o.every e until (λ b f since on small. sample-later c e before [] (λ s p. epoch_records p s) f since ps starts later b at same) in
+    record {
+      at = next;
+      rows = rows-split m o.samples o.every (starts_at starts) e until (omega (arith, before, first)) within
+          ∙ ap (λ v. rows_in_order m o.samples o.every (starts_at starts) e ++ v) (rest ∙ ap (λ k. rows_in_order n o.samples o.every k until) (sym from));
+      spins = λ plan. ap (λ z. cond o.spins z []) (spins-same plan o.samples (banks_slots (banks_with ps starts) until) (banks_slots (banks_with ps later) until)
+          (λ b small. sample-later c e before [] (λ s p. s.slots) until within ps starts later b at same));
+      checkpoint = ap (λ bytes. sealed (banks_header (length ps) ++ bytes)) (bytes-later c e before until within ps starts later at same);
+    }
+
 pub saved-banks-go-on : (planned : PlannedBanks) (starts : List (ℕ → Sample)) (e until : ℕ) → AreBankPlans planned.plans → AreBeginnings planned starts → starts_at starts ≤ e → e ≤ until
     → AreBanks e planned.plans (banks_at planned.plans starts e) → BanksGoOnFrom planned starts e until
-unfolding banks_encoding
 saved-banks-go-on planned starts e until plans begin upto within fit =
     let ps = planned.plans in
     let o = planned.orders in
     let some : 0 < length ps = omega (arith, plans.several) in
     let begun = begin-at planned starts begin in
-    let c = begun.0 in
-    let at = begun.1 in
-    let first = first-at c ps starts some at in
-    let before : c ≤ e = omega (arith, upto, first) in
+    let first = first-at begun.0 ps starts some begun.1 in
     let r = saved-banks-read planned e until (banks_at ps starts e) plans fit within in
-    let later = r.starts in
-    let from = first-at e ps later some (later-at c e before ps starts later at r.same) in
-    let m = banks_measured (banks_with ps starts) in
-    let n = banks_measured (banks_with ps later) in
-    let rest : rows_in_order m o.samples o.every e until ≡ rows_in_order n o.samples o.every e until =
-    rows-same m n o.samples o.every e until (λ b f since on small. sample-later c e before [] (λ s p. epoch_records p s) f since ps starts later b at r.same) in
-    let rows : banks_rows planned starts until ≡ banks_rows planned starts e ++ banks_rows planned later until =
-    rows-split m o.samples o.every (starts_at starts) e until upto within
-    ∙ ap (λ v. rows_in_order m o.samples o.every (starts_at starts) e ++ v) (rest ∙ ap (λ k. rows_in_order n o.samples o.every k until) (sym from)) in
-    let spins : (plan : Plan) → banks_spins plan planned starts until ≡ banks_spins plan planned later until =
-    λ plan. ap (λ z. cond o.spins z []) (spins-same plan o.samples (banks_slots (banks_with ps starts) until) (banks_slots (banks_with ps later) until)
-    (λ b small. sample-later c e before [] (λ s p. s.slots) until within ps starts later b at r.same)) in
+    let both = go-on planned starts r.starts begun.0 e until some begun.1 (omega (arith, upto, first)) within r.same in
     record {
-      later = later;
+      later = r.starts;
       read = r.read;
-      fit = banks-agree e ps (banks_at ps starts e) later fit r.same;
+      fit = banks-agree e ps (banks_at ps starts e) r.starts fit r.same;
       same = r.same;
-      report = λ plan more is. text-parts o until c plan more ps starts is at
-          ∙ ap₂ (λ u v. header_line plan o.samples (starts_at starts) until ++ u ++ end_line until ++ v) rows (spins plan);
-      checkpoint = ap (λ bytes. sealed (banks_header (length ps) ++ bytes)) (bytes-later c e before until within ps starts later at r.same);
+      report = λ plan more is. text-parts o until begun.0 plan more ps starts is begun.1
+          ∙ ap₂ (λ u v. header_line plan o.samples (starts_at starts) until ++ u ++ end_line until ++ v) both.rows (both.spins plan);
+      checkpoint = both.checkpoint;
     }

@@ -23,4 +23,5 @@ pub mod OneOfBanks
 pub mod LawfulPlans
 pub mod LawfulRequests
 pub mod ReadBytes
+pub mod EncodedStarts
 pub mod Completing

@@ -7,21 +7,22 @@ use Rattle.coupling_set.specs.declared.refused.CouplingsRefused.{CouplingsRefuse
 use Rattle.glass_edges.specs.Contents.{Files}
 use Rattle.glass_edges.specs.Refusals.{unless}
 use Rattle.glass_engine.specs.BankLaws.{banks_with}
-use Rattle.glass_engine.proofs.BankLaws.{below-64}
-use Rattle.glass_engine.specs.Banks.{banks_measured, banks_slots}
+use Rattle.glass_engine.proofs.BankLaws.{of-first, below-64}
+use Rattle.glass_engine.specs.Banks.{Bank, banks_measured, banks_slots}
 use Rattle.run_plan.specs.PlanOf.{plan_with}
 use Rattle.run_plan.specs.declared.run_file.CouplingSource.{CouplingSource}
 use Rattle.run_plan.specs.declared.run_file.CouplingSource.TheVariants as sources
 use Rattle.run_plan.specs.declared.run_file.RunFile.{RunFile}
 use Rattle.scalar_rule.specs.Opening.{opening}
 use Rattle.scalar_rule.specs.Plan.{Plan}
+use Rattle.scalar_rule.specs.Serial.{serial}
 use Rattle.spin_model.specs.Couplings.{Bonds, plus, random}
 use Rattle.spin_model.specs.Steps.{table}
 use Rattle.spin_model.proofs.Tables.{table-add, table-zero, table-more}
 use Rattle.threshold_table.specs.Tables.{RuleView}
 use Rattle.glass_main.specs.ManyBanks.{PlannedBanks, bank_count, bank_plans, openings_from}
 use Rattle.glass_main.specs.Request.{and_then, told_as, bytes_at, bonds_in, banks_by, stored_at, couplings_from, rules_at, swaps_at, banks_after_tables, banks_after_rules, banks_after_file, plan_after_rules, plan_after_file}
-use Rattle.glass_main.specs.SampleLaws.{file_for_64, IsOfOneBank}
+use Rattle.glass_main.specs.SampleLaws.{file_for_64, sample_state, IsOfOneBank}
 use Rattle.glass_main.specs.declared.planned.Planned.{Planned}
 use Rattle.glass_main.specs.declared.refusal.Refusal.{Refusal}
 use Rattle.glass_main.specs.declared.refusal.Refusal.TheVariants as refused
@@ -97,10 +98,14 @@ of-bank-0 file rules swaps bonds b several below =
     let p = plan_of (couplings_with file.lattice (bank_of 0 bonds)) in
     let rest = table (λ g. plan_of (couplings_with file.lattice (bank_of (1 + g) bonds))) (n - 1) in
     let first = first-plan plan_of file.lattice n bonds (omega arith) in
-    let law = below-64 (record { plan = p; start = opening p start 0 }) (banks_with rest (openings_from (0 + 1) rest start)) b below in
+    let bank : Bank = record { plan = p; start = opening p start 0 } in
+    let others = banks_with rest (openings_from (0 + 1) rest start) in
+    let law = below-64 bank others b below in
     record {
       records = λ f. ap (λ ps. banks_measured (banks_with ps (openings_from 0 ps start)) b f) first ∙ law.records f;
       slots = λ e. ap (λ ps. banks_slots (banks_with ps (openings_from 0 ps start)) e b) first ∙ law.slots e;
+      state = λ none e. ap (λ ps. sample_state none (banks_with ps (openings_from 0 ps start)) e b) first
+          ∙ of-first none (λ (x : Bank) m. serial x.plan (x.start m) e) bank others b below;
     }
 
 by-parts : (file : RunFile) (rules : RuleView) (swaps : List (List ℕ)) (bonds : ℕ → Bonds) (couplings : CouplingsView) (planned : PlannedBanks) (one : Planned) (b : ℕ) → 64 < file.orders.samples → b < 64

@@ -16,6 +16,7 @@ pub mod ResumeLaws
 pub mod LawfulRequests
 pub mod SavedLaws
 pub mod SampleLaws
+pub mod NamedStarts
 -- how the code's commands and plans are read, what plans keep, and what the steps inside say: for proofs alone
 pub mod KeptPlans
 pub mod Gathers

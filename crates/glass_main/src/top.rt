@@ -5,6 +5,7 @@ ghost use Rattle.glass_main.specs.CheckpointBytes.{ReadsBytes};
 ghost use Rattle.command_words.specs.CommandLine.{Run, command_of, saved_name};
 ghost use Rattle.glass_main.specs.Endings.{ReadsNoFile};
 ghost use Rattle.glass_main.specs.LawfulRequests.{IsLawfulWork};
+ghost use Rattle.glass_main.specs.NamedStarts.{Starts};
 ghost use Rattle.glass_main.specs.Outside.{output, store};
 ghost use Rattle.glass_main.specs.Request.{request};
 ghost use Rattle.command_words.specs.RunWords.{RunOrder, SaysRun};
@@ -88,6 +89,10 @@ pub fn glass<R: Threads + Wait + Sync, H: Shelf, O: Sink, E: Sink, G: Gate + Syn
 
     // The checkpoint that was read is a list of numbers below 256, as the laws on checkpoints ask.
     ensures bytes { result ≡ 0 → ReadsBytes (command_of (texts words.now)) (H.holds shelf.old) }
+
+    // So what it starts with is the state whose encoding the bytes of the named checkpoint are, or where none
+    // is named the opening states.
+    ensures starts { result ≡ 0 → Starts (command_of (texts words.now)) (H.holds shelf.old) }
 
     // Where the store did not fail a refusal is told, and where the output did not either the work is
     // done, but for lack of memory.

@@ -9,3 +9,6 @@ pub mod CheckpointLengths
 pub mod NextRuns
 mod Packing
 mod Seals
+mod RunsOfBanks
+mod StopsOfRuns
+mod SampleBanks

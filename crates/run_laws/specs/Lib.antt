@@ -4,3 +4,6 @@ pub mod NextRuns
 pub mod LawfulRuns
 pub mod PackingLaws
 pub mod SealLaws
+pub mod RunsOfBanks
+pub mod StopsOfRuns
+pub mod SampleBanks

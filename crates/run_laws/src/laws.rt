@@ -5,7 +5,10 @@ ghost use Rattle.run_laws.specs.LawfulRuns.{BanksReportsAreLawful, EndedReportsA
 ghost use Rattle.run_laws.specs.LengthLaws.{SavedCheckpointsAreShort};
 ghost use Rattle.run_laws.specs.NextRuns.{LawfulRunsGoOn};
 ghost use Rattle.run_laws.specs.PackingLaws.{OrdersDontReachCheckpoints, PackingChangesNothing};
+ghost use Rattle.run_laws.specs.RunsOfBanks.{RunsOfBanksAddUp};
+ghost use Rattle.run_laws.specs.SampleBanks.{SamplesAreOfTheirBanks};
 ghost use Rattle.run_laws.specs.SealLaws.{ChangedBytesAreRefused, OtherPlansAreRefused};
+ghost use Rattle.run_laws.specs.StopsOfRuns.{StopsOfRunsAddUp};
 ghost use Rattle.glass_main.specs.ResumeLaws.{AcceptedBanksAreEncodings, SavedBanksAreRead, SavedBanksGoOn, SavedRunsAreRead, SavedRunsGoOn};
 ghost use Rattle.glass_main.specs.SampleLaws.{SamplesBelow64AreOfOneBank};
 ghost use Rattle.glass_main.specs.SavedLaws.{EncodedStatesAreRead, ReadStatesAreEncoded};
@@ -88,6 +91,18 @@ pub fn stopped_runs_add_up()
     ensures { StoppedRunsAddUp }
 {}
 
+/// Runs that stop, the last one too, are one run: the one that stops after as many hand-outs of a slot as they
+/// made comes to the state to which they come, and its report has their rows, one after the other.
+pub fn stops_of_runs_add_up()
+    ensures { StopsOfRunsAddUp }
+{}
+
+/// Runs of 2 to 4 banks that are saved and resumed add up, however often: the rows of all of them, one after
+/// the other, are the rows of one run, and the spins and the checkpoint of the last are those of the one.
+pub fn runs_of_banks_add_up()
+    ensures { RunsOfBanksAddUp }
+{}
+
 /// By the name that has what a lawful run saved, whose states fit, the next run of the same plan and orders
 /// begins with it: of 64 samples, of a run that stopped, or of 2 to 4 banks.
 pub fn lawful_runs_go_on()
@@ -112,10 +127,16 @@ pub fn encoded_states_are_read()
     ensures { EncodedStatesAreRead }
 {}
 
-/// The records and the slots of the samples below 64 of a run of several banks are, at every epoch from the
-/// opening states on, those of the run with 64 samples of the same run file and the same files.
+/// The records, the slots and the whole state of a sample below 64 of a run of several banks are, at every epoch
+/// from the opening states on, those of the run with 64 samples of the same run file and the same files.
 pub fn samples_below_64_are_of_one_bank()
     ensures { SamplesBelow64AreOfOneBank }
+{}
+
+/// Sample 64g + m of a run of several banks is bit m of bank g: its records, its slots and its whole state, at
+/// every epoch from the opening states on, are those by the plan of that bank.
+pub fn samples_are_of_their_banks()
+    ensures { SamplesAreOfTheirBanks }
 {}
 
 /// Two runs that differ in their workers and pieces alone ask for the same; the text and the checkpoint of

@@ -8,7 +8,8 @@ pub use laws::{
     changed_bytes_are_refused, encoded_states_are_read, ended_reports_are_lawful,
     lawful_runs_go_on, orders_dont_reach_checkpoints, other_plans_are_refused,
     packing_changes_nothing, parts_are_accepted, read_states_are_encoded, run_reports_are_lawful,
-    samples_below_64_are_of_one_bank, saved_banks_are_read, saved_banks_go_on,
-    saved_checkpoints_are_short, saved_runs_are_read, saved_runs_go_on, saved_stops_are_read,
-    stopped_reports_are_lawful, stopped_runs_add_up,
+    runs_of_banks_add_up, samples_are_of_their_banks, samples_below_64_are_of_one_bank,
+    saved_banks_are_read, saved_banks_go_on, saved_checkpoints_are_short, saved_runs_are_read,
+    saved_runs_go_on, saved_stops_are_read, stopped_reports_are_lawful, stopped_runs_add_up,
+    stops_of_runs_add_up,
 };

@@ -1,6 +1,8 @@
 use Rattle.std.proofs.Common.{sym, ◌∙◌}
 use Rattle.command_words.specs.Words.{texts}
+use Rattle.command_words.specs.CommandLine.{command_of}
 use Rattle.glass_main.proofs.Completing.{completes}
+use Rattle.glass_main.proofs.EncodedStarts.{request-starts}
 use Rattle.glass_main.proofs.LawfulRequests.{request-lawful}
 use Rattle.glass_main.proofs.ReadBytes.{done-of}
 use Rattle.command_words.proofs.SaidRuns.{command_of-run}
@@ -19,3 +21,8 @@ returns-clause-lawful g c = λ zero.
 
 pub returns-clause-bytes : goal.returns-clause-bytes
 returns-clause-bytes g c = λ zero. c.answer-ending.ensures.bytes (done-of c.answer-ending.result (sym c.status.ensures ∙ zero))
+
+pub returns-clause-starts : goal.returns-clause-starts
+returns-clause-starts g c = λ zero.
+    let done = done-of c.answer-ending.result (sym c.status.ensures ∙ zero) in
+    request-starts (command_of (texts c.args.words.now)) (g.H.Shelf.holds c.args.shelf.now) (c.answer-ending.ensures.bytes done)

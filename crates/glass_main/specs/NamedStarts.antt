@@ -1,0 +1,60 @@
+-- What a command starts with: the state whose encoding the bytes of the checkpoint are that it names, or where it names none the
+-- opening states.
+use Rattle.std.specs.Prelude.{◌≡◌, ℕ, List, Option, Some, None, IfSome, IfOk}
+use Rattle.std.specs.FinMap as finmap
+use Rattle.glass_edges.specs.Contents.{Files}
+use Rattle.spin_model.specs.Limits.{last_epoch}
+use Rattle.run_checkpoint.specs.Decoding.{IsEncoded}
+use Rattle.command_words.specs.CommandLine.{Command, Plain, Check, Run, Average, Demo, Lines, Potts, Age}
+use Rattle.glass_main.specs.Beginnings.{opened_by}
+use Rattle.glass_main.specs.ManyBanks.{banks_opened_by}
+use Rattle.glass_main.specs.Request.{Work, PlainWork, CheckWork, RunWork, BanksWork, AverageWork, DemoWork, LinesWork, PottsWork, AgeWork, request_for}
+use Rattle.glass_main.specs.ResumeLaws.{IsEncodingOfBanks}
+use Rattle.glass_main.specs.StopLaws.{IsEncodingOf}
+
+-- the checkpoint that a command names: a run may go on from one, and `lines` prints of one
+abbrev pub named_checkpoint : Option Command → Option (List ℕ)
+named_checkpoint None = None
+named_checkpoint (Some (Plain order)) = None
+named_checkpoint (Some (Check name)) = None
+named_checkpoint (Some (Run order)) = order.from
+named_checkpoint (Some (Average order)) = None
+named_checkpoint (Some (Demo n)) = None
+named_checkpoint (Some (Lines order)) = Some order.checkpoint
+named_checkpoint (Some (Potts order)) = None
+named_checkpoint (Some (Age order)) = None
+
+-- where none is named a run starts with the opening states of its plans
+abbrev pub StartsAnew : Work → Type 0
+StartsAnew (PlainWork order) = Unit {0}
+StartsAnew (CheckWork plans) = Unit {0}
+StartsAnew (RunWork planned from until stop_after) = from ≡ opened_by planned
+StartsAnew (BanksWork planned starts until) = starts ≡ banks_opened_by planned
+StartsAnew (AverageWork averages) = Unit {0}
+StartsAnew (DemoWork n) = Unit {0}
+StartsAnew (LinesWork saved) = ⊥
+StartsAnew (PottsWork order) = Unit {0}
+StartsAnew (AgeWork planned wait times) = Unit {0}
+
+-- the bytes of the named one are the encoding of what a run goes on from, or `lines` prints of, which is in time; no other
+-- work is asked for then
+abbrev pub StartsWith : List ℕ → Work → Type 0
+StartsWith bytes (PlainWork order) = ⊥
+StartsWith bytes (CheckWork plans) = ⊥
+StartsWith bytes (RunWork planned from until stop_after) = IsEncodingOf planned until bytes from
+StartsWith bytes (BanksWork planned starts until) = IsEncodingOfBanks planned.plans until bytes starts
+StartsWith bytes (AverageWork averages) = ⊥
+StartsWith bytes (DemoWork n) = ⊥
+StartsWith bytes (LinesWork saved) = IsEncoded saved.planned.plan last_epoch bytes saved.base
+StartsWith bytes (PottsWork order) = ⊥
+StartsWith bytes (AgeWork planned wait times) = ⊥
+
+-- one of the two, by the name; the files have bytes under it
+abbrev pub StartsBy : Option (List ℕ) → Files → Work → Type 0
+StartsBy None files work = StartsAnew work
+StartsBy (Some name) files work = (bytes : List ℕ) × (finmap.get files name ≡ Some bytes) × StartsWith bytes work
+
+-- what a command asks for, where the files are observable and nothing refuses it
+abbrev pub Starts : Option Command → Option Files → Type 0
+Starts command None = Unit {0}
+Starts command (Some files) = IfSome (request_for command (Some files)) (λ asked. IfOk asked (StartsBy (named_checkpoint command) files))
