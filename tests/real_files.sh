@@ -321,30 +321,46 @@ full_disk() {
     disk=''
 }
 
-# Saves under a limit of 8 KB for a file, less than a checkpoint, into a pipe: sized HOW, which sets what the signal does
+# Saves under a limit of 8 KB for a file, less than a checkpoint, into a pipe: sized HOW NAME, HOW sets what the signal
+# does
 sized() {
     {
-        (eval "$1"; ulimit -f 8; exec "$glass" run run.toml --save sized 2>"$err" </dev/null)
+        (eval "$1"; ulimit -f 8; exec "$glass" run run.toml --save "$2" 2>"$err" </dev/null)
         echo $? >"$room/kept/status"
     } 2>/dev/null | cat >"$out"
     cmp -s "$out" "$whole" || complain "run under a limit of 8 KB: the report is not whole"
-    holds sized "$room/kept/older"
+    holds "$2" "$room/kept/older"
 }
 
 # A limit on the length of files is a full disk where its signal is ignored. Else the system kills the program with
 # half a checkpoint written, as at any kill: the older one stands whole, and the next run removes what is left.
 limited_length() {
-    echo 'an older one' >sized
-    cp sized "$room/kept/older"
-    sized "trap '' XFSZ"
+    local name=$1 new=$2
+    echo 'an older one' >"$name"
+    cp "$name" "$room/kept/older"
+    sized "trap '' XFSZ" "$name"
     judge "$(cat "$room/kept/status")" 10 'placing the checkpoint failed' 'run --save under a limit of 8 KB'
-    [ ! -e .sized.new ] || complain "a checkpoint that did not fit left its new file"
-    sized :
+    [ ! -e "$new" ] || complain "a checkpoint that did not fit left its new file $new"
+    sized : "$name"
     [ "$(cat "$room/kept/status")" -gt 128 ] || complain "a limit of 8 KB did not kill the program: $(cat "$room/kept/status")"
-    saves sized 0 ''
-    holds sized checkpoint
-    [ ! -e .sized.new ] || complain "the new file of a killed run still stands"
-    rm sized
+    [ -e "$new" ] || complain "a killed run left no new file $new"
+    saves "$name" 0 ''
+    holds "$name" checkpoint
+    [ ! -e "$new" ] || complain "the new file $new of a killed run still stands"
+    rm "$name"
+}
+
+# So many dots: dots COUNT
+dots() {
+    printf '%*s' "$1" '' | tr ' ' .
+}
+
+# Names up to the greatest length. Behind a dot and before .new, 250 bytes of the last one would be the name itself.
+limited_lengths() {
+    limited_length sized .sized.new
+    limited_length "$(over_and_over n 250)" ".$(over_and_over n 250).new"
+    limited_length "$(over_and_over n 251)" ".$(over_and_over n 245).new"
+    limited_length "$(dots 251).new" "$(dots 246).new"
 }
 
 # ---------------------------------------------------------------- memory
@@ -391,7 +407,7 @@ files_that_grow
 outputs_that_fail
 checkpoints_that_fail
 full_disk
-limited_length
+limited_lengths
 little_memory
 if [ "$failed" -gt 0 ]; then
     echo "real_files: $failed of the checks of $runs runs failed" >&2
