@@ -1,2 +1,3 @@
 mod Products
 mod Grid
+mod Quenched

@@ -1,1 +1,2 @@
 pub mod Observables
+pub mod QuenchedObservables

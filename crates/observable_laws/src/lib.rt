@@ -3,6 +3,7 @@
 #![tactic(auto)]
 
 ghost use Rattle.observable_laws.specs.Observables.{OverlapIsASum, LinkSumIsASum, LineSumIsASum, LinesAreSymmetric, LinksAreShortestLines, TwoTimeOverlapIsASum, PottsEnergyIsASum};
+ghost use Rattle.observable_laws.specs.QuenchedObservables.{DistancesAreLines, TwoTimesAreAging};
 
 /// The overlap of the records, twice the agreeing sites less all sites, is the sum of q over the sites.
 pub fn overlap_is_a_sum()
@@ -37,4 +38,14 @@ pub fn two_time_overlap_is_a_sum()
 /// The energy of the Potts glass is minus the sum of J over the bonds whose two colours are equal.
 pub fn potts_energy_is_a_sum()
     ensures { PottsEnergyIsASum }
+{}
+
+/// What a quench prints of a distance is the sum of the three lines of that length.
+pub fn distances_are_lines()
+    ensures { DistancesAreLines }
+{}
+
+/// What a quench prints of a copy at two times is the two-time overlap at the sweeps of these times.
+pub fn two_times_are_aging()
+    ensures { TwoTimesAreAging }
 {}

@@ -74,6 +74,11 @@ pub refused_state : refused (0 ∷ 1 ∷ []) ≡ Some (5 ∷ [])
 unfolding kept_refusal first_found
 refused_state = refl
 
+-- also where it is at another time
+pub refused_before_time : refused (1 ∷ 1 ∷ []) ≡ Some (5 ∷ [])
+unfolding kept_refusal first_found
+refused_before_time = refl
+
 pub another_time : refused (1 ∷ 0 ∷ []) ≡ Some (6 ∷ 0 ∷ 1 ∷ 0 ∷ [])
 unfolding kept_refusal first_found
 another_time = refl

@@ -1,10 +1,10 @@
 -- The text of a quench of a ferromagnet at side 4: all spins are up, and after a sweep each bond is against its spins, for good.
 -- Worked out by hand.
-use Rattle.std.proofs.Common.{◌≡◌, ℕ, zero, suc, Bool, ◌==◌, if◌then◌else◌, List, [], ◌∷◌, ◌++◌, ℤ, pos, neg_ℤ, codes, refl}
+use Rattle.std.proofs.Common.{◌≡◌, ℕ, zero, suc, Bool, ◌%◌, ◌==◌, if◌then◌else◌, List, [], ◌∷◌, ◌++◌, ℤ, pos, neg_ℤ, codes, refl}
 use Rattle.std.specs.Fmt.{digits}
 use Rattle.spin_model.specs.Steps.{table, steps}
 use Rattle.spin_model.specs.SignedSums.{sum_of}
-use Rattle.spin_model.specs.Lattice.{forward, colour}
+use Rattle.spin_model.specs.Lattice.{forward, colour, x_of}
 use Rattle.measured_sums.specs.OverlapField.{Field}
 use Rattle.measured_sums.specs.MeasuredSums.{Observed}
 use Rattle.quenched_states.specs.QuenchText.{QuenchHeading, quench_heading_line, state_line, pair_line, quench_text}
@@ -53,3 +53,25 @@ pub no_state : quench_text (heading (0 ∷ 1 ∷ []) 2) seen fields
     ++ codes "end\n"
 unfolding digits quench_text quench_heading_line state_line pair_line table sum_of steps forward
 no_state = refl
+
+-- ---- single lines, whose numbers differ
+
+-- -1 where x is odd
+abbrev layers : Field
+layers site = if x_of 4 site % 2 == 1 then neg_ℤ (pos 1) else pos 1
+
+abbrev layered : Observed
+layered = record { first_energy = neg_ℤ (pos 6); second_energy = pos 10; field = layers }
+
+pub state_of_layers : state_line 4 9 1 2 layered ≡ codes "state,9,1,2,-6,10,0,64,192\n"
+unfolding digits state_line table sum_of steps forward
+state_of_layers = refl
+
+-- one copy stays, and the other changes where x is odd
+abbrev two_copies : ℕ → Field
+two_copies zero site = pos 1
+two_copies (suc a) site = layers site
+
+pub pair_of_copies : pair_line 4 3 9 1 2 two_copies ≡ codes "pair,3,9,1,2,64,0,192,64\n"
+unfolding digits pair_line sum_of steps forward
+pair_of_copies = refl

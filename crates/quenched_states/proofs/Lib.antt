@@ -3,6 +3,7 @@ pub mod KeptLines
 pub mod Fields
 pub mod Rings
 pub mod KeptFrames
+pub mod Accepted
 pub mod KnownQuenches
 pub mod KnownCopies
 pub mod KnownBytes

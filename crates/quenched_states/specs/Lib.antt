@@ -7,3 +7,4 @@ pub mod KeptBytes
 pub mod KeptTests
 pub mod Laws
 pub mod ByteLaws
+pub mod AcceptLaws

@@ -8,7 +8,8 @@ mod lines;
 mod motion;
 
 pub use bytes::{
-    kept_bytes_are_long, kept_bytes_are_one, kept_bytes_are_read, kept_bytes_have_frame,
+    accepted_are_states, accepted_bytes_are_kept, kept_bytes_are_long, kept_bytes_are_one,
+    kept_bytes_are_read, kept_bytes_have_frame, kept_states_are_accepted,
 };
 pub use copies::{
     copies_turn, distances_are_bounded, distances_are_fours, fields_are_symmetric, triangles_hold,
