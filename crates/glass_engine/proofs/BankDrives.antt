@@ -82,6 +82,7 @@ end-saved kind run d e = record {
   lawful = e.lawful;
   stop = e.stop;
   finished = e.finished;
+  made = e.made;
 }
 
 pub ends-saved : (kind : SaveKind) (ds : List DoneView) → All (λ (d : DoneView). IsEnd d.run d.ended) ds → All (λ (d : DoneView). IsEnd d.run d.ended) (map (done_as kind) ds)

@@ -6,6 +6,7 @@ use Rattle.exchange_board.specs.Content.{plan_of, taken_before, IsLawfulOrigin}
 use Rattle.exchange_board.specs.Machine.{taken, AllEnded}
 use Rattle.exchange_board.specs.Stops.{IsStop}
 use Rattle.exchange_board.specs.Views.{Stage, BoardView, RaggedEndedView}
+use Rattle.glass_engine.proofs.Counts.{made}
 use Rattle.glass_engine.specs.KeptRun.{run_view, KeepsRun, done_view, KeepsDone}
 use Rattle.glass_engine.specs.Runs.{RunView, IsOriginOf, IsEnd}
 use Rattle.glass_engine.specs.KeptSaving.{kind_of, KeepsSaving}
@@ -24,17 +25,20 @@ end-of run b d origin lawful h =
     let S : Origin → Type 0 = λ o. IsStop o d in
     let until : run.until ≡ b.origin.window.until = sym origin.until_is ∙ ap (λ (o : Origin). o.window.until) same in
     let takes : taken_before d.origin + run.takes ≡ taken_before b.origin + b.origin.window.takes = ap (λ n. taken_before d.origin + n) (sym origin.takes_is) ∙ ap (λ (o : Origin). taken_before o + o.window.takes) same in
+    let stop = subst S (sym same) h.stop in
+    let finished : AllEnded run.until (stages_of d.stand) ⊎ (taken (stages_of d.stand) ≡ taken_before d.origin + run.takes) = elim h.finished [
+      | inl all ↦
+          let A : List Stage → Type 0 = λ ps. AllEnded run.until ps in
+          let U : ℕ → Type 0 = λ n. AllEnded n b.places in
+          inl (subst A (sym h.places) (subst U (sym until) all))
+      | inr is ↦ inr (ap taken h.places ∙ (is ∙ sym takes))
+    ] in
     record {
       origin = origin;
-      stop = subst S (sym same) h.stop;
+      stop = stop;
       lawful = lawful;
-      finished = elim h.finished [
-        | inl all ↦
-            let A : List Stage → Type 0 = λ ps. AllEnded run.until ps in
-            let U : ℕ → Type 0 = λ n. AllEnded n b.places in
-            inl (subst A (sym h.places) (subst U (sym until) all))
-        | inr is ↦ inr (ap taken h.places ∙ (is ∙ sym takes))
-      ];
+      finished = finished;
+      made = made d.origin d run.until run.takes lawful stop origin.until_is origin.takes_is finished;
     }
 
 pub run-ends : (r : run.Inside) (b : BoardView) (d : RaggedEndedView) → KeepsRun r → b.origin ≡ r.opened.value.origin → HasEnded b d → IsEnd (run_view r) d

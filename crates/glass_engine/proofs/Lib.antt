@@ -1,6 +1,7 @@
 pub mod Steps
-pub mod Driven
 pub mod WholeRuns
+pub mod Counts
+pub mod Driven
 pub mod SavedRuns
 pub mod Savings
 pub mod Pieces

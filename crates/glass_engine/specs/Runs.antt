@@ -1,14 +1,15 @@
 -- A run before and after it is driven.
-use Rattle.std.specs.Prelude.{◌≡◌, ℕ, ◌+◌, ◌≤◌, ◌⊎◌}
+use Rattle.std.specs.Prelude.{◌≡◌, ℕ, ◌+◌, ◌-◌, ◌*◌, ◌≤◌, ◌⊎◌, min, List}
 use Rattle.spin_model.specs.Limits.{last_epoch}
-use Rattle.scalar_rule.specs.Plan.{Plan}
-use Rattle.scalar_rule.specs.Ragged.{UnevenState}
+use Rattle.scalar_rule.specs.Plan.{Plan, slots_of}
+use Rattle.scalar_rule.specs.Positions.{sum_below, done, position_in}
+use Rattle.scalar_rule.specs.Ragged.{Position, UnevenState}
 use Rattle.run_plan.specs.declared.run_file.Orders.{Orders}
-use Rattle.plane_sweep.specs.Uneven.{uneven_part}
+use Rattle.plane_sweep.specs.Uneven.{positions_of, uneven_part}
 use Rattle.plane_sweep.specs.declared.uneven.RaggedStand.{RaggedStand}
 use Rattle.exchange_board.specs.declared.origin.Origin.{Origin}
 use Rattle.exchange_board.specs.Answers.{stages_of}
-use Rattle.exchange_board.specs.Content.{plan_of, taken_before, IsLawfulOrigin}
+use Rattle.exchange_board.specs.Content.{plan_of, slots_in, taken_before, IsLawfulOrigin}
 use Rattle.exchange_board.specs.Machine.{taken, AllEnded}
 use Rattle.exchange_board.specs.Stops.{IsStop}
 use Rattle.exchange_board.specs.Views.{RaggedEndedView}
@@ -50,10 +51,15 @@ pub record IsOriginOf (run : RunView) (o : Origin) : Type 0 where
   pub samples_is : o.window.samples ≡ run.orders.samples
   pub takes_is : o.window.takes ≡ run.takes
 
+-- how many hand-outs of a slot lead to positions, each slot's counted from epoch 0
+abbrev pub hand_outs : Plan → List Position → ℕ
+hand_outs plan ps = sum_below (λ t. done (position_in ps t)) (slots_of plan)
+
 -- the board was opened with what the run was opened with, which is lawful; it ended with each slot's content and the records of the rule at
--- its places; and every slot is at rest at until, or all hand-outs are made
+-- its places; every slot is at rest at until, or all hand-outs are made; and as many were made as may be, or as were left to until
 pub record IsEnd (run : RunView) (d : RaggedEndedView) : Type 0 where
   pub origin : IsOriginOf run d.origin
   pub lawful : IsLawfulOrigin d.origin
   pub stop : IsStop d.origin d
   pub finished : AllEnded run.until (stages_of d.stand) ⊎ (taken (stages_of d.stand) ≡ taken_before d.origin + run.takes)
+  pub made : hand_outs (plan_of d.origin) (positions_of d.stand) ≡ taken_before d.origin + min run.takes (slots_in d.origin * run.until - taken_before d.origin)

@@ -1,43 +1,34 @@
 -- A run that may stop: where it comes to, and its report and checkpoint.
-use Rattle.std.proofs.Common.{arith, ◌≡◌, inl, inr, ℕ, zero, suc, ◌+◌, ◌-◌, ◌*◌, ◌<◌, ◌≤◌, cond, List, [], ◌++◌, length, refl, sym, ap, ap₂, ◌∙◌, subst}
+use Rattle.std.proofs.Common.{arith, ◌≡◌, ℕ, ◌+◌, ◌-◌, ◌*◌, ◌<◌, ◌≤◌, cond, List, [], ◌++◌, length, refl, sym, ap, ap₂, ◌∙◌, subst}
 use Rattle.std.specs.Prelude.{min, ◌&&◌, nat_lt}
-use Rattle.std.proofs.Math.Nat.{min-eq_left, min-eq_right}
-use native.Mathlib.Nat.{suc-mul}
-use Rattle.std.proofs.lemmas.List.{length-map}
 use Rattle.report_text.specs.Lines.{header_line, end_line}
 use Rattle.run_plan.specs.declared.run_file.Orders.{Orders}
 use Rattle.spin_model.proofs.Tables.{table-same}
 use Rattle.scalar_rule.specs.Epoch.{epoch_records, record_of}
 use Rattle.scalar_rule.specs.Laws.{IsReached, level_start}
 use Rattle.scalar_rule.specs.Plan.{Plan, slots_of}
-use Rattle.scalar_rule.specs.Positions.{sum_below, position_in, done, floor_of, pending_record, uneven_record}
+use Rattle.scalar_rule.specs.Positions.{done, floor_of, pending_record, uneven_record}
 use Rattle.scalar_rule.specs.Ragged.{Position, UnevenState, position_at, arrived, all_ready}
 use Rattle.scalar_rule.specs.Records.{measured_from}
 use Rattle.scalar_rule.specs.Serial.{serial}
 use Rattle.scalar_rule.specs.declared.sample.Record.{Record}
 use Rattle.scalar_rule.specs.declared.sample.Sample.{Sample}
-use Rattle.scalar_rule.proofs.Extremes.{sum-most}
 use Rattle.scalar_rule.proofs.LevelRuns.{all_ready-serial, level-record}
 use Rattle.plane_sweep.specs.Packed.{part}
 use Rattle.plane_sweep.specs.Uneven.{positions_of, uneven_part, level_stand}
 use Rattle.plane_sweep.specs.declared.uneven.RaggedStand.{RaggedStand}
 use Rattle.plane_sweep.proofs.LevelStands.{level-part, level-floor}
 use Rattle.plane_sweep.proofs.SampleParts.{part-fits}
-use Rattle.exchange_board.specs.Answers.{start_place, stages_of}
-use Rattle.exchange_board.specs.Content.{plan_of, slots_in, positions_in, taken_before, IsLawfulOrigin}
-use Rattle.exchange_board.specs.Machine.{taken, AllEnded}
+use Rattle.exchange_board.specs.Content.{plan_of}
 use Rattle.exchange_board.specs.Stops.{IsStop}
 use Rattle.exchange_board.specs.Views.{RaggedEndedView}
 use Rattle.exchange_board.specs.declared.origin.Origin.{Origin}
-use Rattle.exchange_board.proofs.Origins.{done-reach}
-use Rattle.exchange_board.proofs.Starting.{taken-begun}
 use Rattle.glass_engine.specs.Report.{rows_in_order, uneven_measured, all_rest, uneven_report, bank_report}
-use Rattle.glass_engine.specs.Runs.{RunView, IsEnd}
+use Rattle.glass_engine.specs.Runs.{RunView, hand_outs, IsEnd}
 use Rattle.glass_engine.proofs.Pieces.{rows-same}
 use Rattle.glass_engine.proofs.Reporting.{spins-same}
-use Rattle.glass_engine.proofs.WholeRuns.{later, later-lawful, rest-at}
 use Rattle.glass_main.specs.Beginnings.{Beginning, Level, Uneven, begins_at, state_at, IsLevelBase, IsBaseOf}
-use Rattle.glass_main.specs.Stops.{states_of, kept_of, hand_outs, Reaches, ComesTo, rows_to, spins_at, stopped_text}
+use Rattle.glass_main.specs.Stops.{states_of, kept_of, Reaches, ComesTo, rows_to, spins_at, stopped_text}
 use Rattle.glass_main.specs.declared.planned.Planned.{Planned}
 
 -- ---- a packed state, and the states that it is the base of
@@ -148,61 +139,6 @@ reaches-origin o d s = record {
   kept = λ b f t hb ht since below recorded. s.pending.each f b t since below recorded hb ht;
 }
 
-sum-constant : (f : ℕ → ℕ) (c n : ℕ) → ((t : ℕ) → t < n → f t ≡ c) → sum_below f n ≡ n * c
-unfolding sum_below
-sum-constant f c zero each = omega arith
-sum-constant f c (suc n) each =
-    let before = sum-constant f c n (λ t h. each t (omega arith)) in
-    let last = each n (omega arith) in
-    let more : suc n * c ≡ n * c + c = suc-mul n c in
-    omega arith
-
--- no more hand-outs than all epochs of all slots
-few-hand-outs : (o : Origin) → IsLawfulOrigin o → taken_before o ≤ slots_in o * o.window.until
-few-hand-outs o l = sum-most (λ t. done (position_in (positions_in o) t)) (slots_in o) o.window.until (λ t h. done-reach o t l h)
-
-all-hand-outs : (o : Origin) (d : RaggedEndedView) → IsStop o d → AllEnded o.window.until (stages_of d.stand) → hand_outs (plan_of o) (positions_of d.stand) ≡ slots_in o * o.window.until
-all-hand-outs o d s ended =
-    let ps = positions_of d.stand in
-    sum-constant (λ t. done (position_in ps t)) o.window.until (slots_in o) (λ t h.
-    let rest = rest-at d.stand.places t o.window.until (omega (arith, s.fits.places)) (ended t (subst (λ k. t < k) (sym (length-map d.stand.places start_place ∙ s.fits.places)) h)) in
-    let at : done (position_in ps t) ≡ o.window.until + 0 = ap done rest in
-    omega arith)
-
-made-all : (before most takes made : ℕ) → before ≤ most → made ≤ before + takes → made ≡ most → made ≡ before + min takes (most - before)
-made-all before most takes made least within all =
-    let m : min takes (most - before) ≡ most - before = min-eq_right (omega arith) in
-    omega arith
-
-made-asked : (before most takes made : ℕ) → made ≤ most → made ≡ before + takes → made ≡ before + min takes (most - before)
-made-asked before most takes made within asked =
-    let m : min takes (most - before) ≡ takes = min-eq_left (omega arith) in
-    omega arith
-
--- the hand-outs that were made: as many as may be, or as were left
-made-origin : (run : RunView) (d : RaggedEndedView) → IsEnd run d
-    → hand_outs (plan_of d.origin) (positions_of d.stand) ≡ taken_before d.origin + min run.takes (slots_in d.origin * run.until - taken_before d.origin)
-made-origin run d e =
-    let o = d.origin in
-    let s = e.stop in
-    let x = later o d.stand in
-    let lx = later-lawful o d e.lawful s in
-    let made = hand_outs (plan_of o) (positions_of d.stand) in
-    let until_is = e.origin.until_is in
-    let takes_is = e.origin.takes_is in
-    let within : made ≤ taken_before o + run.takes = let z = s.taken in omega arith in
-    let most : made ≤ slots_in o * run.until = subst (λ k. made ≤ slots_in o * k) until_is (few-hand-outs x lx) in
-    let least : taken_before o ≤ slots_in o * run.until = subst (λ k. taken_before o ≤ slots_in o * k) until_is (few-hand-outs o e.lawful) in
-    elim e.finished [
-      | inl all ↦
-          let U : ℕ → Type 0 = λ k. AllEnded k (stages_of d.stand) in
-          let whole : made ≡ slots_in o * run.until = all-hand-outs o d s (subst U (sym until_is) all) ∙ ap (λ k. slots_in o * k) until_is in
-          made-all (taken_before o) (slots_in o * run.until) run.takes made least within whole
-      | inr spent ↦
-          let at : taken (stages_of d.stand) ≡ made = taken-begun x lx in
-          made-asked (taken_before o) (slots_in o * run.until) run.takes made most (sym at ∙ spent)
-    ]
-
 -- from a packed state
 pub comes-packed : (planned : Planned) (until takes : ℕ) (run : RunView) (d : RaggedEndedView) → run.plan ≡ planned.plan → run.orders ≡ planned.orders → run.until ≡ until → run.takes ≡ takes → IsEnd run d
     → ComesTo planned (Uneven run.base) until takes d.stand
@@ -219,7 +155,7 @@ comes-packed planned until takes run d plan orders last many e =
     let r3 = subst (λ v. R planned.plan planned.orders.samples v o.base) every_is r2 in
     let H : Plan → RaggedStand → ℕ → ℕ → Type 0 =
     λ p b n k. hand_outs p (positions_of d.stand) ≡ hand_outs p (positions_of b) + min n (slots_of p * k - hand_outs p (positions_of b)) in
-    let h1 : H planned.plan o.base run.takes run.until = subst (λ p. H p o.base run.takes run.until) plan_is (made-origin run d e) in
+    let h1 : H planned.plan o.base run.takes run.until = subst (λ p. H p o.base run.takes run.until) plan_is e.made in
     let h2 = subst (λ b. H planned.plan b run.takes run.until) e.origin.base_is h1 in
     let h3 = subst (λ n. H planned.plan run.base n run.until) many h2 in
     record {

@@ -3,7 +3,7 @@ use Rattle.std.specs.Prelude.{◌≡◌, ℕ, ◌+◌, ◌-◌, ◌*◌, ◌<◌
 use Rattle.report_text.specs.Lines.{header_line, end_line}
 use Rattle.scalar_rule.specs.Laws.{IsReached, level_start}
 use Rattle.scalar_rule.specs.Plan.{Plan, slots_of}
-use Rattle.scalar_rule.specs.Positions.{sum_below, done, position_in, floor_of, deepest_of, pending_record, uneven_record}
+use Rattle.scalar_rule.specs.Positions.{done, position_in, floor_of, deepest_of, pending_record, uneven_record}
 use Rattle.scalar_rule.specs.Ragged.{Position, UnevenState, all_ready}
 use Rattle.scalar_rule.specs.Records.{is_recorded, measured_from}
 use Rattle.scalar_rule.specs.Serial.{serial}
@@ -12,6 +12,7 @@ use Rattle.plane_sweep.specs.Uneven.{positions_of, uneven_part, RaggedStandFits}
 use Rattle.plane_sweep.specs.declared.uneven.RaggedStand.{RaggedStand}
 use Rattle.run_checkpoint.specs.Encoding.{AreBankStates, uneven_encoding}
 use Rattle.glass_engine.specs.Report.{rows_in_order, uneven_measured, all_rest, all_spins}
+use Rattle.glass_engine.specs.Runs.{hand_outs}
 use Rattle.glass_main.specs.Beginnings.{Beginning, Level, Uneven, begins_at, run_text, state_at, run_checkpoint}
 use Rattle.glass_main.specs.declared.planned.Planned.{Planned}
 
@@ -25,10 +26,6 @@ states_of plan (Uneven stand) = λ b. uneven_part plan.size b stand
 abbrev pub kept_of : Beginning → List Record
 kept_of (Level start) = []
 kept_of (Uneven stand) = stand.pending
-
--- how many hand-outs of a slot lead to positions, each slot's counted from epoch 0
-abbrev pub hand_outs : Plan → List Position → ℕ
-hand_outs plan ps = sum_below (λ t. done (position_in ps t)) (slots_of plan)
 
 -- ---- where a run can come to
 

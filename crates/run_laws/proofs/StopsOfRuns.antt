@@ -15,10 +15,11 @@ use Rattle.scalar_rule.proofs.UnevenReached.{ready-reached, arrived-reached, gen
 use Rattle.plane_sweep.specs.Uneven.{positions_of, uneven_part}
 use Rattle.plane_sweep.specs.declared.uneven.RaggedStand.{RaggedStand}
 use Rattle.glass_engine.specs.Report.{all_rest}
+use Rattle.glass_engine.specs.Runs.{hand_outs}
 use Rattle.glass_engine.proofs.Reporting.{spins-same}
 use Rattle.glass_main.specs.Beginnings.{Beginning, Uneven, begins_at}
 use Rattle.glass_main.specs.StopLaws.{AreLeft, last_of, all_rows}
-use Rattle.glass_main.specs.Stops.{states_of, kept_of, hand_outs, ComesTo, rows_to, spins_at, stopped_text}
+use Rattle.glass_main.specs.Stops.{states_of, kept_of, ComesTo, rows_to, spins_at, stopped_text}
 use Rattle.glass_main.specs.declared.planned.Planned.{Planned}
 use Rattle.glass_main.proofs.AddingUp.{IsFounded, founded, left-founded, left-reached, left-since, start-floor, start-done, are-reached, rows-step, rule-spins, last-founded, last-upto, last-state}
 use Rattle.run_laws.specs.StopsOfRuns.{StopsOfRunsAddUp}

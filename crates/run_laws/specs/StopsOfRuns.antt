@@ -7,9 +7,10 @@ use Rattle.scalar_rule.specs.Positions.{floor_of}
 use Rattle.plane_sweep.specs.Uneven.{positions_of}
 use Rattle.plane_sweep.specs.declared.uneven.RaggedStand.{RaggedStand}
 use Rattle.glass_engine.specs.Report.{all_rest}
+use Rattle.glass_engine.specs.Runs.{hand_outs}
 use Rattle.glass_main.specs.Beginnings.{Beginning, begins_at}
 use Rattle.glass_main.specs.StopLaws.{IsBeginning, reached_by, AreLeft, last_of, all_rows}
-use Rattle.glass_main.specs.Stops.{states_of, hand_outs, ComesTo, spins_at, stopped_text}
+use Rattle.glass_main.specs.Stops.{states_of, ComesTo, spins_at, stopped_text}
 use Rattle.glass_main.specs.declared.planned.Planned.{Planned}
 
 -- how many hand-outs of a slot lead from where a run begins to where it stops
