@@ -1,20 +1,23 @@
 -- The planes of colour 1 are counted as they are swept: what a plane's count is by stands then as at the end of the sweep.
-use Rattle.std.proofs.Common.{◌≡◌, ℕ, suc, ◌+◌, ◌-◌, ◌*◌, ◌/◌, ◌%◌, ◌^◌, ◌<◌, ◌≤◌, List, ◌++◌, length, take, drop, get_or, set, refl, ap, sym, subst, ◌∙◌, arith}
+use Rattle.std.proofs.Common.{inl, inr, ◌≡◌, ℕ, suc, ◌+◌, ◌-◌, ◌*◌, ◌/◌, ◌%◌, ◌<◌, ◌≤◌, List, ◌++◌, length, take, drop, get_or, set, refl, ap, sym, subst, ◌∙◌, arith}
+use Rattle.std.proofs.lemmas.Bool.{cases_lt}
 use Rattle.std.proofs.lemmas.List.{take-append-drop, take_at, drop_at, get_or-set_same}
 use Rattle.coupling_set.specs.CouplingWords.{CouplingsView, bonds_of}
 use Rattle.spin_model.specs.Lattice.{IsLawfulSize, half_plane, next, previous}
 use Rattle.scalar_rule.specs.Positions.{sum_below}
 use Rattle.scalar_rule.proofs.Extremes.{sum-same, sum-most}
 use Rattle.threshold_table.specs.declared.rule_table.SlotRule.{SlotRule}
-use Rattle.plane_sweep.specs.DuoSweep.{FitsColours, SweepsAhead, SweepsBehind}
 use Rattle.plane_sweep.specs.Neighbourhood.{pulls}
+use Rattle.plane_sweep.specs.Order.{IsTurnAfter, FitsColours, SweepsTurn, SweepsBehind}
 use Rattle.plane_sweep.specs.Packed.{plane_at, spins_of}
+use Rattle.plane_sweep.specs.declared.order.Turn.{Turn}
 use Rattle.plane_sweep.specs.declared.replica.Plane.{Plane}
-use Rattle.plane_sweep.proofs.BothColours.{IsOnTheWay, front-long, way-begun, way-more}
+use Rattle.plane_sweep.proofs.BothColours.{IsAhead, IsAt, front-long, way-begun, way-ahead, way-behind, way-last, way-ended}
 use Rattle.plane_sweep.proofs.Empties.{no_plane}
 use Rattle.plane_sweep.proofs.Following.{IsSameAround, pulls-around}
-use Rattle.plane_sweep.proofs.FourLanes.{next-inside, previous-inside}
+use Rattle.plane_sweep.proofs.FourLanes.{next-inside, next-around, previous-inside}
 use Rattle.bit_totals.specs.Counted.{unsatisfied_from}
+use Rattle.bit_totals.specs.CountedTurns.{CountsTurn, HasRoom, SweepsAndCounts}
 use Rattle.bit_totals.specs.RowBonds.{against_count, plane_count, planes_count, behind_count}
 use Rattle.bit_totals.specs.Tallies.{tallied}
 use Rattle.bit_totals.proofs.ColourBonds.{sum-behind}
@@ -33,147 +36,196 @@ count-around couplings c z b n other other' own same =
     (λ j. against_count (pulls couplings other' c z (j / half) (j % half)) (get_or own j 0) b) n
     (λ j below. ap (λ six. against_count six (get_or own j 0) b) (pulls-around couplings c z (j / half) (j % half) other other' same))
 
--- the planes around one that isn't the first are as they were, but for a plane further on
-around-kept : (l k : ℕ) (now new : List Plane) → k + 2 < l → ((j : ℕ) → j ≤ k + 2 → plane_at new j ≡ plane_at now j) → IsSameAround l (1 + k) new now
-around-kept l k now new inside kept =
-    let P : ℕ → Type 0 = λ j. plane_at new j ≡ plane_at now j in
-    record {
-      here = kept (1 + k) (omega arith);
-      above = subst P (sym (next-inside l (1 + k) (omega arith))) (kept (1 + k + 1) (omega arith));
-      below = subst P (sym (previous-inside l (1 + k) (omega arith) (omega arith))) (kept (1 + k - 1) (omega arith));
-    }
-
--- ---- the planes from 1 on
+-- ---- the planes of colour 1 in the order in which they are swept
 
 pub behind-none : (couplings : CouplingsView) (other own : List Plane) (b : ℕ) → behind_count couplings other own b 0 ≡ 0
 unfolding behind_count sum_below
 behind-none couplings other own b = refl
 
-behind-same : (couplings : CouplingsView) (other other' own own' : List Plane) (b n : ℕ) → ((k : ℕ) → k < n → IsSameAround couplings.size (1 + k) other' other)
-    → ((k : ℕ) → k < n → plane_at own' (1 + k) ≡ plane_at own (1 + k)) → behind_count couplings other' own' b n ≡ behind_count couplings other own b n
+behind-same : (couplings : CouplingsView) (other other' own own' : List Plane) (b n : ℕ) → ((k : ℕ) → k < n → IsSameAround couplings.size (next couplings.size k) other' other)
+    → ((k : ℕ) → k < n → plane_at own' (next couplings.size k) ≡ plane_at own (next couplings.size k)) → behind_count couplings other' own' b n ≡ behind_count couplings other own b n
 unfolding behind_count
 behind-same couplings other other' own own' b n around kept =
-    let h = half_plane couplings.size in
-    sum-same (λ k. plane_count couplings other' 1 (1 + k) (plane_at own' (1 + k)).words b h) (λ k. plane_count couplings other 1 (1 + k) (plane_at own (1 + k)).words b h) n
+    let l = couplings.size in
+    let h = half_plane l in
+    sum-same (λ k. plane_count couplings other' 1 (next l k) (plane_at own' (next l k)).words b h) (λ k. plane_count couplings other 1 (next l k) (plane_at own (next l k)).words b h) n
     (λ k below.
-    count-around couplings 1 (1 + k) b h other' other (plane_at own' (1 + k)).words (around k below)
-    ∙ ap (λ (p : Plane). plane_count couplings other 1 (1 + k) p.words b h) (kept k below))
+    count-around couplings 1 (next l k) b h other' other (plane_at own' (next l k)).words (around k below)
+    ∙ ap (λ (p : Plane). plane_count couplings other 1 (next l k) p.words b h) (kept k below))
 
 behind-next : (couplings : CouplingsView) (other own : List Plane) (b n : ℕ)
-    → behind_count couplings other own b (suc n) ≡ behind_count couplings other own b n + plane_count couplings other 1 (1 + n) (plane_at own (1 + n)).words b (half_plane couplings.size)
+    → behind_count couplings other own b (suc n) ≡ behind_count couplings other own b n + plane_count couplings other 1 (next couplings.size n) (plane_at own (next couplings.size n)).words b (half_plane couplings.size)
 unfolding behind_count sum_below
 behind-next couplings other own b n = refl
 
 pub behind-few : (couplings : CouplingsView) (other own : List Plane) (b n : ℕ) → IsLawfulSize couplings.size → behind_count couplings other own b n ≤ n * 12288
 unfolding behind_count
 behind-few couplings other own b n lawful =
-    sum-most (λ k. plane_count couplings other 1 (1 + k) (plane_at own (1 + k)).words b (half_plane couplings.size)) n 12288
-    (λ k below. omega (arith, plane-le couplings other 1 (1 + k) b (plane_at own (1 + k)).words (half_plane couplings.size), plane-room couplings.size lawful))
+    let l = couplings.size in
+    sum-most (λ k. plane_count couplings other 1 (next l k) (plane_at own (next l k)).words b (half_plane l)) n 12288
+    (λ k below. omega (arith, plane-le couplings other 1 (next l k) b (plane_at own (next l k)).words (half_plane l), plane-room l lawful))
 
--- plane 0 and those behind it are all
-behind-all : (couplings : CouplingsView) (other own : List Plane) (b n : ℕ)
-    → planes_count couplings other 1 own b (1 + n) ≡ behind_count couplings other own b n + plane_count couplings other 1 0 (plane_at own 0).words b (half_plane couplings.size)
+-- all of them
+behind-all : (couplings : CouplingsView) (other own : List Plane) (b n : ℕ) → n + 1 ≡ couplings.size → behind_count couplings other own b (suc n) ≡ planes_count couplings other 1 own b (1 + n)
 unfolding planes_count behind_count sum_below
-behind-all couplings other own b n =
-    let h = half_plane couplings.size in
-    let term = λ (z : ℕ). plane_count couplings other 1 z (plane_at own z).words b h in
+behind-all couplings other own b n all =
+    let l = couplings.size in
+    let term = λ (z : ℕ). plane_count couplings other 1 z (plane_at own z).words b (half_plane l) in
     let cut = sum-behind term 1 n in
     let one : sum_below term 1 ≡ 0 + term 0 = refl in
-    cut ∙ omega (arith, one)
+    let more : sum_below (λ k. term (next l k)) (suc n) ≡ sum_below (λ k. term (next l k)) n + term (next l n) = refl in
+    let before = sum-same (λ k. term (next l k)) (λ k. term (1 + k)) n (λ k below. ap term (next-inside l k (omega arith) ∙ omega arith)) in
+    let last = ap term (next-around l n all) in
+    omega (arith, cut, one, more, before, last)
 
 -- ---- the way of a sweep
 
 -- planes of colour 0 below n are swept, those of colour 1 from 1 on below m are, and these are counted
-pub record IsCounting (couplings : CouplingsView) (rule : SlotRule) (n m : ℕ) (old now : List Plane) (rows : List (List ℕ)) : Type 0 where
-  pub way : IsOnTheWay couplings rule n m old now
-  pub fits : FitsColours couplings.size now
+pub record IsCounting (couplings : CouplingsView) (rule : SlotRule) (i : ℕ) (turn : Turn) (old now : List Plane) (rows : List (List ℕ)) : Type 0 where
+  pub n : ℕ
+  pub m : ℕ
+  pub at : IsAt couplings rule i n m turn old now
+  pub some : 1 ≤ m
   pub counted : (b : ℕ) → b < 64 → tallied rows b ≡ behind_count couplings (take couplings.size now) (drop couplings.size now) b (m - 1)
 
--- planes 0 and 1 of colour 0
-pub counting-begun : (couplings : CouplingsView) (rule : SlotRule) (old x y : List Plane) (rows : List (List ℕ)) → 2 ≤ couplings.size → SweepsAhead couplings rule 0 old x → SweepsAhead couplings rule 1 x y
-    → ((b : ℕ) → tallied rows b ≡ 0) → IsCounting couplings rule 2 1 old y rows
-counting-begun couplings rule old x y rows large one two none = record {
-  way = way-begun couplings rule old x y large one two;
-  fits = two.fits;
-  counted = λ b h. none b ∙ sym (behind-none couplings (take couplings.size y) (drop couplings.size y) b);
-}
-
--- a plane of colour 1 is swept, and counted: those before it, from 1 on, are as they were
-counted-more : (couplings : CouplingsView) (rule : SlotRule) (n b count count' : ℕ) (now x y : List Plane) → n + 1 < couplings.size
-    → ((j : ℕ) → j ≤ n + 1 → plane_at (take couplings.size x) j ≡ plane_at (take couplings.size now) j) → drop couplings.size x ≡ drop couplings.size now
-    → SweepsBehind couplings rule (1 + n) x y
-    → count ≡ behind_count couplings (take couplings.size now) (drop couplings.size now) b n
-    → count' ≡ count + plane_count couplings (take couplings.size y) 1 (1 + n) (plane_at (drop couplings.size y) (1 + n)).words b (half_plane couplings.size)
-    → count' ≡ behind_count couplings (take couplings.size y) (drop couplings.size y) b (suc n)
-counted-more couplings rule n b count count' now x y inside front back behind before more =
-    let l = couplings.size in
-    let same =
-    behind-same couplings (take l now) (take l y) (drop l now) (drop l y) b n
-    (λ k below. around-kept l k (take l now) (take l y) (omega arith) (λ j least. ap (λ planes. plane_at planes j) behind.kept ∙ front j (omega arith)))
-    (λ k below. behind.swept.kept (1 + k) no_plane (λ at. absurd (omega arith)) ∙ ap (λ planes. plane_at planes (1 + k)) back)
-    in
-    omega (arith, more, before, same, behind-next couplings (take l y) (drop l y) b n)
-
--- a plane of colour 0, and then the one before it of colour 1
-pub counting-more : (couplings : CouplingsView) (rule : SlotRule) (z : ℕ) (old now x y : List Plane) (rows rows' : List (List ℕ)) → 2 ≤ z → z < couplings.size
-    → IsCounting couplings rule z (z - 1) old now rows → SweepsAhead couplings rule z now x → SweepsBehind couplings rule (z - 1) x y
-    → ((b : ℕ) → b < 64 → tallied rows' b ≡ tallied rows b + plane_count couplings (take couplings.size y) 1 (z - 1) (plane_at (drop couplings.size y) (z - 1)).words b (half_plane couplings.size))
-    → IsCounting couplings rule (z + 1) (z + 1 - 1) old y rows'
-counting-more couplings rule z old now x y rows rows' large below before ahead behind more =
-    let l = couplings.size in
-    let n = z - 2 in
-    let place : z - 1 ≡ 1 + n = omega arith in
-    let last : z - 1 - 1 ≡ n = omega arith in
-    let end : suc n ≡ z + 1 - 1 - 1 = omega arith in
-    let B : ℕ → Type 0 = λ i. SweepsBehind couplings rule i x y in
+pub counting-begun : (couplings : CouplingsView) (rule : SlotRule) (turn : Turn) (old : List Plane) (rows : List (List ℕ)) → IsLawfulSize couplings.size → turn ≡ (record { colour = 0; z = 0 }) → FitsColours couplings.size old
+    → ((b : ℕ) → tallied rows b ≡ 0) → IsCounting couplings rule 0 turn old old rows
+counting-begun couplings rule turn old rows lawful first fits none =
+    let T : Turn → Type 0 = λ t. IsAt couplings rule 0 0 1 t old old in
     record {
-      way = way-more couplings rule z old now x y large below before.way ahead behind;
-      fits = behind.fits;
-      counted = λ b h.
-          let now_counted = before.counted b h ∙ ap (behind_count couplings (take l now) (drop l now) b) last in
-          let added = more b h ∙ ap (λ i. tallied rows b + plane_count couplings (take l y) 1 i (plane_at (drop l y) i).words b (half_plane l)) place in
-          counted-more couplings rule n b (tallied rows b) (tallied rows' b) now x y (omega arith) (λ j least. ahead.swept.kept j no_plane (λ at. absurd (omega arith))) ahead.kept (subst B place behind)
-          now_counted added
-          ∙ ap (behind_count couplings (take l y) (drop l y) b) end;
+      n = 0;
+      m = 1;
+      at = subst T (sym first) (way-begun couplings rule old (omega arith) fits);
+      some = omega arith;
+      counted = λ b h. none b ∙ sym (behind-none couplings (take couplings.size old) (drop couplings.size old) b);
     }
 
--- the last plane of colour 1 and its plane 0: then all are counted
-pub counting-ended : (couplings : CouplingsView) (rule : SlotRule) (z side b : ℕ) (old now x y : List Plane) (rows more all : List (List ℕ)) → IsLawfulSize couplings.size → z ≡ couplings.size
-    → side ≡ couplings.size → 2 ≤ z → b < 64 → IsCounting couplings rule z (z - 1) old now rows → SweepsBehind couplings rule (side - 1) now x → SweepsBehind couplings rule 0 x y
-    → tallied more b ≡ tallied rows b + plane_count couplings (take couplings.size x) 1 (side - 1) (plane_at (drop couplings.size x) (side - 1)).words b (half_plane couplings.size)
-    → tallied all b ≡ tallied more b + plane_count couplings (take couplings.size y) 1 0 (plane_at (drop couplings.size y) 0).words b (half_plane couplings.size)
-    → tallied all b ≡ unsatisfied_from couplings.size (bonds_of couplings b) (spins_of couplings.size b y) 1 (couplings.size * half_plane couplings.size)
-counting-ended couplings rule z side b old now x y rows more all lawful whole same large h before at_last at_zero one two =
+-- a plane of colour 0: those before it of colour 1 count as they did
+counted-ahead : (couplings : CouplingsView) (rule : SlotRule) (i n m b : ℕ) (turn : Turn) (old now new : List Plane) → IsAhead couplings.size n m turn → SweepsTurn couplings rule turn.colour turn.z now new
+    → behind_count couplings (take couplings.size new) (drop couplings.size new) b (m - 1) ≡ behind_count couplings (take couplings.size now) (drop couplings.size now) b (m - 1)
+counted-ahead couplings rule i n m b turn old now new at swept =
     let l = couplings.size in
-    let n = l - 2 in
-    let place : side - 1 ≡ 1 + n = omega arith in
-    let last : z - 1 - 1 ≡ n = omega arith in
-    let end : 1 + suc n ≡ l = omega arith in
-    let B : ℕ → Type 0 = λ i. SweepsBehind couplings rule i now x in
-    let now_counted = before.counted b h ∙ ap (behind_count couplings (take l now) (drop l now) b) last in
-    let added = one ∙ ap (λ i. tallied rows b + plane_count couplings (take l x) 1 i (plane_at (drop l x) i).words b (half_plane l)) place in
-    let behind = counted-more couplings rule n b (tallied rows b) (tallied more b) now now x (omega arith) (λ j least. refl) refl (subst B place at_last) now_counted added in
-    let front : take l y ≡ take l x = at_zero.kept in
-    let kept =
-    behind-same couplings (take l x) (take l y) (drop l x) (drop l y) b (suc n)
-    (λ k below. record { here = ap (λ planes. plane_at planes (1 + k)) front; above = ap (λ planes. plane_at planes (next l (1 + k))) front; below = ap (λ planes. plane_at planes (previous l (1 + k))) front })
-    (λ k below. at_zero.swept.kept (1 + k) no_plane (λ at. absurd (omega arith)))
-    in
-    let sum = behind-all couplings (take l y) (drop l y) b (suc n) in
-    let bonds = second-bonds couplings (take l y) (drop l y) b lawful (front-long l y at_zero.fits.count) in
-    let whole_list : take l y ++ drop l y ≡ y = take-append-drop l y in
-    let counted : tallied all b ≡ planes_count couplings (take l y) 1 (drop l y) b (1 + suc n) = omega (arith, two, behind, kept, sum) in
-    counted
-    ∙ ap (planes_count couplings (take l y) 1 (drop l y) b) end
-    ∙ sym bonds
-    ∙ ap (λ planes. unsatisfied_from l (bonds_of couplings b) (spins_of l b planes) 1 (l * half_plane l)) whole_list
+    let step = swept.ahead at.colour in
+    let z = at.z in
+    let below = at.below in
+    let P : ℕ → Type 0 = λ j. plane_at (take l new) j ≡ plane_at (take l now) j in
+    let front : (j : ℕ) → j < n → P j = λ j less. step.swept.kept j no_plane (λ is. absurd (omega arith)) in
+    behind-same couplings (take l now) (take l new) (drop l now) (drop l new) b (m - 1)
+    (λ k under.
+    let far : m + 1 ≡ n = elim (cases_lt n 2) [ inl small ↦ absurd (omega (arith, at.near small)) | inr large ↦ at.far (omega arith) ] in
+    let is : next l k ≡ k + 1 = next-inside l k (omega arith) in
+    let A : ℕ → Type 0 = λ j. IsSameAround l j (take l new) (take l now) in
+    subst A (sym is) (record {
+      here = front (k + 1) (omega arith);
+      above = subst P (sym (next-inside l (k + 1) (omega arith))) (front (k + 1 + 1) (omega arith));
+      below = subst P (sym (previous-inside l (k + 1) (omega arith) (omega arith))) (front (k + 1 - 1) (omega arith));
+    }))
+    (λ k under. ap (λ planes. plane_at planes (next l k)) step.kept)
 
--- a plane's count leaves room for two more
-pub counting-room : (couplings : CouplingsView) (rule : SlotRule) (z b : ℕ) (old now : List Plane) (rows : List (List ℕ)) → IsLawfulSize couplings.size → z ≤ couplings.size → b < 64
-    → IsCounting couplings rule z (z - 1) old now rows → tallied rows b + 2 * (6 * half_plane couplings.size) < 2 ^ 20
-counting-room couplings rule z b old now rows lawful below h before =
+-- one more of colour 1
+counted-behind : (couplings : CouplingsView) (rule : SlotRule) (m z b count count' : ℕ) (now new : List Plane) → 1 ≤ m → m ≤ couplings.size → z ≡ next couplings.size (m - 1) → SweepsBehind couplings rule z now new
+    → count ≡ behind_count couplings (take couplings.size now) (drop couplings.size now) b (m - 1)
+    → count' ≡ count + plane_count couplings (take couplings.size new) 1 z (plane_at (drop couplings.size new) z).words b (half_plane couplings.size)
+    → count' ≡ behind_count couplings (take couplings.size new) (drop couplings.size new) b (m + 1 - 1)
+counted-behind couplings rule m z b count count' now new some room place step before more =
     let l = couplings.size in
-    omega (arith, before.counted b h, behind-few couplings (take l now) (drop l now) b (z - 1 - 1) lawful, plane-room l lawful, lawful.1)
+    let n = m - 1 in
+    let same =
+    behind-same couplings (take l now) (take l new) (drop l now) (drop l new) b n
+    (λ k below. record {
+      here = ap (λ planes. plane_at planes (next l k)) step.kept;
+      above = ap (λ planes. plane_at planes (next l (next l k))) step.kept;
+      below = ap (λ planes. plane_at planes (previous l (next l k))) step.kept;
+    })
+    (λ k below. step.swept.kept (next l k) no_plane (λ at.
+    let is : next l k ≡ k + 1 = next-inside l k (omega arith) in
+    elim (cases_lt m l) [
+      | inl inside ↦
+          let last : next l n ≡ n + 1 = next-inside l n (omega arith) in
+          absurd (omega arith)
+      | inr around ↦
+          let last : next l n ≡ 0 = next-around l n (omega arith) in
+          absurd (omega arith)
+    ]))
+    in
+    let P : ℕ → Type 0 = λ j. count' ≡ count + plane_count couplings (take l new) 1 j (plane_at (drop l new) j).words b (half_plane l) in
+    let added = subst P place more in
+    let next_one = behind-next couplings (take l new) (drop l new) b n in
+    let sum : count' ≡ behind_count couplings (take l new) (drop l new) b (suc n) = omega (arith, added, before, same, next_one) in
+    let end : suc n ≡ m + 1 - 1 = omega arith in
+    sum ∙ ap (behind_count couplings (take l new) (drop l new) b) end
+
+-- a turn
+pub counting-more : (couplings : CouplingsView) (rule : SlotRule) (i side : ℕ) (turn after : Turn) (old now new : List Plane) (rows rows' : List (List ℕ)) → IsLawfulSize couplings.size → i < 2 * couplings.size
+    → IsCounting couplings rule i turn old now rows → SweepsTurn couplings rule turn.colour turn.z now new → CountsTurn couplings turn.colour turn.z new rows rows' → side ≡ couplings.size → IsTurnAfter side turn after
+    → IsCounting couplings rule (i + 1) after old new rows'
+counting-more couplings rule i side turn after old now new rows rows' lawful under way swept counts same is_next =
+    let l = couplings.size in
+    let n = way.n in
+    let m = way.m in
+    let A : ℕ → Type 0 = λ k. IsTurnAfter k turn after in
+    let is = subst A same is_next in
+    elim (way.at.place under) [
+      | inl at ↦ record {
+        n = n + 1;
+        m = m;
+        at = way-ahead couplings rule i n m turn after old now new lawful.0 way.at at swept is;
+        some = way.some;
+        counted = λ b h. counts.ahead at.colour b h ∙ way.counted b h ∙ sym (counted-ahead couplings rule i n m b turn old now new at swept);
+      }
+      | inr other ↦ elim other [
+        | inl at ↦
+            let below = at.below in
+            record {
+              n = n;
+              m = m + 1;
+              at = way-behind couplings rule i n m turn after old now new lawful.0 way.at at swept is;
+              some = omega arith;
+              counted = λ b h.
+                  let place : turn.z ≡ next l (m - 1) = at.z ∙ omega (arith, way.some) ∙ sym (next-inside l (m - 1) (omega (arith, way.some))) in
+                  counted-behind couplings rule m turn.z b (tallied rows b) (tallied rows' b) now new way.some (omega arith) place (swept.behind at.colour) (way.counted b h) (counts.behind at.colour b h);
+            }
+        | inr at ↦
+            let all = at.all in
+            record {
+              n = n;
+              m = m + 1;
+              at = way-last couplings rule i n m turn after old now new lawful.0 way.at at swept;
+              some = omega arith;
+              counted = λ b h.
+                  let place : turn.z ≡ next l (m - 1) = at.z ∙ sym (next-around l (m - 1) (omega (arith, way.some))) in
+                  counted-behind couplings rule m turn.z b (tallied rows b) (tallied rows' b) now new way.some (omega arith) place (swept.behind at.colour) (way.counted b h) (counts.behind at.colour b h);
+            }
+      ]
+    ]
+
+-- all turns: then all are counted
+pub counting-ended : (couplings : CouplingsView) (rule : SlotRule) (i : ℕ) (turn : Turn) (old now : List Plane) (rows : List (List ℕ)) → IsLawfulSize couplings.size → 2 * couplings.size ≤ i → FitsColours couplings.size old
+    → IsCounting couplings rule i turn old now rows → SweepsAndCounts couplings rule old now rows
+counting-ended couplings rule i turn old now rows lawful all fits way =
+    let l = couplings.size in
+    let turns = way.at.turns in
+    let most = way.at.most in
+    let most_behind = way.at.most_behind in
+    let last : way.m - 1 ≡ suc (l - 1) = omega (arith, lawful.0) in
+    let end : 1 + (l - 1) ≡ l = omega (arith, lawful.0) in
+    record {
+      swept = way-ended couplings rule i way.n way.m turn old now (omega (arith, lawful.0)) all fits way.at;
+      counted = λ b h.
+          way.counted b h
+          ∙ ap (behind_count couplings (take l now) (drop l now) b) last
+          ∙ behind-all couplings (take l now) (drop l now) b (l - 1) (omega (arith, lawful.0))
+          ∙ ap (planes_count couplings (take l now) 1 (drop l now) b) end
+          ∙ sym (second-bonds couplings (take l now) (drop l now) b lawful (front-long l now way.at.fits.count))
+          ∙ ap (λ planes. unsatisfied_from l (bonds_of couplings b) (spins_of l b planes) 1 (l * half_plane l)) (take-append-drop l now);
+    }
+
+-- a plane's count leaves room for one more
+pub counting-room : (couplings : CouplingsView) (rule : SlotRule) (i : ℕ) (turn : Turn) (old now : List Plane) (rows : List (List ℕ)) → IsLawfulSize couplings.size → IsCounting couplings rule i turn old now rows
+    → HasRoom couplings.size rows
+counting-room couplings rule i turn old now rows lawful way = λ b h.
+    let l = couplings.size in
+    omega (arith, way.counted b h, way.at.most_behind, behind-few couplings (take l now) (drop l now) b (way.m - 1) lawful, plane-room l lawful, lawful.1)
 
 -- the count of a plane of the list
 pub behind-counted : (couplings : CouplingsView) (z b : ℕ) (front back : List Plane) (plane : Plane) → length front ≡ couplings.size → z < length back

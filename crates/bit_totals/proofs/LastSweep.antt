@@ -1,41 +1,19 @@
--- The planes of a colour, swept and counted one after the other.
-use Rattle.std.proofs.Common.{inl, inr, ◌≡◌, ℕ, zero, suc, ◌+◌, ◌-◌, ◌*◌, ◌<◌, ◌≤◌, List, ◌++◌, length, get_or, refl, ap, sym, subst, ◌∙◌, arith}
+-- The bonds of the planes of a colour, counted one after the other.
+use Rattle.std.proofs.Common.{◌≡◌, ℕ, zero, suc, ◌+◌, ◌-◌, ◌*◌, ◌<◌, ◌≤◌, List, ◌++◌, length, refl, ap, sym, subst, ◌∙◌, arith}
 use Rattle.std.proofs.Math.Nat.{zero-mul}
-use Rattle.std.proofs.lemmas.Bool.{cases_eq}
 use Rattle.std.proofs.lemmas.List.{get_or_append_left, get_or-append_right}
 use Rattle.coupling_set.specs.CouplingWords.{CouplingsView, bonds_of}
 use Rattle.spin_model.specs.Lattice.{IsLawfulSize, half_plane}
 use Rattle.scalar_rule.specs.Positions.{sum_below}
-use Rattle.scalar_rule.proofs.Extremes.{sum-same, sum-most}
-use Rattle.threshold_table.specs.declared.rule_table.SlotRule.{SlotRule}
+use Rattle.scalar_rule.proofs.Extremes.{sum-same}
 use Rattle.plane_sweep.specs.Packed.{plane_at, spins_of}
-use Rattle.plane_sweep.specs.PlaneSweep.{SweepsAt, SweepsPlane}
-use Rattle.plane_sweep.specs.Storing.{Changed}
 use Rattle.plane_sweep.specs.declared.replica.Plane.{Plane}
 use Rattle.plane_sweep.proofs.Empties.{no_plane}
 use Rattle.plane_sweep.proofs.SamplePulls.{AreOthers}
 use Rattle.bit_totals.specs.Counted.{unsatisfied_from}
 use Rattle.bit_totals.specs.RowBonds.{plane_count, planes_count}
 use Rattle.bit_totals.proofs.ColourBonds.{from-none}
-use Rattle.bit_totals.proofs.PlaceCounts.{plane-room}
-use Rattle.bit_totals.proofs.PlaneBonds.{plane-counted, plane-le}
-
--- one more plane is swept
-pub changed-at : (couplings : CouplingsView) (other : List Plane) (rule : SlotRule) (c n : ℕ) (old now new : List Plane) → Changed (SweepsPlane couplings other rule c) n old now
-    → SweepsAt couplings other rule c n now new → Changed (SweepsPlane couplings other rule c) (n + 1) old new
-changed-at couplings other rule c n old now new before swept = record {
-  sized = swept.sized ∙ before.sized;
-  done = λ k d under. elim (cases_eq k n) [
-    | inl at ↦
-        let P : Plane → Type 0 = λ p. SweepsPlane couplings other rule c n p (get_or new n d) in
-        let Q : ℕ → Type 0 = λ i. SweepsPlane couplings other rule c i (get_or old i d) (get_or new i d) in
-        subst Q (sym at) (subst P (before.kept n d (omega arith)) (swept.done d))
-    | inr apart ↦
-        let P : Plane → Type 0 = λ p. SweepsPlane couplings other rule c k (get_or old k d) p in
-        subst P (sym (swept.kept k d apart)) (before.done k d (omega arith))
-  ];
-  kept = λ k d past. swept.kept k d (λ at. absurd (omega arith)) ∙ before.kept k d (omega arith);
-}
+use Rattle.bit_totals.proofs.PlaneBonds.{plane-counted}
 
 pub planes-none : (couplings : CouplingsView) (other : List Plane) (c : ℕ) (own : List Plane) (b : ℕ) → planes_count couplings other c own b 0 ≡ 0
 unfolding planes_count sum_below
@@ -52,13 +30,6 @@ planes-more couplings other c n b now new kept =
     let last : sum_below (term new) (suc n) ≡ sum_below (term new) n + term new n = refl in
     let each = sum-same (term new) (term now) n (λ z below. ap (λ (p : Plane). plane_count couplings other c z p.words b h) (kept z below)) in
     ap (sum_below (term new)) place ∙ last ∙ ap (λ m. m + term new n) each
-
--- a plane has at most 2048 sites, of six bonds each
-pub planes-few : (couplings : CouplingsView) (other : List Plane) (c : ℕ) (own : List Plane) (b n : ℕ) → IsLawfulSize couplings.size → planes_count couplings other c own b n ≤ n * 12288
-unfolding planes_count
-planes-few couplings other c own b n lawful =
-    sum-most (λ z. plane_count couplings other c z (plane_at own z).words b (half_plane couplings.size)) n 12288
-    (λ z below. omega (arith, plane-le couplings other c z b (plane_at own z).words (half_plane couplings.size), plane-room couplings.size lawful))
 
 -- the bonds of the sites of the first n planes of a colour
 planes-bonds : (couplings : CouplingsView) (planes other own : List Plane) (c b n : ℕ) → IsLawfulSize couplings.size → c < 2 → n ≤ couplings.size

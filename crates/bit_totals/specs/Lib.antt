@@ -4,3 +4,4 @@ pub mod Tallies
 -- what the steps inside say: for proofs alone
 pub mod RowBonds
 pub mod CountedRows
+pub mod CountedTurns

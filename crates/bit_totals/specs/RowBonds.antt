@@ -3,7 +3,7 @@ use Rattle.std.specs.Prelude.{◌≡◌, ℕ, ◌+◌, ◌*◌, ◌/◌, ◌%◌
 use Rattle.coupling_set.specs.CouplingWords.{CouplingsView}
 use Rattle.local_rule.specs.SiteBits.{lane_words, site_bits}
 use Rattle.multispin_word.specs.Planes.{differs, is_set}
-use Rattle.spin_model.specs.Lattice.{half_plane}
+use Rattle.spin_model.specs.Lattice.{half_plane, next}
 use Rattle.scalar_rule.specs.Positions.{sum_below}
 use Rattle.plane_sweep.specs.Neighbourhood.{pulls}
 use Rattle.plane_sweep.specs.Packed.{plane_at}
@@ -44,10 +44,10 @@ unfoldable pub planes_count : CouplingsView → List Plane → ℕ → List Plan
 planes_count couplings other c own b n =
     sum_below (λ z. plane_count couplings other c z (plane_at own z).words b (half_plane couplings.size)) n
 
--- and those of the n planes of colour 1 from plane 1 on
+-- and those of n planes of colour 1 from plane 1 on, of which plane 0 is the last
 unfoldable pub behind_count : CouplingsView → List Plane → List Plane → ℕ → ℕ → ℕ
 behind_count couplings other own b n =
-    sum_below (λ k. plane_count couplings other 1 (1 + k) (plane_at own (1 + k)).words b (half_plane couplings.size)) n
+    sum_below (λ k. plane_count couplings other 1 (next couplings.size k) (plane_at own (next couplings.size k)).words b (half_plane couplings.size)) n
 
 -- what the words of a count add up to in sample b
 abbrev pub counted_lanes : BondCounts → ℕ → ℕ

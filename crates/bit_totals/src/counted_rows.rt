@@ -10,11 +10,11 @@ ghost use Rattle.plane_sweep.specs.PlaneSweep.{SweepsPlane, SweepsRow, SweepsWor
 ghost use Rattle.spin_model.specs.Lattice.{half_plane, IsLawfulSize};
 
 use crate::bonds::{BondCounts, add_carries, add_counts, add_last_carries, count_bonds};
-use crate::energy::{ColourPlane, count_plane};
+use crate::energy::{ColourPlane, count_sized};
 use local_rule::ReadyRule;
 use plane_sweep::{
-    Dynamics, HalfPlane, Plane, Row, Surroundings, first_row, kind_of, lend, pulls_of_four,
-    row_behind, sweep_words, update_sites, words_at,
+    HalfPlane, Plane, Row, Surroundings, first_row, kind_of, lend, pulls_of_four, row_behind,
+    sweep_words, update_sites, words_at,
 };
 use threshold_table::RuleKind;
 
@@ -26,47 +26,44 @@ struct Lent<'a, 'b> {
     draws: &'b [u32],
 }
 
-/// Sweeps the sites of colour 1 in plane `z`, and adds to each sample's number their unsatisfied bonds.
-pub(crate) fn sweep_plane_counted(
+/// Sweeps the sites of a colour in a plane, and adds to each sample's number their unsatisfied bonds, by
+/// code for a size, or for any where that is 0.
+pub(crate) fn sweep_plane_counted<const SIZE: usize>(
     counts: &mut [[u64; 4]; 20],
     plane: &mut Plane,
-    first: &[Plane],
-    dynamics: &Dynamics,
+    other: &[Plane],
+    sites: &HalfPlane,
     draws: &mut [u32],
-    z: u32,
 )
-    requires lawful { IsLawfulSize dynamics.now.couplings.now.size }
-    requires own { FitsPlane dynamics.now.couplings.now.size plane.old }
-    requires count { length first.now ≡ dynamics.now.couplings.now.size }
-    requires planes { All (FitsPlane dynamics.now.couplings.now.size) first.now }
-    requires draws { half_plane dynamics.now.couplings.now.size ≤ length draws.old }
-    requires plane { z < dynamics.now.couplings.now.size }
+    requires size { 0 < SIZE → sites.now.couplings.now.size ≡ SIZE }
+    requires lawful { IsLawfulSize sites.now.couplings.now.size }
+    requires own { FitsPlane sites.now.couplings.now.size plane.old }
+    requires count { length other.now ≡ sites.now.couplings.now.size }
+    requires planes { All (FitsPlane sites.now.couplings.now.size) other.now }
+    requires draws { half_plane sites.now.couplings.now.size ≤ length draws.old }
+    requires colour { sites.now.colour < 2 }
+    requires plane { sites.now.z < sites.now.couplings.now.size }
     requires room { (b : ℕ) → b < 64
-        → tallied counts.old b + 6 * half_plane dynamics.now.couplings.now.size < 2 ^ 20 }
-    ensures swept { SweepsPlane dynamics.now.couplings.now first.now dynamics.now.rule.now 1 z plane.old plane.new }
+        → tallied counts.old b + 6 * half_plane sites.now.couplings.now.size < 2 ^ 20 }
+    ensures swept { SweepsPlane sites.now.couplings.now other.now sites.now.rule.now sites.now.colour sites.now.z plane.old plane.new }
     ensures counted { (b : ℕ) → b < 64 → tallied counts.new b ≡ tallied counts.old b
-        + plane_count dynamics.now.couplings.now first.now 1 z plane.new.words b (half_plane dynamics.now.couplings.now.size) }
+        + plane_count sites.now.couplings.now other.now sites.now.colour sites.now.z plane.new.words b (half_plane sites.now.couplings.now.size) }
 {
-    let size = dynamics.couplings.size();
+    let size = sites.couplings.size();
     let draws = &mut draws[..(size * (size / 2)) as usize];
     plane.wheel.fill(draws);
-    let sites = HalfPlane {
-        couplings: dynamics.couplings,
-        rule: dynamics.rule,
-        colour: 1,
-        z,
-    };
-    sweep_words_counted(counts, plane.words.as_mut_slice(), first, &sites, draws);
+    sweep_words_counted::<SIZE>(counts, plane.words.as_mut_slice(), other, sites, draws);
 }
 
-// The new words of the plane's sites, each by the draw of its place.
-fn sweep_words_counted(
+// The new words of the plane's sites, each by the draw of its place, and then their bonds.
+fn sweep_then_count<const SIZE: usize>(
     counts: &mut [[u64; 4]; 20],
     own: &mut [u64],
     other: &[Plane],
     sites: &HalfPlane,
     draws: &[u32],
 )
+    requires size { 0 < SIZE → sites.now.couplings.now.size ≡ SIZE }
     requires lawful { IsLawfulSize sites.now.couplings.now.size }
     requires own { length own.old ≡ half_plane sites.now.couplings.now.size }
     requires draws { length draws.now ≡ half_plane sites.now.couplings.now.size }
@@ -80,41 +77,7 @@ fn sweep_words_counted(
     ensures counted { (b : ℕ) → b < 64 → tallied counts.new b ≡ tallied counts.old b
         + plane_count sites.now.couplings.now other.now sites.now.colour sites.now.z own.new b (half_plane sites.now.couplings.now.size) }
 {
-    match sites.couplings.size() {
-        8 => sweep_sized::<8>(counts, own, other, sites, draws),
-        16 => sweep_sized::<16>(counts, own, other, sites, draws),
-        24 => sweep_sized::<24>(counts, own, other, sites, draws),
-        32 => sweep_sized::<32>(counts, own, other, sites, draws),
-        40 => sweep_sized::<40>(counts, own, other, sites, draws),
-        48 => sweep_sized::<48>(counts, own, other, sites, draws),
-        56 => sweep_sized::<56>(counts, own, other, sites, draws),
-        64 => sweep_sized::<64>(counts, own, other, sites, draws),
-        _ => sweep_then_count(counts, own, other, sites, draws),
-    }
-}
-
-// The same, by one code for all sizes and tables.
-fn sweep_then_count(
-    counts: &mut [[u64; 4]; 20],
-    own: &mut [u64],
-    other: &[Plane],
-    sites: &HalfPlane,
-    draws: &[u32],
-)
-    requires lawful { IsLawfulSize sites.now.couplings.now.size }
-    requires own { length own.old ≡ half_plane sites.now.couplings.now.size }
-    requires draws { length draws.now ≡ half_plane sites.now.couplings.now.size }
-    requires count { length other.now ≡ sites.now.couplings.now.size }
-    requires planes { All (FitsPlane sites.now.couplings.now.size) other.now }
-    requires colour { sites.now.colour < 2 }
-    requires plane { sites.now.z < sites.now.couplings.now.size }
-    requires room { (b : ℕ) → b < 64
-        → tallied counts.old b + 6 * half_plane sites.now.couplings.now.size < 2 ^ 20 }
-    ensures swept { SweepsWords sites.now.couplings.now other.now sites.now.rule.now draws.now sites.now.colour sites.now.z (half_plane sites.now.couplings.now.size) own.old own.new }
-    ensures counted { (b : ℕ) → b < 64 → tallied counts.new b ≡ tallied counts.old b
-        + plane_count sites.now.couplings.now other.now sites.now.colour sites.now.z own.new b (half_plane sites.now.couplings.now.size) }
-{
-    sweep_words(own, other, sites, draws);
+    sweep_words::<SIZE>(own, other, sites, draws);
     let plane = ColourPlane {
         own,
         other,
@@ -122,20 +85,20 @@ fn sweep_then_count(
         colour: sites.colour,
         z: sites.z,
     };
-    count_plane(counts, &plane);
+    count_sized::<SIZE>(counts, &plane);
 }
 
-// The same, with code of its own for a size, for each kind of table in order, and for planes whose first
-// row begins at x = 0 or at x = 1: all are then known in its loops.
-fn sweep_sized<const SIZE: usize>(
+// The same, counted where they get their new words at multiples of 8, with code for a size, for each kind
+// of table in order, and for planes whose first row begins at x = 0 or at x = 1: all are then known in its
+// loops.
+fn sweep_words_counted<const SIZE: usize>(
     counts: &mut [[u64; 4]; 20],
     own: &mut [u64],
     other: &[Plane],
     sites: &HalfPlane,
     draws: &[u32],
 )
-    requires eights { SIZE % 8 ≡ 0 }
-    requires size { sites.now.couplings.now.size ≡ SIZE }
+    requires size { 0 < SIZE → sites.now.couplings.now.size ≡ SIZE }
     requires lawful { IsLawfulSize sites.now.couplings.now.size }
     requires own { length own.old ≡ half_plane sites.now.couplings.now.size }
     requires draws { length draws.now ≡ half_plane sites.now.couplings.now.size }
@@ -149,6 +112,10 @@ fn sweep_sized<const SIZE: usize>(
     ensures counted { (b : ℕ) → b < 64 → tallied counts.new b ≡ tallied counts.old b
         + plane_count sites.now.couplings.now other.now sites.now.colour sites.now.z own.new b (half_plane sites.now.couplings.now.size) }
 {
+    if SIZE == 0 || SIZE % 8 != 0 {
+        sweep_then_count::<SIZE>(counts, own, other, sites, draws);
+        return;
+    }
     let even = (sites.colour + sites.z) % 2 == 0;
     match sites.rule.kind() {
         RuleKind::Heat if even => {
@@ -191,7 +158,7 @@ fn sweep_rows<const SIZE: usize, const HEAT: bool, const EVEN: bool>(
         + plane_count sites.now.couplings.now other.now sites.now.colour sites.now.z own.new b (half_plane sites.now.couplings.now.size) }
 {
     if !sites.rule.is_in_order() {
-        sweep_then_count(counts, own, other, sites, draws);
+        sweep_then_count::<0>(counts, own, other, sites, draws);
         return;
     }
     let around = lend(other, sites.couplings, sites.colour, sites.z, SIZE);

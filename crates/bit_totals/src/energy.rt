@@ -16,7 +16,7 @@ use crate::overlap::words_of;
 use crate::tally::Tally;
 use coupling_set::Couplings;
 use multispin_word::Planes;
-use plane_sweep::{Duo, Plane, Replica, first_row, lend, row_behind};
+use plane_sweep::{Duo, Plane, Replica, by_size, first_row, lend, row_behind};
 use scalar_rule::Plan;
 
 /// U of each disorder sample: the number of bonds with J s s' = -1, of 3V. Takes no memory.
@@ -118,8 +118,8 @@ pub(crate) struct ColourPlane<'a> {
     pub(crate) z: u32,
 }
 
-/// Adds to each sample's number the unsatisfied bonds of the sites of a plane.
-pub(crate) fn count_plane(counts: &mut [[u64; 4]; 20], plane: &ColourPlane)
+// Adds to each sample's number the unsatisfied bonds of the sites of a plane.
+fn count_plane(counts: &mut [[u64; 4]; 20], plane: &ColourPlane)
     requires lawful { IsLawfulSize plane.now.couplings.now.size }
     requires own { length plane.now.own.now ≡ half_plane plane.now.couplings.now.size }
     requires count { length plane.now.other.now ≡ plane.now.couplings.now.size }
@@ -132,24 +132,13 @@ pub(crate) fn count_plane(counts: &mut [[u64; 4]; 20], plane: &ColourPlane)
         + plane_count plane.now.couplings.now plane.now.other.now plane.now.colour plane.now.z
         plane.now.own.now b (half_plane plane.now.couplings.now.size) }
 {
-    match plane.couplings.size() {
-        8 => count_sized::<8>(counts, plane),
-        16 => count_sized::<16>(counts, plane),
-        32 => count_sized::<32>(counts, plane),
-        64 => count_sized::<64>(counts, plane),
-        size => count_pairs::<0, false>(
-            counts,
-            plane,
-            size as usize,
-            (plane.colour + plane.z) % 2 == 0,
-        ),
-    }
+    by_size!(plane.couplings.size(), count_sized(counts, plane));
 }
 
-// The same, with code of its own for a size, and for planes whose first row begins at x = 0 or at x = 1:
-// both are then known in its loops.
-fn count_sized<const SIZE: usize>(counts: &mut [[u64; 4]; 20], plane: &ColourPlane)
-    requires size { plane.now.couplings.now.size ≡ SIZE }
+/// The same, at multiples of 8 with code for a size and for planes whose first row begins at x = 0 or at
+/// x = 1: both are then known in its loops. A size of 0 stands for any.
+pub(crate) fn count_sized<const SIZE: usize>(counts: &mut [[u64; 4]; 20], plane: &ColourPlane)
+    requires size { 0 < SIZE → plane.now.couplings.now.size ≡ SIZE }
     requires lawful { IsLawfulSize plane.now.couplings.now.size }
     requires own { length plane.now.own.now ≡ half_plane plane.now.couplings.now.size }
     requires count { length plane.now.other.now ≡ plane.now.couplings.now.size }
@@ -162,7 +151,10 @@ fn count_sized<const SIZE: usize>(counts: &mut [[u64; 4]; 20], plane: &ColourPla
         + plane_count plane.now.couplings.now plane.now.other.now plane.now.colour plane.now.z
         plane.now.own.now b (half_plane plane.now.couplings.now.size) }
 {
-    if (plane.colour + plane.z) % 2 == 0 {
+    let even = (plane.colour + plane.z) % 2 == 0;
+    if SIZE == 0 || SIZE % 8 != 0 {
+        count_pairs::<0, false>(counts, plane, plane.couplings.size() as usize, even);
+    } else if even {
         count_alike::<SIZE, true>(counts, plane);
     } else {
         count_alike::<SIZE, false>(counts, plane);

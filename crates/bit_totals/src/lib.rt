@@ -3,7 +3,6 @@
 
 pub use duo_sweep::sweep_duo_and_count;
 pub use energy::{unsatisfied, unsatisfied_duo};
-pub use last_sweep::sweep_and_count;
 pub use overlap::{agreeing, words_of};
 pub use tally::Tally;
 
@@ -12,6 +11,5 @@ mod counted_rows;
 mod duo_sweep;
 mod energy;
 mod lanes;
-mod last_sweep;
 mod overlap;
 mod tally;

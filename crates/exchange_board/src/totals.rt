@@ -3,15 +3,13 @@
 ghost use Rattle.std.specs.Prelude.{◌≡◌, ℕ, ◌<◌, ◌≤◌, slice_index};
 ghost use Rattle.exchange_board.specs.Totals.{AreTotals, Measures};
 ghost use Rattle.multispin_word.specs.Planes.{number};
-ghost use Rattle.plane_sweep.specs.Packed.{part_copy, part_slot, FitsDuo};
+ghost use Rattle.plane_sweep.specs.Packed.{part_slot, FitsDuo};
 ghost use Rattle.scalar_rule.specs.Epoch as model;
-ghost use Rattle.scalar_rule.specs.Plan.{dynamics_of, slots_of};
-ghost use Rattle.scalar_rule.specs.Replica.{configuration_of, with_configuration};
-ghost use Rattle.scalar_rule.specs.Sweep.{sweep};
+ghost use Rattle.scalar_rule.specs.Plan.{slots_of};
 
-use bit_totals::{agreeing, sweep_and_count, sweep_duo_and_count, unsatisfied_duo};
+use bit_totals::{agreeing, sweep_duo_and_count, unsatisfied_duo};
 use multispin_word::Planes;
-use plane_sweep::{Duo, LEAST_IN_TURN, is_forked, sweep_duo_often};
+use plane_sweep::{Duo, is_forked, sweep_duo_often};
 use scalar_rule::{Plan, Record, excess};
 use std::thread::Threads;
 
@@ -72,31 +70,8 @@ fn total_in_last_sweep<R: Threads + Sync>(rt: &R, duo: &mut Duo, plan: &Plan, sl
     let _ = plan.lattice();
     let before = plan.sweeps() - 1;
     sweep_duo_often(rt, duo, plan, slot, 1, before);
-    sweep_counting(duo, plan, slot)
-}
-
-// A sweep of both replicas that counts their bonds: of a large lattice in turn, since both read the same
-// couplings.
-fn sweep_counting(duo: &mut Duo, plan: &Plan, slot: u32) -> Totals
-    requires duo { FitsDuo plan.now.size duo.old }
-    requires slot { slot < slots_of plan.now }
-    ensures first { (b : ℕ) → b < 64 → part_copy plan.now.size b duo.new.first
-        ≡ with_configuration (part_copy plan.now.size b duo.old.first)
-        (sweep (dynamics_of plan.now b slot) (configuration_of (part_copy plan.now.size b duo.old.first))) }
-    ensures second { (b : ℕ) → b < 64 → part_copy plan.now.size b duo.new.second
-        ≡ with_configuration (part_copy plan.now.size b duo.old.second)
-        (sweep (dynamics_of plan.now b slot) (configuration_of (part_copy plan.now.size b duo.old.second))) }
-    ensures fits { FitsDuo plan.now.size duo.new }
-    ensures totals { AreTotals plan.now duo.new result }
-{
-    if (plan.lattice().size() as usize) < LEAST_IN_TURN {
-        let first = sweep_and_count(&mut duo.first, plan, slot);
-        let second = sweep_and_count(&mut duo.second, plan, slot);
-        Totals { first, second }
-    } else {
-        let (first, second) = sweep_duo_and_count(duo, plan, slot);
-        Totals { first, second }
-    }
+    let (first, second) = sweep_duo_and_count(duo, plan, slot);
+    Totals { first, second }
 }
 
 /// The sweeps of an epoch of both replicas of a slot.

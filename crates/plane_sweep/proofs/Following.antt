@@ -46,31 +46,22 @@ sweeps-around couplings rule c z other other' old new same swept = record {
 
 -- ---- the way of a sweep
 
--- the planes of colour 0 below n are swept, and those of colour 1 from 1 on below m
+-- the planes of colour 0 below n are swept, and those of colour 1 from 1 on below m, whose plane 0 comes behind them all
 pub record IsFollowing (couplings : CouplingsView) (rule : SlotRule) (n m : ℕ) (first second now later : List Plane) : Type 0 where
   pub ahead : Changed (SweepsPlane couplings second rule 0) n first now
   pub sized : length later ≡ length second
-  pub done : (k : ℕ) (d : Plane) → 1 ≤ k → k < m → SweepsPlane couplings now rule 1 k (get_or second k d) (get_or later k d)
-  pub kept : (k : ℕ) (d : Plane) → m ≤ k → get_or later k d ≡ get_or second k d
-  pub last : (d : Plane) → get_or later 0 d ≡ get_or second 0 d
+  pub done : (k : ℕ) (d : Plane) → 1 ≤ k → k < m → k < couplings.size → SweepsPlane couplings now rule 1 k (get_or second k d) (get_or later k d)
+  pub whole : (d : Plane) → couplings.size < m → SweepsPlane couplings now rule 1 0 (get_or second 0 d) (get_or later 0 d)
+  pub kept : (k : ℕ) (d : Plane) → (1 ≤ k → k < couplings.size → m ≤ k) → (k ≡ 0 → m ≤ couplings.size) → get_or later k d ≡ get_or second k d
 
-following-none : (couplings : CouplingsView) (rule : SlotRule) (first second : List Plane) → IsFollowing couplings rule 0 1 first second first second
-following-none couplings rule first second = record {
+pub following-none : (couplings : CouplingsView) (rule : SlotRule) (first second : List Plane) → 1 ≤ couplings.size → IsFollowing couplings rule 0 1 first second first second
+following-none couplings rule first second some = record {
   ahead = record { sized = refl; done = λ k d below. absurd (omega arith); kept = λ k d later. refl };
   sized = refl;
-  done = λ k d some below. absurd (omega arith);
-  kept = λ k d later. refl;
-  last = λ d. refl;
+  done = λ k d one under below. absurd (omega arith);
+  whole = λ d past. absurd (omega arith);
+  kept = λ k d later last. refl;
 }
-
--- a plane of colour 1 that isn't swept
-unswept : (couplings : CouplingsView) (rule : SlotRule) (n m j : ℕ) (first second now later : List Plane) → IsFollowing couplings rule n m first second now later → (1 ≤ j → m ≤ j) → plane_at later j ≡ plane_at second j
-unswept couplings rule n m j first second now later way is = elim (cases_eq j 0) [
-  | inl at ↦
-      let P : ℕ → Type 0 = λ i. plane_at later i ≡ plane_at second i in
-      subst P (sym at) (way.last no_plane)
-  | inr other ↦ way.kept j no_plane (is (omega arith))
-]
 
 -- those around plane n of colour 0
 unswept-around : (couplings : CouplingsView) (rule : SlotRule) (n m : ℕ) (first second now later : List Plane) → IsFollowing couplings rule n m first second now later
@@ -78,7 +69,7 @@ unswept-around : (couplings : CouplingsView) (rule : SlotRule) (n m : ℕ) (firs
 unswept-around couplings rule n m first second now later way below room far near =
     let l = couplings.size in
     let P : ℕ → Type 0 = λ j. plane_at later j ≡ plane_at second j in
-    let at : (j : ℕ) → (1 ≤ j → m ≤ j) → P j = λ j is. unswept couplings rule n m j first second now later way is in
+    let at : (j : ℕ) → (1 ≤ j → m ≤ j) → P j = λ j is. way.kept j no_plane (λ one inside. is one) (λ start. omega arith) in
     record {
       here = at n (λ some. elim (cases_lt n 2) [ inl small ↦ omega (arith, near small) | inr large ↦ omega (arith, far (omega arith)) ]);
       above = elim (cases_lt (n + 1) l) [
@@ -94,7 +85,7 @@ unswept-around couplings rule n m first second now later way below room far near
     }
 
 -- one more plane of colour 0
-following-ahead : (couplings : CouplingsView) (rule : SlotRule) (n m : ℕ) (first second now later new : List Plane) → IsFollowing couplings rule n m first second now later
+pub following-ahead : (couplings : CouplingsView) (rule : SlotRule) (n m : ℕ) (first second now later new : List Plane) → IsFollowing couplings rule n m first second now later
     → n < couplings.size → m < couplings.size → (2 ≤ n → m + 1 ≤ n) → (n < 2 → m ≤ 1) → SweepsAt couplings later rule 0 n now new → IsFollowing couplings rule (n + 1) m first second new later
 following-ahead couplings rule n m first second now later new way below room far near swept =
     let l = couplings.size in
@@ -115,7 +106,7 @@ following-ahead couplings rule n m first second now later new way below room far
         kept = λ k d past. swept.kept k d (λ at. absurd (omega arith)) ∙ way.ahead.kept k d (omega arith);
       };
       sized = way.sized;
-      done = λ k d some under.
+      done = λ k d some under inside.
           let before : m + 1 ≤ n = elim (cases_lt n 2) [ inl small ↦ absurd (omega (arith, near small)) | inr large ↦ far (omega arith) ] in
           let P : ℕ → Type 0 = λ j. plane_at now j ≡ plane_at new j in
           let at : (j : ℕ) → j < n → P j = λ j less. sym (swept.kept j no_plane (λ is. absurd (omega arith))) in
@@ -124,86 +115,68 @@ following-ahead couplings rule n m first second now later new way below room far
             here = at k (omega arith);
             above = subst P (sym (next-inside l k (omega arith))) (at (k + 1) (omega arith));
             below = subst P (sym (previous-inside l k (omega arith) (omega arith))) (at (k - 1) (omega arith));
-          }) (way.done k d some under);
+          }) (way.done k d some under inside);
+      whole = λ d past. absurd (omega arith);
       kept = way.kept;
-      last = way.last;
     }
 
 -- one more plane of colour 1
-following-behind : (couplings : CouplingsView) (rule : SlotRule) (n m : ℕ) (first second now later new : List Plane) → IsFollowing couplings rule n m first second now later
-    → 1 ≤ m → SweepsAt couplings now rule 1 m later new → IsFollowing couplings rule n (m + 1) first second now new
-following-behind couplings rule n m first second now later new way some swept = record {
+pub following-behind : (couplings : CouplingsView) (rule : SlotRule) (n m : ℕ) (first second now later new : List Plane) → IsFollowing couplings rule n m first second now later
+    → 1 ≤ m → m < couplings.size → SweepsAt couplings now rule 1 m later new → IsFollowing couplings rule n (m + 1) first second now new
+following-behind couplings rule n m first second now later new way some room swept = record {
   ahead = way.ahead;
   sized = swept.sized ∙ way.sized;
-  done = λ k d one under. elim (cases_eq k m) [
+  done = λ k d one under inside. elim (cases_eq k m) [
     | inl at ↦
         let P : Plane → Type 0 = λ p. SweepsPlane couplings now rule 1 m p (get_or new m d) in
         let Q : ℕ → Type 0 = λ i. SweepsPlane couplings now rule 1 i (get_or second i d) (get_or new i d) in
-        subst Q (sym at) (subst P (way.kept m d (omega arith)) (swept.done d))
+        subst Q (sym at) (subst P (way.kept m d (λ first_one below. omega arith) (λ start. omega arith)) (swept.done d))
     | inr apart ↦
         let P : Plane → Type 0 = λ p. SweepsPlane couplings now rule 1 k (get_or second k d) p in
-        subst P (sym (swept.kept k d apart)) (way.done k d one (omega arith))
+        subst P (sym (swept.kept k d apart)) (way.done k d one (omega arith) inside)
   ];
-  kept = λ k d past. swept.kept k d (λ at. absurd (omega arith)) ∙ way.kept k d (omega arith);
-  last = λ d. swept.kept 0 d (λ at. absurd (omega arith)) ∙ way.last d;
+  whole = λ d past. absurd (omega arith);
+  kept = λ k d later last.
+      swept.kept k d (λ at. absurd (omega (arith, later (omega arith) (omega arith))))
+      ∙ way.kept k d (λ one inside. omega (arith, later one inside)) (λ start. omega arith);
 }
 
--- plane 0 of colour 1 comes last
-following-whole : (couplings : CouplingsView) (rule : SlotRule) (n : ℕ) (first second now later new : List Plane) → IsFollowing couplings rule n couplings.size first second now later
-    → 1 ≤ couplings.size → SweepsAt couplings now rule 1 0 later new → Changed (SweepsPlane couplings now rule 1) couplings.size second new
-following-whole couplings rule n first second now later new way some swept = record {
+-- and plane 0 of colour 1, which comes last
+pub following-last : (couplings : CouplingsView) (rule : SlotRule) (n m : ℕ) (first second now later new : List Plane) → IsFollowing couplings rule n m first second now later
+    → m ≡ couplings.size → 1 ≤ m → SweepsAt couplings now rule 1 0 later new → IsFollowing couplings rule n (m + 1) first second now new
+following-last couplings rule n m first second now later new way all some swept = record {
+  ahead = way.ahead;
   sized = swept.sized ∙ way.sized;
+  done = λ k d one under inside.
+      let P : Plane → Type 0 = λ p. SweepsPlane couplings now rule 1 k (get_or second k d) p in
+      subst P (sym (swept.kept k d (λ at. absurd (omega arith)))) (way.done k d one (omega arith) inside);
+  whole = λ d past.
+      let P : Plane → Type 0 = λ p. SweepsPlane couplings now rule 1 0 p (get_or new 0 d) in
+      subst P (way.kept 0 d (λ one inside. absurd (omega arith)) (λ start. omega arith)) (swept.done d);
+  kept = λ k d later last.
+      swept.kept k d (λ at. absurd (omega (arith, last at)))
+      ∙ way.kept k d (λ one inside. absurd (omega (arith, later one inside))) (λ start. absurd (omega (arith, last start)));
+}
+
+-- all planes of both colours
+pub following-first : (couplings : CouplingsView) (rule : SlotRule) (n m : ℕ) (first second now later : List Plane) → n ≡ couplings.size → IsFollowing couplings rule n m first second now later
+    → Changed (SweepsPlane couplings second rule 0) couplings.size first now
+following-first couplings rule n m first second now later all way =
+    let S : ℕ → Type 0 = λ i. Changed (SweepsPlane couplings second rule 0) i first now in
+    subst S all way.ahead
+
+pub following-second : (couplings : CouplingsView) (rule : SlotRule) (n m : ℕ) (first second now later : List Plane) → m ≡ couplings.size + 1 → 1 ≤ couplings.size → IsFollowing couplings rule n m first second now later
+    → Changed (SweepsPlane couplings now rule 1) couplings.size second later
+following-second couplings rule n m first second now later all some way = record {
+  sized = way.sized;
   done = λ k d under. elim (cases_eq k 0) [
     | inl at ↦
-        let P : Plane → Type 0 = λ p. SweepsPlane couplings now rule 1 0 p (get_or new 0 d) in
-        let Q : ℕ → Type 0 = λ i. SweepsPlane couplings now rule 1 i (get_or second i d) (get_or new i d) in
-        subst Q (sym at) (subst P (way.last d) (swept.done d))
-    | inr apart ↦
-        let P : Plane → Type 0 = λ p. SweepsPlane couplings now rule 1 k (get_or second k d) p in
-        subst P (sym (swept.kept k d apart)) (way.done k d (omega arith) under)
+        let Q : ℕ → Type 0 = λ i. SweepsPlane couplings now rule 1 i (get_or second i d) (get_or later i d) in
+        subst Q (sym at) (way.whole d (omega arith))
+    | inr apart ↦ way.done k d (omega arith) (omega arith) under
   ];
-  kept = λ k d past. swept.kept k d (λ at. absurd (omega arith)) ∙ way.kept k d past;
+  kept = λ k d past. way.kept k d (λ one inside. absurd (omega arith)) (λ start. absurd (omega arith));
 }
-
--- the steps of a sweep: planes 0 and 1 of colour 0
-pub following-start : (couplings : CouplingsView) (rule : SlotRule) (first second one two : List Plane) → 2 ≤ couplings.size
-    → SweepsAt couplings second rule 0 0 first one → SweepsAt couplings second rule 0 1 one two → IsFollowing couplings rule 2 1 first second two second
-following-start couplings rule first second one two large at_zero at_one =
-    let none = following-none couplings rule first second in
-    let begun = following-ahead couplings rule 0 1 first second first second one none (omega arith) (omega arith) (λ far. absurd (omega arith)) (λ near. omega arith) at_zero in
-    following-ahead couplings rule 1 1 first second one second two begun (omega arith) (omega arith) (λ far. absurd (omega arith)) (λ near. omega arith) at_one
-
--- a plane of colour 0, and then the one before it of colour 1
-pub following-step : (couplings : CouplingsView) (rule : SlotRule) (z : ℕ) (first second now later now' later' : List Plane) → 2 ≤ z → z < couplings.size
-    → IsFollowing couplings rule z (z - 1) first second now later → SweepsAt couplings later rule 0 z now now' → SweepsAt couplings now' rule 1 (z - 1) later later'
-    → IsFollowing couplings rule (z + 1) (z + 1 - 1) first second now' later'
-following-step couplings rule z first second now later now' later' large below way ahead behind =
-    let step = following-ahead couplings rule z (z - 1) first second now later now' way below (omega arith) (λ far. omega arith) (λ near. absurd (omega arith)) ahead in
-    let both = following-behind couplings rule (z + 1) (z - 1) first second now' later later' step (omega arith) behind in
-    let place : z - 1 + 1 ≡ z + 1 - 1 = omega arith in
-    let W : ℕ → Type 0 = λ m. IsFollowing couplings rule (z + 1) m first second now' later' in
-    subst W place both
-
--- all of colour 0
-pub following-first : (couplings : CouplingsView) (rule : SlotRule) (z m : ℕ) (first second now later : List Plane) → z ≡ couplings.size → IsFollowing couplings rule z m first second now later
-    → Changed (SweepsPlane couplings second rule 0) couplings.size first now
-following-first couplings rule z m first second now later whole way =
-    let S : ℕ → Type 0 = λ n. Changed (SweepsPlane couplings second rule 0) n first now in
-    subst S whole way.ahead
-
--- and of colour 1, whose last plane and plane 0 come at the end
-pub following-second : (couplings : CouplingsView) (rule : SlotRule) (z side : ℕ) (first second now later x y : List Plane) → z ≡ couplings.size → side ≡ couplings.size → 2 ≤ z
-    → IsFollowing couplings rule z (z - 1) first second now later → SweepsAt couplings now rule 1 (side - 1) later x → SweepsAt couplings now rule 1 0 x y
-    → Changed (SweepsPlane couplings now rule 1) couplings.size second y
-following-second couplings rule z side first second now later x y whole same large way at_last at_zero =
-    let last : z - 1 ≡ couplings.size - 1 = omega arith in
-    let more : couplings.size - 1 + 1 ≡ couplings.size = omega arith in
-    let edge : side - 1 ≡ couplings.size - 1 = omega arith in
-    let W : ℕ → Type 0 = λ m. IsFollowing couplings rule z m first second now later in
-    let V : ℕ → Type 0 = λ m. IsFollowing couplings rule z m first second now x in
-    let S : ℕ → Type 0 = λ m. SweepsAt couplings now rule 1 m later x in
-    let behind = following-behind couplings rule z (couplings.size - 1) first second now later x (subst W last way) (omega arith) (subst S edge at_last) in
-    following-whole couplings rule z first second now x y (subst V more behind) (omega arith) at_zero
 
 -- ---- one plane of a list
 

@@ -12,5 +12,6 @@ pub mod Storing
 -- what a plane's rows and their neighbours are, and a step of the sweep of both replicas, which the calls for other
 -- crates' kernels say too
 pub mod DuoSweep
+pub mod Order
 pub mod Neighbourhood
 pub mod PlaneSweep

@@ -9,9 +9,12 @@ ghost use Rattle.spin_model.specs.Lattice.{half_plane, IsLawfulSize};
 use crate::dynamics::HalfPlane;
 use crate::pairs::sweep_pair;
 use crate::replica::Plane;
-use crate::rows::{first_row, kind_of, row_behind, sweep_any, sweep_words};
+use crate::rows::{first_row, kind_of, row_behind, sweep_words};
 use crate::surroundings::lend;
 use threshold_table::RuleKind;
+
+// The least size at which the rows of the two replicas go by turns.
+const LEAST_BY_ROWS: usize = 32;
 
 /// The planes of the other colour in both replicas.
 #[derive(Drop)]
@@ -30,13 +33,14 @@ pub(crate) struct Drawn<'a, 'b> {
 /// The new words of the sites of a colour in a plane of both replicas, each by the planes of its own
 /// replica and its own draws. They go by two rows in turn at multiples of 8 from 32 on, by a table in
 /// order; else there is no code for both, and the plane of the one goes before that of the other.
-pub(crate) fn sweep_words_of_duo(
+pub(crate) fn sweep_words_of_duo<const SIZE: usize>(
     first: &mut [u64],
     second: &mut [u64],
     others: &Others,
     sites: &HalfPlane,
     drawn: &Drawn,
 )
+    requires size { 0 < SIZE → sites.now.couplings.now.size ≡ SIZE }
     requires first { CanSweepWords sites.now.couplings.now others.now.first.now drawn.now.first.now first.old }
     requires second { CanSweepWords sites.now.couplings.now others.now.second.now drawn.now.second.now second.old }
     requires colour { sites.now.colour < 2 }
@@ -44,37 +48,12 @@ pub(crate) fn sweep_words_of_duo(
     ensures first { SweepsWords sites.now.couplings.now others.now.first.now sites.now.rule.now drawn.now.first.now sites.now.colour sites.now.z (half_plane sites.now.couplings.now.size) first.old first.new }
     ensures second { SweepsWords sites.now.couplings.now others.now.second.now sites.now.rule.now drawn.now.second.now sites.now.colour sites.now.z (half_plane sites.now.couplings.now.size) second.old second.new }
 {
-    match sites.couplings.size() {
-        32 => sweep_sized::<32>(first, second, others, sites, drawn),
-        40 => sweep_sized::<40>(first, second, others, sites, drawn),
-        48 => sweep_sized::<48>(first, second, others, sites, drawn),
-        56 => sweep_sized::<56>(first, second, others, sites, drawn),
-        64 => sweep_sized::<64>(first, second, others, sites, drawn),
-        _ => {
-            sweep_words(first, others.first, sites, drawn.first);
-            sweep_words(second, others.second, sites, drawn.second);
-        }
+    let _ = sites.couplings.size();
+    if SIZE < LEAST_BY_ROWS || SIZE % 8 != 0 {
+        sweep_words::<SIZE>(first, others.first, sites, drawn.first);
+        sweep_words::<SIZE>(second, others.second, sites, drawn.second);
+        return;
     }
-}
-
-// The same, with code of its own for a size, for each kind of table, and for planes whose first row
-// begins at x = 0 or at x = 1.
-fn sweep_sized<const SIZE: usize>(
-    first: &mut [u64],
-    second: &mut [u64],
-    others: &Others,
-    sites: &HalfPlane,
-    drawn: &Drawn,
-)
-    requires size { sites.now.couplings.now.size ≡ SIZE }
-    requires lawful { IsLawfulSize sites.now.couplings.now.size }
-    requires first { CanSweepWords sites.now.couplings.now others.now.first.now drawn.now.first.now first.old }
-    requires second { CanSweepWords sites.now.couplings.now others.now.second.now drawn.now.second.now second.old }
-    requires colour { sites.now.colour < 2 }
-    requires plane { sites.now.z < sites.now.couplings.now.size }
-    ensures first { SweepsWords sites.now.couplings.now others.now.first.now sites.now.rule.now drawn.now.first.now sites.now.colour sites.now.z (half_plane sites.now.couplings.now.size) first.old first.new }
-    ensures second { SweepsWords sites.now.couplings.now others.now.second.now sites.now.rule.now drawn.now.second.now sites.now.colour sites.now.z (half_plane sites.now.couplings.now.size) second.old second.new }
-{
     let even = (sites.colour + sites.z) % 2 == 0;
     match sites.rule.kind() {
         RuleKind::Heat if even => {
@@ -114,8 +93,8 @@ fn sweep_rows_of_duo<const SIZE: usize, const HEAT: bool, const EVEN: bool>(
     ensures second { SweepsWords sites.now.couplings.now others.now.second.now sites.now.rule.now drawn.now.second.now sites.now.colour sites.now.z (half_plane sites.now.couplings.now.size) second.old second.new }
 {
     if !sites.rule.is_in_order() {
-        sweep_any(first, others.first, sites, drawn.first);
-        sweep_any(second, others.second, sites, drawn.second);
+        sweep_words::<0>(first, others.first, sites, drawn.first);
+        sweep_words::<0>(second, others.second, sites, drawn.second);
         return;
     }
     let around = lend(others.first, sites.couplings, sites.colour, sites.z, SIZE);

@@ -1,27 +1,29 @@
 //! The sweep of all 64 samples of both replicas of a slot.
 
 ghost use Rattle.std.specs.Prelude.{◌≡◌, ℕ, ◌+◌, ◌*◌, ◌<◌, ◌≤◌, length, All};
-ghost use Rattle.plane_sweep.specs.DuoSweep.{FitHalves, FitsColours, SweepsAhead, SweepsBehind};
+ghost use Rattle.plane_sweep.specs.Order.{FitsColours, SweepsTurn};
 ghost use Rattle.plane_sweep.specs.Packed.{part_copy, FitsDuo, FitsPlane};
-ghost use Rattle.plane_sweep.specs.PlaneSweep.{SweepsAt, SweepsColours, SweepsPlane};
+ghost use Rattle.plane_sweep.specs.PlaneSweep.{SweepsColours, SweepsPlane};
 ghost use Rattle.scalar_rule.specs.Plan.{dynamics_of, slots_of};
 ghost use Rattle.scalar_rule.specs.Replica.{configuration_of, with_configuration};
 ghost use Rattle.scalar_rule.specs.SlotRules.{HasThresholds};
 ghost use Rattle.scalar_rule.specs.Sweep as model;
 ghost use Rattle.spin_model.specs.Lattice.{half_plane, IsLawfulSize};
 
+use crate::by_size;
 use crate::draws::DUO_DRAWS;
 use crate::duo_rows::{Drawn, Others, sweep_words_of_duo};
-use crate::dynamics::{Dynamics, HalfPlane, rule_of_slot};
+use crate::dynamics::{Dynamics, HalfPlane, rule_of_slot, sites_of};
+use crate::order::{first_turn, turn_after};
 use crate::replica::{Duo, Plane};
 use crate::sweeping::{is_forked, sweep_often};
 use local_rule::ReadyRule;
 use scalar_rule::Plan;
 use std::thread::Threads;
 
-/// The least size at which both replicas of a slot are swept by turns: a smaller lattice's couplings
-/// stay near the processor from the sweep of the one to that of the other.
-pub const LEAST_IN_TURN: usize = 32;
+// The least size at which both replicas of a slot are swept by turns: a smaller lattice's couplings
+// stay near the processor from the sweep of the one to that of the other.
+const LEAST_IN_TURN: usize = 32;
 
 /// That many sweeps of both replicas of a temperature slot, of each as `sweep` makes one. On a large
 /// lattice that is not cut in pieces the two go in turn, by two rows or by planes, since both read
@@ -90,34 +92,35 @@ fn sweep_once(duo: &mut Duo, plan: &Plan, rule: &ReadyRule)
         couplings: plan.couplings(),
         rule,
     };
-    let size = plan.lattice().size() as usize;
+    let _ = plan.lattice();
     let first = duo.first.planes.as_mut_slice();
     let second = duo.second.planes.as_mut_slice();
-    sweep_colours(first, second, &dynamics, size);
+    sweep_colours(first, second, &dynamics);
 }
 
 // The same, of two lists of planes.
-fn sweep_colours(first: &mut [Plane], second: &mut [Plane], dynamics: &Dynamics, size: usize)
-    requires size { size ≡ dynamics.now.couplings.now.size }
+fn sweep_colours(first: &mut [Plane], second: &mut [Plane], dynamics: &Dynamics)
     requires lawful { IsLawfulSize dynamics.now.couplings.now.size }
     requires first { FitsColours dynamics.now.couplings.now.size first.old }
     requires second { FitsColours dynamics.now.couplings.now.size second.old }
     ensures first { SweepsColours dynamics.now.couplings.now dynamics.now.rule.now first.old first.new }
     ensures second { SweepsColours dynamics.now.couplings.now dynamics.now.rule.now second.old second.new }
 {
-    sweep_following(first, second, dynamics, &mut [0u32; DUO_DRAWS], size);
+    let draws: &mut [u32] = &mut [0u32; DUO_DRAWS];
+    by_size!(
+        dynamics.couplings.size(),
+        sweep_turns(first, second, dynamics, draws)
+    );
 }
 
-// The planes of both colours, of colour 0 ahead and of colour 1 behind, in the order in which one
-// replica's are swept.
-fn sweep_following(
+// The same, by code for a size, or for any where that is 0.
+fn sweep_turns<const SIZE: usize>(
     first: &mut [Plane],
     second: &mut [Plane],
     dynamics: &Dynamics,
     draws: &mut [u32],
-    size: usize,
 )
-    requires size { size ≡ dynamics.now.couplings.now.size }
+    requires size { 0 < SIZE → dynamics.now.couplings.now.size ≡ SIZE }
     requires lawful { IsLawfulSize dynamics.now.couplings.now.size }
     requires room { 2 * half_plane dynamics.now.couplings.now.size ≤ length draws.old }
     requires first { FitsColours dynamics.now.couplings.now.size first.old }
@@ -125,107 +128,72 @@ fn sweep_following(
     ensures first { SweepsColours dynamics.now.couplings.now dynamics.now.rule.now first.old first.new }
     ensures second { SweepsColours dynamics.now.couplings.now dynamics.now.rule.now second.old second.new }
 {
-    sweep_ahead(first, second, dynamics, draws, 0);
-    sweep_ahead(first, second, dynamics, draws, 1);
-    'planes: for z in 2..size {
-        sweep_ahead(first, second, dynamics, draws, z);
-        sweep_behind(first, second, dynamics, draws, z - 1);
+    let size = dynamics.couplings.size();
+    let mut turn = first_turn();
+    'turns: for i in 0..2 * size {
+        sweep_turn_of_duo::<SIZE>(first, second, &sites_of(dynamics, &turn), draws);
+        turn = turn_after(&turn, size);
     }
-    sweep_behind(first, second, dynamics, draws, size - 1);
-    sweep_behind(first, second, dynamics, draws, 0);
 }
 
-/// Sweeps plane `z` of colour 0 in both replicas of a slot, in turn. Each list has the 2L planes of a replica, those of colour 0 ahead; `draws` is the room for a
-/// draw for each site of both planes.
-pub fn sweep_ahead(
+/// Sweeps the sites of a turn in both replicas of a slot, by code for a size, or for any where that is 0.
+/// Each list has the 2L planes of a replica, those of colour 0 ahead; `draws` is the room for a draw for
+/// each site of both planes.
+pub fn sweep_turn_of_duo<const SIZE: usize>(
     first: &mut [Plane],
     second: &mut [Plane],
-    dynamics: &Dynamics,
-    draws: &mut [u32],
-    z: usize,
-)
-    requires first { FitsColours dynamics.now.couplings.now.size first.old }
-    requires second { FitsColours dynamics.now.couplings.now.size second.old }
-    requires room { 2 * half_plane dynamics.now.couplings.now.size ≤ length draws.old }
-    requires plane { z < dynamics.now.couplings.now.size }
-    ensures first { SweepsAhead dynamics.now.couplings.now dynamics.now.rule.now z first.old first.new }
-    ensures second { SweepsAhead dynamics.now.couplings.now dynamics.now.rule.now z second.old second.new }
-{
-    let size = dynamics.couplings.size() as usize;
-    let (first_ahead, first_behind) = first.split_at_mut(size);
-    let (second_ahead, second_behind) = second.split_at_mut(size);
-    let behind = Others {
-        first: first_behind,
-        second: second_behind,
-    };
-    let sites = HalfPlane {
-        couplings: dynamics.couplings,
-        rule: dynamics.rule,
-        colour: 0,
-        z: z as u32,
-    };
-    sweep_at(first_ahead, second_ahead, &behind, &sites, draws);
-}
-
-// Plane z of colour 1.
-fn sweep_behind(
-    first: &mut [Plane],
-    second: &mut [Plane],
-    dynamics: &Dynamics,
-    draws: &mut [u32],
-    z: usize,
-)
-    requires first { FitsColours dynamics.now.couplings.now.size first.old }
-    requires second { FitsColours dynamics.now.couplings.now.size second.old }
-    requires room { 2 * half_plane dynamics.now.couplings.now.size ≤ length draws.old }
-    requires plane { z < dynamics.now.couplings.now.size }
-    ensures first { SweepsBehind dynamics.now.couplings.now dynamics.now.rule.now z first.old first.new }
-    ensures second { SweepsBehind dynamics.now.couplings.now dynamics.now.rule.now z second.old second.new }
-{
-    let size = dynamics.couplings.size() as usize;
-    let (first_ahead, first_behind) = first.split_at_mut(size);
-    let (second_ahead, second_behind) = second.split_at_mut(size);
-    let ahead = Others {
-        first: first_ahead,
-        second: second_ahead,
-    };
-    let sites = HalfPlane {
-        couplings: dynamics.couplings,
-        rule: dynamics.rule,
-        colour: 1,
-        z: z as u32,
-    };
-    sweep_at(first_behind, second_behind, &ahead, &sites, draws);
-}
-
-// A plane of a colour in both replicas, by the planes of the other colour.
-fn sweep_at(
-    first: &mut [Plane],
-    second: &mut [Plane],
-    others: &Others,
     sites: &HalfPlane,
     draws: &mut [u32],
 )
-    requires first { FitHalves sites.now.couplings.now.size first.old others.now.first.now }
-    requires second { FitHalves sites.now.couplings.now.size second.old others.now.second.now }
+    requires size { 0 < SIZE → sites.now.couplings.now.size ≡ SIZE }
+    requires first { FitsColours sites.now.couplings.now.size first.old }
+    requires second { FitsColours sites.now.couplings.now.size second.old }
     requires room { 2 * half_plane sites.now.couplings.now.size ≤ length draws.old }
     requires colour { sites.now.colour < 2 }
     requires plane { sites.now.z < sites.now.couplings.now.size }
-    ensures first { SweepsAt sites.now.couplings.now others.now.first.now sites.now.rule.now sites.now.colour sites.now.z first.old first.new }
-    ensures second { SweepsAt sites.now.couplings.now others.now.second.now sites.now.rule.now sites.now.colour sites.now.z second.old second.new }
+    ensures first { SweepsTurn sites.now.couplings.now sites.now.rule.now sites.now.colour sites.now.z first.old first.new }
+    ensures second { SweepsTurn sites.now.couplings.now sites.now.rule.now sites.now.colour sites.now.z second.old second.new }
 {
     let z = sites.z as usize;
-    sweep_plane(&mut first[z], &mut second[z], others, sites, draws);
+    let size = sites.couplings.size() as usize;
+    let (first_ahead, first_behind) = first.split_at_mut(size);
+    let (second_ahead, second_behind) = second.split_at_mut(size);
+    if sites.colour == 0 {
+        let others = Others {
+            first: first_behind,
+            second: second_behind,
+        };
+        sweep_plane::<SIZE>(
+            &mut first_ahead[z],
+            &mut second_ahead[z],
+            &others,
+            sites,
+            draws,
+        );
+    } else {
+        let others = Others {
+            first: first_ahead,
+            second: second_ahead,
+        };
+        sweep_plane::<SIZE>(
+            &mut first_behind[z],
+            &mut second_behind[z],
+            &others,
+            sites,
+            draws,
+        );
+    }
 }
 
 // The sites of a colour in a plane of both replicas, each plane by the draws of its own generator.
-fn sweep_plane(
+fn sweep_plane<const SIZE: usize>(
     first: &mut Plane,
     second: &mut Plane,
     others: &Others,
     sites: &HalfPlane,
     draws: &mut [u32],
 )
+    requires size { 0 < SIZE → sites.now.couplings.now.size ≡ SIZE }
     requires first { FitsPlane sites.now.couplings.now.size first.old }
     requires second { FitsPlane sites.now.couplings.now.size second.old }
     requires first_count { length others.now.first.now ≡ sites.now.couplings.now.size }
@@ -244,7 +212,7 @@ fn sweep_plane(
     let back = &mut rest[..count];
     first.wheel.fill(front);
     second.wheel.fill(back);
-    sweep_words_of_duo(
+    sweep_words_of_duo::<SIZE>(
         first.words.as_mut_slice(),
         second.words.as_mut_slice(),
         others,

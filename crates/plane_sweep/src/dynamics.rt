@@ -1,9 +1,10 @@
 //! What a sweep depends on besides spins and draws.
 
-ghost use Rattle.std.specs.Prelude.{◌<◌};
+ghost use Rattle.std.specs.Prelude.{◌≡◌, ◌<◌};
 ghost use Rattle.scalar_rule.specs.Plan.{slots_of};
 ghost use Rattle.scalar_rule.specs.SlotRules.{HasThresholds};
 
+use crate::order::Turn;
 use coupling_set::Couplings;
 use local_rule::ReadyRule;
 use scalar_rule::Plan;
@@ -32,4 +33,17 @@ pub fn rule_of_slot(plan: &Plan, slot: u32) -> ReadyRule
     ensures { HasThresholds plan.now.rules slot result }
 {
     ReadyRule::of(&plan.rules().rule(slot))
+}
+
+/// The sites of the plane of a turn.
+#[inline(always)]
+pub fn sites_of<'a>(dynamics: &Dynamics<'a>, turn: &Turn) -> HalfPlane<'a>
+    ensures { result ≡ (record { couplings = dynamics.now.couplings; rule = dynamics.now.rule; colour = turn.now.colour; z = turn.now.z }) }
+{
+    HalfPlane {
+        couplings: dynamics.couplings,
+        rule: dynamics.rule,
+        colour: turn.colour,
+        z: turn.z,
+    }
 }

@@ -26,53 +26,16 @@ pub struct Row {
 }
 
 /// The new words of the sites of a colour in a plane, from the planes of the other colour, each site
-/// by the draw of its place.
-pub fn sweep_words(own: &mut [u64], other: &[Plane], sites: &HalfPlane, draws: &[u32])
-    requires own { length own.old ≡ half_plane sites.now.couplings.now.size }
-    requires draws { length draws.now ≡ half_plane sites.now.couplings.now.size }
-    requires count { length other.now ≡ sites.now.couplings.now.size }
-    requires planes { All (FitsPlane sites.now.couplings.now.size) other.now }
-    requires colour { sites.now.colour < 2 }
-    requires plane { sites.now.z < sites.now.couplings.now.size }
-    ensures { SweepsWords sites.now.couplings.now other.now sites.now.rule.now draws.now sites.now.colour sites.now.z (half_plane sites.now.couplings.now.size) own.old own.new }
-{
-    match sites.couplings.size() {
-        6 => sweep_sized::<6>(own, other, sites, draws),
-        8 => sweep_sized::<8>(own, other, sites, draws),
-        10 => sweep_sized::<10>(own, other, sites, draws),
-        12 => sweep_sized::<12>(own, other, sites, draws),
-        14 => sweep_sized::<14>(own, other, sites, draws),
-        16 => sweep_sized::<16>(own, other, sites, draws),
-        18 => sweep_sized::<18>(own, other, sites, draws),
-        20 => sweep_sized::<20>(own, other, sites, draws),
-        22 => sweep_sized::<22>(own, other, sites, draws),
-        24 => sweep_sized::<24>(own, other, sites, draws),
-        26 => sweep_sized::<26>(own, other, sites, draws),
-        28 => sweep_sized::<28>(own, other, sites, draws),
-        30 => sweep_sized::<30>(own, other, sites, draws),
-        32 => sweep_sized::<32>(own, other, sites, draws),
-        34 => sweep_sized::<34>(own, other, sites, draws),
-        36 => sweep_sized::<36>(own, other, sites, draws),
-        38 => sweep_sized::<38>(own, other, sites, draws),
-        40 => sweep_sized::<40>(own, other, sites, draws),
-        48 => sweep_sized::<48>(own, other, sites, draws),
-        56 => sweep_sized::<56>(own, other, sites, draws),
-        64 => sweep_sized::<64>(own, other, sites, draws),
-        _ => sweep_any(own, other, sites, draws),
-    }
-}
-
-// The same, with code of its own for a size, for each kind of table in order, and for planes whose first
-// row begins at x = 0 or at x = 1: all are then known in its loops. A table out of order, which no
-// temperature has, takes the code for all sizes.
-fn sweep_sized<const SIZE: usize>(
+/// by the draw of its place. There is code for a size, for each kind of table in order, and for planes
+/// whose first row begins at x = 0 or at x = 1: all are then known in its loops. A size of 0 stands for
+/// any. A table out of order, which no temperature has, takes the code for all sizes.
+pub fn sweep_words<const SIZE: usize>(
     own: &mut [u64],
     other: &[Plane],
     sites: &HalfPlane,
     draws: &[u32],
 )
-    requires size { sites.now.couplings.now.size ≡ SIZE }
-    requires lawful { IsLawfulSize sites.now.couplings.now.size }
+    requires size { 0 < SIZE → sites.now.couplings.now.size ≡ SIZE }
     requires own { length own.old ≡ half_plane sites.now.couplings.now.size }
     requires draws { length draws.now ≡ half_plane sites.now.couplings.now.size }
     requires count { length other.now ≡ sites.now.couplings.now.size }
@@ -81,6 +44,11 @@ fn sweep_sized<const SIZE: usize>(
     requires plane { sites.now.z < sites.now.couplings.now.size }
     ensures { SweepsWords sites.now.couplings.now other.now sites.now.rule.now draws.now sites.now.colour sites.now.z (half_plane sites.now.couplings.now.size) own.old own.new }
 {
+    let _ = sites.couplings.size();
+    if SIZE == 0 {
+        sweep_any(own, other, sites, draws);
+        return;
+    }
     let even = (sites.colour + sites.z) % 2 == 0;
     match sites.rule.kind() {
         RuleKind::Heat if even => { sweep_rows::<SIZE, true, true>(own, other, sites, draws) }
@@ -95,7 +63,7 @@ fn sweep_sized<const SIZE: usize>(
 // The same by heat bath or Metropolis, two rows at a time: an even plane's first row begins at x = 0.
 // Not expanded where it is called, since no hint brings so much code into one function.
 #[inline(never)]
-pub(crate) fn sweep_rows<const SIZE: usize, const HEAT: bool, const EVEN: bool>(
+fn sweep_rows<const SIZE: usize, const HEAT: bool, const EVEN: bool>(
     own: &mut [u64],
     other: &[Plane],
     sites: &HalfPlane,
@@ -141,7 +109,7 @@ pub fn kind_of(heat: bool) -> RuleKind
     }
 }
 
-/// The same as `sweep_words`, by one code for all sizes and tables.
+// The same as `sweep_words`, by one code for all sizes and tables.
 pub(crate) fn sweep_any(own: &mut [u64], other: &[Plane], sites: &HalfPlane, draws: &[u32])
     requires lawful { IsLawfulSize sites.now.couplings.now.size }
     requires own { length own.old ≡ half_plane sites.now.couplings.now.size }

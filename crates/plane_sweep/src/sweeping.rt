@@ -1,8 +1,9 @@
 //! The sweep of all 64 samples of one replica.
 
 ghost use Rattle.std.specs.Prelude.{◌≡◌, ℕ, ◌*◌, ◌<◌, ◌≤◌, ◌&&◌, nat_le, nat_lt, length, All};
+ghost use Rattle.plane_sweep.specs.Order.{FitsColours, SweepsTurn};
 ghost use Rattle.plane_sweep.specs.Packed.{part_copy, FitsPlane, FitsReplica};
-ghost use Rattle.plane_sweep.specs.PlaneSweep.{CanSweep, SweepsPlane, SweepsAt, SweepsColours};
+ghost use Rattle.plane_sweep.specs.PlaneSweep.{CanSweep, SweepsPlane, SweepsColours};
 ghost use Rattle.plane_sweep.specs.Storing.{Changed};
 ghost use Rattle.scalar_rule.specs.Plan.{dynamics_of, slots_of};
 ghost use Rattle.scalar_rule.specs.Replica.{configuration_of, with_configuration};
@@ -10,16 +11,16 @@ ghost use Rattle.scalar_rule.specs.SlotRules.{HasThresholds};
 ghost use Rattle.scalar_rule.specs.Sweep as model;
 ghost use Rattle.spin_model.specs.Lattice.{half_plane, IsLawfulSize};
 
+use crate::by_size;
 use crate::draws::{PLANE_DRAWS, SMALL_DRAWS, is_small};
-use crate::dynamics::{Dynamics, HalfPlane, rule_of_slot};
+use crate::dynamics::{Dynamics, HalfPlane, rule_of_slot, sites_of};
+use crate::order::{Turn, first_turn, turn_after};
 use crate::replica::{Plane, Replica};
 use crate::rows::sweep_words;
-use crate::sized::follow_sized;
 use local_rule::ReadyRule;
 use scalar_rule::Plan;
 use std::thread;
 use std::thread::Threads;
-use threshold_table::RuleKind;
 
 // The least size whose planes are cut in pieces, which threads sweep: a smaller lattice is done sooner than
 // they start.
@@ -112,115 +113,64 @@ fn sweep_colours<R: Threads + Sync>(
     requires size { size ≡ dynamics.now.couplings.now.size }
     requires pieces { 1 ≤ pieces }
     requires lawful { IsLawfulSize dynamics.now.couplings.now.size }
-    requires count { length planes.old ≡ 2 * dynamics.now.couplings.now.size }
-    requires planes { All (FitsPlane dynamics.now.couplings.now.size) planes.old }
+    requires planes { FitsColours dynamics.now.couplings.now.size planes.old }
     ensures { SweepsColours dynamics.now.couplings.now dynamics.now.rule.now planes.old planes.new }
 {
     if is_forked(size, pieces) {
         fork_both(rt, planes, dynamics, size, pieces);
     } else if is_small(size) {
-        sweep_both(planes, dynamics, &mut [0u32; SMALL_DRAWS], size);
+        sweep_in_order(planes, dynamics, &mut [0u32; SMALL_DRAWS]);
     } else {
-        sweep_both(planes, dynamics, &mut [0u32; PLANE_DRAWS], size);
+        sweep_in_order(planes, dynamics, &mut [0u32; PLANE_DRAWS]);
     }
 }
 
-// The same in one run.
-fn sweep_both(planes: &mut [Plane], dynamics: &Dynamics, draws: &mut [u32], size: usize)
-    requires size { size ≡ dynamics.now.couplings.now.size }
+// The same in one run, by code of its own for many sizes.
+fn sweep_in_order(planes: &mut [Plane], dynamics: &Dynamics, draws: &mut [u32])
     requires lawful { IsLawfulSize dynamics.now.couplings.now.size }
     requires room { half_plane dynamics.now.couplings.now.size ≤ length draws.old }
-    requires count { length planes.old ≡ 2 * dynamics.now.couplings.now.size }
-    requires planes { All (FitsPlane dynamics.now.couplings.now.size) planes.old }
+    requires planes { FitsColours dynamics.now.couplings.now.size planes.old }
     ensures { SweepsColours dynamics.now.couplings.now dynamics.now.rule.now planes.old planes.new }
 {
-    let (first, second) = planes.split_at_mut(size);
-    sweep_halves(first, second, dynamics, draws, size);
+    by_size!(
+        dynamics.couplings.size(),
+        sweep_turns(planes, dynamics, draws)
+    );
 }
 
-// The planes of both colours, by code of its own at sizes 8, 16, 24 and 32.
-fn sweep_halves(
-    first: &mut [Plane],
-    second: &mut [Plane],
-    dynamics: &Dynamics,
-    draws: &mut [u32],
-    size: usize,
-)
-    requires size { size ≡ dynamics.now.couplings.now.size }
+// The same, by code for a size, or for any where that is 0.
+fn sweep_turns<const SIZE: usize>(planes: &mut [Plane], dynamics: &Dynamics, draws: &mut [u32])
+    requires size { 0 < SIZE → dynamics.now.couplings.now.size ≡ SIZE }
     requires lawful { IsLawfulSize dynamics.now.couplings.now.size }
     requires room { half_plane dynamics.now.couplings.now.size ≤ length draws.old }
-    requires counts { (length first.old ≡ dynamics.now.couplings.now.size) × (length second.old ≡ dynamics.now.couplings.now.size) }
-    requires firsts { All (FitsPlane dynamics.now.couplings.now.size) first.old }
-    requires seconds { All (FitsPlane dynamics.now.couplings.now.size) second.old }
-    ensures first { Changed (SweepsPlane dynamics.now.couplings.now second.old dynamics.now.rule.now 0) dynamics.now.couplings.now.size first.old first.new }
-    ensures second { Changed (SweepsPlane dynamics.now.couplings.now first.new dynamics.now.rule.now 1) dynamics.now.couplings.now.size second.old second.new }
+    requires planes { FitsColours dynamics.now.couplings.now.size planes.old }
+    ensures { SweepsColours dynamics.now.couplings.now dynamics.now.rule.now planes.old planes.new }
 {
-    match (size, dynamics.rule.kind()) {
-        (8, RuleKind::Heat) => follow_sized::<8, true>(first, second, dynamics, draws),
-        (8, RuleKind::Metropolis) => follow_sized::<8, false>(first, second, dynamics, draws),
-        (16, RuleKind::Heat) => follow_sized::<16, true>(first, second, dynamics, draws),
-        (16, RuleKind::Metropolis) => follow_sized::<16, false>(first, second, dynamics, draws),
-        (24, RuleKind::Heat) => follow_sized::<24, true>(first, second, dynamics, draws),
-        (24, RuleKind::Metropolis) => follow_sized::<24, false>(first, second, dynamics, draws),
-        (32, RuleKind::Heat) => follow_sized::<32, true>(first, second, dynamics, draws),
-        (32, RuleKind::Metropolis) => follow_sized::<32, false>(first, second, dynamics, draws),
-        _ => sweep_following(first, second, dynamics, draws, size),
+    let size = dynamics.couplings.size();
+    let mut turn = first_turn();
+    'turns: for i in 0..2 * size {
+        sweep_turn::<SIZE>(planes, &sites_of(dynamics, &turn), draws);
+        turn = turn_after(&turn, size);
     }
 }
 
-// The planes of both colours. Each plane of colour 1 is swept as soon as those beside it of colour 0
-// are, while its couplings are still near the processor. The first and the last lie beside each other,
-// and are swept at the end.
-fn sweep_following(
-    first: &mut [Plane],
-    second: &mut [Plane],
-    dynamics: &Dynamics,
-    draws: &mut [u32],
-    size: usize,
-)
-    requires size { size ≡ dynamics.now.couplings.now.size }
-    requires lawful { IsLawfulSize dynamics.now.couplings.now.size }
-    requires room { half_plane dynamics.now.couplings.now.size ≤ length draws.old }
-    requires counts { (length first.old ≡ dynamics.now.couplings.now.size) × (length second.old ≡ dynamics.now.couplings.now.size) }
-    requires firsts { All (FitsPlane dynamics.now.couplings.now.size) first.old }
-    requires seconds { All (FitsPlane dynamics.now.couplings.now.size) second.old }
-    ensures first { Changed (SweepsPlane dynamics.now.couplings.now second.old dynamics.now.rule.now 0) dynamics.now.couplings.now.size first.old first.new }
-    ensures second { Changed (SweepsPlane dynamics.now.couplings.now first.new dynamics.now.rule.now 1) dynamics.now.couplings.now.size second.old second.new }
+// The plane of a turn, by the planes of the other colour.
+fn sweep_turn<const SIZE: usize>(planes: &mut [Plane], sites: &HalfPlane, draws: &mut [u32])
+    requires size { 0 < SIZE → sites.now.couplings.now.size ≡ SIZE }
+    requires lawful { IsLawfulSize sites.now.couplings.now.size }
+    requires planes { FitsColours sites.now.couplings.now.size planes.old }
+    requires room { half_plane sites.now.couplings.now.size ≤ length draws.old }
+    requires colour { sites.now.colour < 2 }
+    requires plane { sites.now.z < sites.now.couplings.now.size }
+    ensures { SweepsTurn sites.now.couplings.now sites.now.rule.now sites.now.colour sites.now.z planes.old planes.new }
 {
-    sweep_at(first, second, dynamics, draws, 0, 0);
-    sweep_at(first, second, dynamics, draws, 0, 1);
-    'planes: for z in 2..size {
-        sweep_at(first, second, dynamics, draws, 0, z);
-        sweep_at(second, first, dynamics, draws, 1, z - 1);
+    let z = sites.z as usize;
+    let (first, second) = planes.split_at_mut(sites.couplings.size() as usize);
+    if sites.colour == 0 {
+        sweep_plane::<SIZE>(&mut first[z], second, sites, draws);
+    } else {
+        sweep_plane::<SIZE>(&mut second[z], first, sites, draws);
     }
-    sweep_at(second, first, dynamics, draws, 1, size - 1);
-    sweep_at(second, first, dynamics, draws, 1, 0);
-}
-
-// Plane z among the planes of a colour, by the planes of the other colour.
-fn sweep_at(
-    own: &mut [Plane],
-    other: &[Plane],
-    dynamics: &Dynamics,
-    draws: &mut [u32],
-    colour: u32,
-    z: usize,
-)
-    requires counts { (length own.old ≡ dynamics.now.couplings.now.size) × (length other.now ≡ dynamics.now.couplings.now.size) }
-    requires planes { All (FitsPlane dynamics.now.couplings.now.size) own.old }
-    requires others { All (FitsPlane dynamics.now.couplings.now.size) other.now }
-    requires room { half_plane dynamics.now.couplings.now.size ≤ length draws.old }
-    requires colour { colour < 2 }
-    requires plane { z < dynamics.now.couplings.now.size }
-    ensures { SweepsAt dynamics.now.couplings.now other.now dynamics.now.rule.now colour z own.old own.new }
-{
-    let sites = HalfPlane {
-        couplings: dynamics.couplings,
-        rule: dynamics.rule,
-        colour,
-        z: z as u32,
-    };
-    sweep_plane(&mut own[z], other, &sites, draws);
 }
 
 // Colour 0 and then colour 1, each in at most so many runs of planes.
@@ -234,8 +184,7 @@ fn fork_both<R: Threads + Sync>(
     requires size { size ≡ dynamics.now.couplings.now.size }
     requires lawful { IsLawfulSize dynamics.now.couplings.now.size }
     requires pieces { 1 ≤ pieces }
-    requires count { length planes.old ≡ 2 * dynamics.now.couplings.now.size }
-    requires planes { All (FitsPlane dynamics.now.couplings.now.size) planes.old }
+    requires planes { FitsColours dynamics.now.couplings.now.size planes.old }
     ensures { SweepsColours dynamics.now.couplings.now dynamics.now.rule.now planes.old planes.new }
 {
     let (first, second) = planes.split_at_mut(size);
@@ -269,27 +218,38 @@ fn fork_colour<R: Threads + Sync>(
         &|z, plane| -> ()
             requires { CanSweep dynamics.now.couplings.now other.now colour z plane.now }
             ensures { SweepsPlane dynamics.entry.now.couplings.now other.entry.now dynamics.entry.now.rule.now colour z plane.entry.now plane.exit.now }
-        { sweep_alone(plane, other, dynamics, colour, z as u32) },
+        {
+            let turn = Turn {
+                colour,
+                z: z as u32,
+            };
+            sweep_alone(plane, other, dynamics, &turn)
+        },
     );
 }
 
 // A plane with a room for draws of its own, since another thread sweeps another plane.
-fn sweep_alone(plane: &mut Plane, other: &[Plane], dynamics: &Dynamics, colour: u32, z: u32)
-    requires ready { CanSweep dynamics.now.couplings.now other.now colour z plane.old }
-    ensures { SweepsPlane dynamics.now.couplings.now other.now dynamics.now.rule.now colour z plane.old plane.new }
+fn sweep_alone(plane: &mut Plane, other: &[Plane], dynamics: &Dynamics, turn: &Turn)
+    requires ready { CanSweep dynamics.now.couplings.now other.now turn.now.colour turn.now.z plane.old }
+    ensures { SweepsPlane dynamics.now.couplings.now other.now dynamics.now.rule.now turn.now.colour turn.now.z plane.old plane.new }
 {
-    let sites = HalfPlane {
-        couplings: dynamics.couplings,
-        rule: dynamics.rule,
-        colour,
-        z,
-    };
-    sweep_plane(plane, other, &sites, &mut [0u32; PLANE_DRAWS]);
+    let sites = sites_of(dynamics, turn);
+    let draws: &mut [u32] = &mut [0u32; PLANE_DRAWS];
+    by_size!(
+        dynamics.couplings.size(),
+        sweep_plane(plane, other, &sites, draws)
+    );
 }
 
-/// Sweeps the sites of a colour in a plane, by the planes of the other colour. Each site has a draw, used
-/// or not, so that all samples can share it; `draws` is the room for them.
-pub fn sweep_plane(plane: &mut Plane, other: &[Plane], sites: &HalfPlane, draws: &mut [u32])
+// The sites of a colour in a plane, by the planes of the other colour. Each site has a draw, used
+// or not, so that all samples can share it; `draws` is the room for them.
+fn sweep_plane<const SIZE: usize>(
+    plane: &mut Plane,
+    other: &[Plane],
+    sites: &HalfPlane,
+    draws: &mut [u32],
+)
+    requires size { 0 < SIZE → sites.now.couplings.now.size ≡ SIZE }
     requires own { FitsPlane sites.now.couplings.now.size plane.old }
     requires other { length other.now ≡ sites.now.couplings.now.size }
     requires others { All (FitsPlane sites.now.couplings.now.size) other.now }
@@ -301,5 +261,5 @@ pub fn sweep_plane(plane: &mut Plane, other: &[Plane], sites: &HalfPlane, draws:
     let size = sites.couplings.size();
     let draws = &mut draws[..(size * (size / 2)) as usize];
     plane.wheel.fill(draws);
-    sweep_words(plane.words.as_mut_slice(), other, sites, draws);
+    sweep_words::<SIZE>(plane.words.as_mut_slice(), other, sites, draws);
 }

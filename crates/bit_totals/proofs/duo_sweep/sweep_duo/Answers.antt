@@ -42,7 +42,7 @@ returns-clause-swept_first c = λ b below.
     let rule = c.rule_of_slot-rule.result in
     let S : CouplingsView → Type 0 = λ j. SweepsColours j rule c.as_mut_slice-first.result.now new in
     let T : List Plane → Type 0 = λ xs. SweepsColours plan.couplings rule xs new in
-    let swept = subst T c.as_mut_slice-first.ensures.value (subst S c.couplings.ensures.value c.sweep_colours.ensures.swept_first) in
+    let swept = subst T c.as_mut_slice-first.ensures.value (subst S c.couplings.ensures.value c.sweep_colours.ensures.first.swept) in
     rw (written_over old.planes new swept.sized)
     (swept-part plan c.args.slot b rule old _ lawful.couplings.lawful lawful.lattice below (c.requires.duo.first.count ∙ ap (λ n. 2 * n) (sym lawful.lattice)) c.rule_of_slot-rule.ensures refl swept)
 
@@ -55,7 +55,7 @@ returns-clause-swept_second c = λ b below.
     let rule = c.rule_of_slot-rule.result in
     let S : CouplingsView → Type 0 = λ j. SweepsColours j rule c.as_mut_slice-second.result.now new in
     let T : List Plane → Type 0 = λ xs. SweepsColours plan.couplings rule xs new in
-    let swept = subst T c.as_mut_slice-second.ensures.value (subst S c.couplings.ensures.value c.sweep_colours.ensures.swept_second) in
+    let swept = subst T c.as_mut_slice-second.ensures.value (subst S c.couplings.ensures.value c.sweep_colours.ensures.second.swept) in
     rw (written_over old.planes new swept.sized)
     (swept-part plan c.args.slot b rule old _ lawful.couplings.lawful lawful.lattice below (c.requires.duo.second.count ∙ ap (λ n. 2 * n) (sym lawful.lattice)) c.rule_of_slot-rule.ensures refl swept)
 
@@ -68,7 +68,7 @@ returns-clause-fits c =
     let new_first = c.sweep_colours.new.first in
     let S_first : CouplingsView → Type 0 = λ j. SweepsColours j rule c.as_mut_slice-first.result.now new_first in
     let T_first : List Plane → Type 0 = λ xs. SweepsColours plan.couplings rule xs new_first in
-    let swept_first = subst T_first c.as_mut_slice-first.ensures.value (subst S_first c.couplings.ensures.value c.sweep_colours.ensures.swept_first) in
+    let swept_first = subst T_first c.as_mut_slice-first.ensures.value (subst S_first c.couplings.ensures.value c.sweep_colours.ensures.first.swept) in
     let F_first : ℕ → Type 0 = λ n. FitsReplica n old_first in
     let G_first : ℕ → Type 0 = λ n. FitsReplica n (record { planes = new_first; labels = old_first.labels }) in
     let fits_first = subst G_first lawful.lattice (swept-fits plan.couplings rule old_first (record { planes = new_first; labels = old_first.labels }) (subst F_first (sym lawful.lattice) c.requires.duo.first) refl swept_first) in
@@ -76,7 +76,7 @@ returns-clause-fits c =
     let new_second = c.sweep_colours.new.second in
     let S_second : CouplingsView → Type 0 = λ j. SweepsColours j rule c.as_mut_slice-second.result.now new_second in
     let T_second : List Plane → Type 0 = λ xs. SweepsColours plan.couplings rule xs new_second in
-    let swept_second = subst T_second c.as_mut_slice-second.ensures.value (subst S_second c.couplings.ensures.value c.sweep_colours.ensures.swept_second) in
+    let swept_second = subst T_second c.as_mut_slice-second.ensures.value (subst S_second c.couplings.ensures.value c.sweep_colours.ensures.second.swept) in
     let F_second : ℕ → Type 0 = λ n. FitsReplica n old_second in
     let G_second : ℕ → Type 0 = λ n. FitsReplica n (record { planes = new_second; labels = old_second.labels }) in
     let fits_second = subst G_second lawful.lattice (swept-fits plan.couplings rule old_second (record { planes = new_second; labels = old_second.labels }) (subst F_second (sym lawful.lattice) c.requires.duo.second) refl swept_second) in

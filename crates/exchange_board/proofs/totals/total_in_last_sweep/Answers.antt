@@ -21,6 +21,6 @@ returns-clause-swept g c = λ b h.
     let whole = λ (x : PlainCopy). ap (λ n. with_configuration x (sweeps d n (configuration_of x))) all in
     let x = part_copy l b c.args.duo.now.first in
     let y = part_copy l b c.args.duo.now.second in
-    let first = sweeps-more d k x (part_copy l b c.sweep_duo_often.new.duo.first) _ (c.sweep_counting.ensures.first b h) (c.sweep_duo_often.ensures.first b h) ∙ whole x in
-    let second = sweeps-more d k y (part_copy l b c.sweep_duo_often.new.duo.second) _ (c.sweep_counting.ensures.second b h) (c.sweep_duo_often.ensures.second b h) ∙ whole y in
+    let first = sweeps-more d k x (part_copy l b c.sweep_duo_often.new.duo.first) _ (c.sweep_duo_and_count.ensures.swept_first b h) (c.sweep_duo_often.ensures.first b h) ∙ whole x in
+    let second = sweeps-more d k y (part_copy l b c.sweep_duo_often.new.duo.second) _ (c.sweep_duo_and_count.ensures.swept_second b h) (c.sweep_duo_often.ensures.second b h) ∙ whole y in
     ap₂ (λ (u v : PlainCopy). let s : PlainSlot = record { first = u; second = v } in s) first second

@@ -7,10 +7,6 @@ use Rattle.plane_sweep.specs.declared.replica.Plane.{Plane}
 use Rattle.plane_sweep.proofs.ColourSweeps.{swept-part, swept-fits}
 use Rattle.plane_sweep.proofs.duos.sweep_once.Goals as goal
 
-pub sweep_colours-requires-clause-size : goal.sweep_colours-requires-clause-size
-sweep_colours-requires-clause-size c =
-    c.size-size.ensures.value ∙ c.lattice.ensures.value ∙ sym c.lattice.ensures.lawful.lattice ∙ sym (ap (λ (j : CouplingsView). j.size) c.couplings.ensures.value)
-
 pub sweep_colours-requires-clause-first : goal.sweep_colours-requires-clause-first
 sweep_colours-requires-clause-first c =
     let side = c.lattice.ensures.lawful.lattice in

@@ -8,7 +8,7 @@ use Rattle.plane_sweep.proofs.SweptPlanes.{sweeps-plane}
 use Rattle.plane_sweep.proofs.duos.sweep_plane.Goals as goal
 
 pub returns-clause-first : goal.returns-clause-first
-returns-clause-first c =
+returns-clause-first g c =
     let couplings = c.args.sites.now.couplings.now in
     let n = half_plane couplings.size in
     let other = c.args.others.now.first.now in
@@ -23,7 +23,7 @@ returns-clause-first c =
     rw (written_over old.words c.sweep_words_of_duo.new.first swept.sized) made
 
 pub returns-clause-second : goal.returns-clause-second
-returns-clause-second c =
+returns-clause-second g c =
     let couplings = c.args.sites.now.couplings.now in
     let n = half_plane couplings.size in
     let other = c.args.others.now.second.now in

@@ -7,4 +7,4 @@ returns g c =
     sweeps-colours c.args.dynamics.now.couplings.now c.args.dynamics.now.rule.now c.args.planes.now _ _ _ _
     (c.split_at_mut-first.ensures.front ∙ ap (λ n. take n c.args.planes.now) c.requires.size)
     (c.split_at_mut-first.ensures.back ∙ ap (λ n. drop n c.args.planes.now) c.requires.size)
-    c.requires.count c.fork_colour.ensures c.fork_colour-2.ensures
+    c.requires.planes.count c.fork_colour.ensures c.fork_colour-2.ensures

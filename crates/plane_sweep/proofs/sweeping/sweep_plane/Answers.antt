@@ -8,7 +8,7 @@ use Rattle.plane_sweep.proofs.SweptPlanes.{sweeps-plane}
 use Rattle.plane_sweep.proofs.sweeping.sweep_plane.Goals as goal
 
 pub returns : goal.returns
-returns c =
+returns g c =
     let couplings = c.args.sites.now.couplings.now in
     let n = half_plane couplings.size in
     let old = c.args.plane.now in

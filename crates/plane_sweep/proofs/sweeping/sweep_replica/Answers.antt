@@ -11,19 +11,16 @@ pub sweep_colours-requires-clause-size : goal.sweep_colours-requires-clause-size
 sweep_colours-requires-clause-size g c κs within =
     c.size-size.ensures.value ∙ c.lattice.ensures.value ∙ sym c.lattice.ensures.lawful.lattice ∙ sym (ap (λ (j : CouplingsView). j.size) c.couplings.ensures.value)
 
-pub sweep_colours-requires-clause-count : goal.sweep_colours-requires-clause-count
-sweep_colours-requires-clause-count g c κs within =
-    let side = c.lattice.ensures.lawful.lattice in
-    let same = ap (λ (j : CouplingsView). j.size) c.couplings.ensures.value in
-    ap length c.as_mut_slice-planes.ensures.value ∙ c.requires.replica.count ∙ ap (λ n. 2 * n) (sym side ∙ sym same)
-
 pub sweep_colours-requires-clause-planes : goal.sweep_colours-requires-clause-planes
 sweep_colours-requires-clause-planes g c κs within =
     let side = c.lattice.ensures.lawful.lattice in
     let same = ap (λ (j : CouplingsView). j.size) c.couplings.ensures.value in
     let P : List Plane → Type 0 = λ xs. All (FitsPlane c.couplings.result.now.size) xs in
     let Q : ℕ → Type 0 = λ n. All (FitsPlane n) c.args.replica.now.planes in
-    subst P (sym c.as_mut_slice-planes.ensures.value) (subst Q (sym side ∙ sym same) c.requires.replica.planes)
+    record {
+      count = ap length c.as_mut_slice-planes.ensures.value ∙ c.requires.replica.count ∙ ap (λ n. 2 * n) (sym side ∙ sym same);
+      fit = subst P (sym c.as_mut_slice-planes.ensures.value) (subst Q (sym side ∙ sym same) c.requires.replica.planes);
+    }
 
 pub returns-clause-swept : goal.returns-clause-swept
 returns-clause-swept g c = λ slot b is below.
