@@ -162,7 +162,7 @@ pub(crate) fn add_carries(
     add_one(counts, 5, most);
 }
 
-/// The same of one pair of counts alone.
+/// Takes up the carries of one pair of counts alone.
 #[inline(always)]
 pub(crate) fn add_last_carries(counts: &mut [[u64; 4]; 20], carries: (u64x4, u64x4))
     requires lengths { (length carries.0 ≡ 4) × (length carries.1 ≡ 4) }

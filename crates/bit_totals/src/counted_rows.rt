@@ -88,7 +88,7 @@ fn sweep_then_count<const SIZE: usize>(
     count_sized::<SIZE>(counts, &plane);
 }
 
-// The same, counted where they get their new words at multiples of 8, with code for a size, for each kind
+// The new words and their bonds, counted where a site gets its word at multiples of 8, with code for a size, for each kind
 // of table in order, and for planes whose first row begins at x = 0 or at x = 1: all are then known in its
 // loops.
 fn sweep_words_counted<const SIZE: usize>(
@@ -129,7 +129,7 @@ fn sweep_words_counted<const SIZE: usize>(
     }
 }
 
-// The same by heat bath or Metropolis, two rows at a time: an even plane's first row begins at x = 0.
+// The new words and their bonds by heat bath or Metropolis, two rows at a time: an even plane's first row begins at x = 0.
 // Not expanded where it is called, since no hint brings so much code into one function. A table out of
 // order, which no temperature has, takes the code for all sizes.
 #[inline(never)]

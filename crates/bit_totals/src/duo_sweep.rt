@@ -50,7 +50,7 @@ pub fn sweep_duo_and_count(duo: &mut Duo, plan: &Plan, slot: u32) -> (Planes<20>
     (first.total(), second.total())
 }
 
-// The same, not yet in planes: the bonds of all sites of colour 1.
+// The sweep and its count, not yet in planes: the bonds of all sites of colour 1.
 fn sweep_duo(duo: &mut Duo, plan: &Plan, slot: u32) -> (Tally, Tally)
     requires duo { FitsDuo plan.now.size duo.old }
     requires slot { slot < slots_of plan.now }
@@ -80,7 +80,7 @@ fn sweep_duo(duo: &mut Duo, plan: &Plan, slot: u32) -> (Tally, Tally)
     sweep_colours(first, second, &dynamics, size)
 }
 
-// The same, of two lists of planes. The room for the draws is cleared in each sweep, so a small lattice
+// The sweep and its count of two lists of planes. The room for the draws is cleared in each sweep, so a small lattice
 // takes less of it.
 fn sweep_colours(
     first: &mut [Plane],
@@ -102,7 +102,7 @@ fn sweep_colours(
     }
 }
 
-// The same, by code of its own for many sizes.
+// The sweep and its count by code of its own for many sizes.
 fn sweep_in_order(
     first: &mut [Plane],
     second: &mut [Plane],
@@ -122,7 +122,7 @@ fn sweep_in_order(
     )
 }
 
-// The same, by code for a size, or for any where that is 0.
+// All turns of the sweep, by code for a size, or for any where that is 0.
 fn sweep_turns<const SIZE: usize>(
     first: &mut [Plane],
     second: &mut [Plane],

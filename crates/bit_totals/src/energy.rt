@@ -48,7 +48,7 @@ pub fn unsatisfied_duo(duo: &Duo, plan: &Plan) -> (Planes<20>, Planes<20>)
     (first.total(), second.total())
 }
 
-// The same, not yet in planes: the bonds of all sites of colour 0.
+// U, not yet in planes: the bonds of all sites of colour 0.
 fn count_planes(replica: &Replica, plan: &Plan) -> Tally
     requires fits { FitsReplica plan.now.size replica.now }
     ensures counted { (b : ℕ) → b < 64 → tallied result.rows b
@@ -135,7 +135,7 @@ fn count_plane(counts: &mut [[u64; 4]; 20], plane: &ColourPlane)
     by_size!(plane.couplings.size(), count_sized(counts, plane));
 }
 
-/// The same, at multiples of 8 with code for a size and for planes whose first row begins at x = 0 or at
+/// What `count_plane` adds, at multiples of 8 with code for a size and for planes whose first row begins at x = 0 or at
 /// x = 1: both are then known in its loops. A size of 0 stands for any.
 pub(crate) fn count_sized<const SIZE: usize>(counts: &mut [[u64; 4]; 20], plane: &ColourPlane)
     requires size { 0 < SIZE → plane.now.couplings.now.size ≡ SIZE }
@@ -184,7 +184,7 @@ fn count_alike<const SIZE: usize, const EVEN: bool>(
     count_pairs::<SIZE, EVEN>(counts, plane, SIZE, EVEN);
 }
 
-// The same, two rows at a time: an even plane's first row begins at x = 0. The code's own size and parity
+// The bonds of a plane, two rows at a time: an even plane's first row begins at x = 0. The code's own size and parity
 // only tell its copies apart.
 #[inline(always)]
 fn count_pairs<const SIZE: usize, const EVEN: bool>(

@@ -24,7 +24,7 @@ pub fn agreeing(a: &Replica, b: &Replica) -> Planes<20>
     count_planes(a, b).total()
 }
 
-// The same, not yet in planes. The words of ones are written at each call, so a small lattice takes
+// Q, not yet in planes. The words of ones are written at each call, so a small lattice takes
 // fewer of them.
 fn count_planes(a: &Replica, b: &Replica) -> Tally
     requires { HaveOneSize a.now b.now }

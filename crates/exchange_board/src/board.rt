@@ -115,7 +115,7 @@ impl Board {
         self.ready_between(0, slots, share.is_some())
     }
 
-    // The same of the slots of a share that go with their partner or have none.
+    // A slot of least rank of those of a share that go with their partner or have none.
     fn own_slot(&self, share: Option<Share>) -> Option<u32>
         ensures some { IfSome result (λ t. (t < length self.now.places) × IsReady self.now.origin.window.until self.now.places t) }
     {
@@ -128,7 +128,7 @@ impl Board {
         }
     }
 
-    // The same of the slots from one on to before another.
+    // A slot of least rank of those from one on to before another.
     fn ready_between(&self, first: u32, end: u32, takes_partners: bool) -> Option<u32>
         requires { end ≤ length self.now.places }
         ensures some { IfSome result (λ t. (t < length self.now.places) × IsReady self.now.origin.window.until self.now.places t) }
@@ -225,7 +225,7 @@ impl Board {
         self.next_of(None)
     }
 
-    // The same, for a worker who takes partners where a share is given, which it prefers.
+    // What `next` answers to a worker who takes partners where a share is given, which it prefers.
     fn next_of(&mut self, share: Option<Share>) -> Next
         ensures next { Nexts self.old self.new result }
         ensures phased { IsPhased self.old.places }

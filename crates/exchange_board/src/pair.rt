@@ -20,7 +20,7 @@ pub struct PairJob {
     pub(crate) high: Box<Home, Global>,
 }
 
-/// The same after the sweeps of its epoch and the exchange, with the records from before it. It must be spent.
+/// Two partners after the sweeps of their epoch and the exchange, with the records from before it. It must be spent.
 pub struct PairSwept {
     pub(crate) slot: u32,
     pub(crate) epoch: u64,

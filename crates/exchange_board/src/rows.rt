@@ -89,7 +89,7 @@ pub(crate) fn fill_page(
     }
 }
 
-// The same, where they are wanted. Out of line, since its room is cleared when it is called.
+// Writes the records of a slot in all samples. Out of line, since its room is cleared when it is called.
 #[inline(never)]
 fn make_page(page: &mut [Record; 64], duo: &Duo, totals: &Totals, plan: &Plan)
     requires duo { FitsDuo plan.now.size duo.now }

@@ -57,7 +57,7 @@ pub(crate) fn sweep_and_total<R: Threads + Sync>(
     }
 }
 
-// The same in one run of planes: the last sweep counts the bonds.
+// The sweeps of an epoch in one run of planes: the last one counts the bonds.
 #[tactic(auto, unfolding(scalar_rule::specs::Epoch::swept_slot))]
 fn total_in_last_sweep<R: Threads + Sync>(rt: &R, duo: &mut Duo, plan: &Plan, slot: u32) -> Totals
     requires duo { FitsDuo plan.now.size duo.old }

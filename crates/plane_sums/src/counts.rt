@@ -148,7 +148,7 @@ fn add_plane<const M: usize>(
     }
 }
 
-// The same of two words.
+// Adds the carry alone at each place.
 #[inline]
 fn add_carry(own: &mut [u64; 128], carry: &mut [u64; 64], places: usize)
     requires { places ≤ 64 }

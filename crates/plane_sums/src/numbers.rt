@@ -34,7 +34,7 @@ pub fn plane_numbers(
     plane_numbers_between(&duo.first, &duo.second, lattice, room, out);
 }
 
-/// The same of any two replicas.
+/// What `plane_numbers` writes, of any two replicas.
 pub fn plane_numbers_between(
     first: &Replica,
     second: &Replica,

@@ -71,7 +71,7 @@ pub(crate) fn sweep_words_of_duo<const SIZE: usize>(
     }
 }
 
-// The same by heat bath or Metropolis, two rows of each replica at a time. Not expanded where it is
+// The new words by heat bath or Metropolis, two rows of each replica at a time. Not expanded where it is
 // called, since no hint brings so much code into one function.
 #[inline(never)]
 fn sweep_rows_of_duo<const SIZE: usize, const HEAT: bool, const EVEN: bool>(

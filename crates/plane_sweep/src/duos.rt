@@ -57,7 +57,7 @@ pub fn sweep_duo_often<R: Threads + Sync>(
     }
 }
 
-// The same, in turn.
+// The sweeps of both replicas in turn.
 fn sweep_in_turn(duo: &mut Duo, plan: &Plan, slot: u32, count: u32)
     requires duo { FitsDuo plan.now.size duo.old }
     requires slot { slot < slots_of plan.now }
@@ -98,7 +98,7 @@ fn sweep_once(duo: &mut Duo, plan: &Plan, rule: &ReadyRule)
     sweep_colours(first, second, &dynamics);
 }
 
-// The same, of two lists of planes.
+// One sweep of two lists of planes.
 fn sweep_colours(first: &mut [Plane], second: &mut [Plane], dynamics: &Dynamics)
     requires lawful { IsLawfulSize dynamics.now.couplings.now.size }
     requires first { FitsColours dynamics.now.couplings.now.size first.old }
@@ -113,7 +113,7 @@ fn sweep_colours(first: &mut [Plane], second: &mut [Plane], dynamics: &Dynamics)
     );
 }
 
-// The same, by code for a size, or for any where that is 0.
+// All turns of a sweep of both, by code for a size, or for any where that is 0.
 fn sweep_turns<const SIZE: usize>(
     first: &mut [Plane],
     second: &mut [Plane],

@@ -104,7 +104,7 @@ fn pulls_across<const SIZE: usize, const HEAT: bool, const EVEN: bool, const PAR
     )
 }
 
-// The same at one column.
+// J times the neighbours' spins at one column of a row.
 #[inline(always)]
 fn pulls_at(around: &Surroundings, row: &Row, behind: &Row, k: usize) -> [u64; 6]
     requires rows { HasRows (length around.now.here.now) around.now row.now }

@@ -60,7 +60,7 @@ pub fn sweep_words<const SIZE: usize>(
     }
 }
 
-// The same by heat bath or Metropolis, two rows at a time: an even plane's first row begins at x = 0.
+// The new words by heat bath or Metropolis, two rows at a time: an even plane's first row begins at x = 0.
 // Not expanded where it is called, since no hint brings so much code into one function.
 #[inline(never)]
 fn sweep_rows<const SIZE: usize, const HEAT: bool, const EVEN: bool>(
@@ -109,7 +109,7 @@ pub fn kind_of(heat: bool) -> RuleKind
     }
 }
 
-// The same as `sweep_words`, by one code for all sizes and tables.
+// What `sweep_words` leaves, by one code for all sizes and tables.
 pub(crate) fn sweep_any(own: &mut [u64], other: &[Plane], sites: &HalfPlane, draws: &[u32])
     requires lawful { IsLawfulSize sites.now.couplings.now.size }
     requires own { length own.old ≡ half_plane sites.now.couplings.now.size }

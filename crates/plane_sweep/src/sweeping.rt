@@ -101,7 +101,7 @@ fn sweep_replica<R: Threads + Sync>(
     sweep_colours(rt, planes, &dynamics, size, pieces);
 }
 
-// The same, of a list of planes. The room for the draws is cleared in each sweep, so a small lattice
+// A sweep of a list of planes. The room for the draws is cleared in each sweep, so a small lattice
 // takes less of it.
 fn sweep_colours<R: Threads + Sync>(
     rt: &R,
@@ -125,7 +125,7 @@ fn sweep_colours<R: Threads + Sync>(
     }
 }
 
-// The same in one run, by code of its own for many sizes.
+// A sweep in one run, by code of its own for many sizes.
 fn sweep_in_order(planes: &mut [Plane], dynamics: &Dynamics, draws: &mut [u32])
     requires lawful { IsLawfulSize dynamics.now.couplings.now.size }
     requires room { half_plane dynamics.now.couplings.now.size ≤ length draws.old }
@@ -138,7 +138,7 @@ fn sweep_in_order(planes: &mut [Plane], dynamics: &Dynamics, draws: &mut [u32])
     );
 }
 
-// The same, by code for a size, or for any where that is 0.
+// All turns of a sweep, by code for a size, or for any where that is 0.
 fn sweep_turns<const SIZE: usize>(planes: &mut [Plane], dynamics: &Dynamics, draws: &mut [u32])
     requires size { 0 < SIZE → dynamics.now.couplings.now.size ≡ SIZE }
     requires lawful { IsLawfulSize dynamics.now.couplings.now.size }

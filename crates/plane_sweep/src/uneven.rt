@@ -96,7 +96,7 @@ impl RaggedStand {
     }
 }
 
-/// The same record: each record of the program is within the ranges in which it is stored.
+/// The record itself: each record of the program is within the ranges in which it is stored.
 pub fn record_in_range(values: Record) -> Record
     ensures same { result ≡ values }
     ensures fits { FitsRecord result }
