@@ -35,9 +35,9 @@ from make_tables import OneLineParser, Refusal, add_temperatures, inverse_temper
 from manifest import add_run, study_of  # noqa: E402
 from report_errors import deviation, errors_of, print_few  # noqa: E402
 from report_plot import plot_text  # noqa: E402
+from text_lines import LONGEST_LINE, TextLines  # noqa: E402
 
 Header = namedtuple("Header", "size slots samples rule first until")
-LONGEST_LINE = 2 ** 17
 COUNT = rb"(0|[1-9][0-9]{0,9})"
 SIGNED = rb"(0|-?[1-9][0-9]{0,6})"
 HEADER = re.compile(rb"glass 1 size=%b slots=%b samples=%b rule=(heat|metropolis) from=%b to=%b" % ((COUNT,) * 5))
@@ -49,12 +49,15 @@ NOTE = """note: the samples of one run share each random number, so the deviatio
 # ---------------------------------------------------------------- reading
 
 
-class Report:
+class Report(TextLines):
     """The sums of one report. The file is read once, line by line, and each line is checked."""
 
+    cut = "the report ends before it is whole"
+    open_line = "the line doesn't end with a line feed"
+
     def __init__(self, name, stream, skip):
-        self.name, self.stream, self.skip = name, stream, skip
-        self.line_number, self.epochs, self.every, self.last, self.counted = 0, 0, None, None, 0
+        super().__init__(name, stream)
+        self.skip, self.epochs, self.every, self.last, self.counted = skip, 0, None, None, 0
         self.header = self.read_header()
         slots, samples = self.header.slots, self.header.samples
         self.volume = self.header.size ** 3
@@ -71,18 +74,6 @@ class Report:
             line = self.next_line()
         self.read_end(line)
         self.read_spins()
-
-    def damaged(self, text):
-        return Refusal(f"{self.name}, line {self.line_number}: {text}")
-
-    def next_line(self):
-        line = self.stream.readline(LONGEST_LINE)
-        self.line_number += 1
-        if not line:
-            raise self.damaged("the report ends before it is whole")
-        if not line.endswith(b"\n"):
-            raise self.damaged("the line doesn't end with a line feed")
-        return line[:-1]
 
     def read_header(self):
         found = HEADER.fullmatch(self.next_line())

@@ -34,6 +34,10 @@ PATHS = {
     "measured_sums/specs/OverlapField": "planes", "measured_sums/specs/PlaneFamilies": "planes",
     "measured_sums/specs/PlaneCorrelations": "planes", "measured_sums/specs/EpochBins": "measured",
     "measured_sums/specs/MeasuredSums": "measured", "measured_sums/specs/SumsText": "measured",
+    "quenched_states/specs/StillRule": "quenched", "quenched_states/specs/KeptStates": "quenched",
+    "quenched_states/specs/Copies": "copies", "quenched_states/specs/QuenchText": "quenched",
+    "quenched_states/specs/CrossText": "crossed", "quenched_states/specs/KeptBytes": "kept",
+    "quenched_states/specs/KeptTests": "kept",
     "potts_laws/specs/Changes": "potts", "potts_laws/specs/Weights": "potts",
     "potts_laws/specs/Equilibrium": "potts",
 }

@@ -34,11 +34,12 @@ from fractions import Fraction
 from functools import reduce
 
 sys.dont_write_bytecode = True
-from analyse import LONGEST_LINE, Report, read_each, spelled  # noqa: E402
+from analyse import Report, read_each, spelled  # noqa: E402
 from exit_status import status_of  # noqa: E402
 from make_tables import OneLineParser, Refusal, add_temperatures, inverse_temperatures  # noqa: E402
 from manifest import add_run, study_of  # noqa: E402
 from report_errors import few_blocks  # noqa: E402
+from text_lines import TextLines  # noqa: E402
 
 # The number of rows, and the sums over them of both energies, of the squared overlap and of its square.
 Sums = namedtuple("Sums", "rows energy squares fourths")
@@ -65,21 +66,10 @@ def outside(total, part):
     return Sums(*(a - b for a, b in zip(total, part)))
 
 
-class SumsFile:
+class SumsFile(TextLines):
     """The lines that `glass average` prints."""
 
-    def __init__(self, name, stream):
-        self.name, self.stream, self.line_number = name, stream, 0
-
-    def damaged(self, text):
-        return Refusal(f"{self.name}, line {self.line_number}: {text}")
-
-    def next_line(self):
-        line = self.stream.readline(LONGEST_LINE)
-        self.line_number += 1
-        if not line.endswith(b"\n"):
-            raise self.damaged("the sums end before they are whole")
-        return line[:-1]
+    cut = open_line = "the sums end before they are whole"
 
     def sums(self, front, what):
         found = re.fullmatch(re.escape(front) + SUMS, self.next_line())

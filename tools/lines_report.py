@@ -13,10 +13,11 @@ import re
 from collections import namedtuple
 from fractions import Fraction
 
-from analyse import COUNT, LONGEST_LINE, spelled
+from analyse import COUNT, spelled
 from jackknife import jackknife_error
 from make_tables import Refusal
 from report_errors import print_few
+from text_lines import TextLines
 
 Header = namedtuple("Header", "size slots samples epoch")
 # Sums over samples: their number, A, and for each distance the sum of B over the three directions.
@@ -28,11 +29,13 @@ HEADER = re.compile(rb"lines 1 size=%b slots=%b samples=%b epoch=%b" % ((COUNT,)
 # ---------------------------------------------------------------- reading
 
 
-class Lines:
+class Lines(TextLines):
     """The sums of one file by slot and sample. It is read once, line by line, and each line is checked."""
 
+    cut = open_line = "the file ends before it is whole"
+
     def __init__(self, name, stream):
-        self.name, self.stream, self.line_number = name, stream, 0
+        super().__init__(name, stream)
         self.header = self.read_header()
         self.sums = [[] for _ in range(self.header.slots)]
         for sample in range(self.header.samples):
@@ -43,16 +46,6 @@ class Lines:
         if self.stream.readline(1):
             self.line_number += 1
             raise self.damaged("the lines have ended before this one")
-
-    def damaged(self, text):
-        return Refusal(f"{self.name}, line {self.line_number}: {text}")
-
-    def next_line(self):
-        line = self.stream.readline(LONGEST_LINE)
-        self.line_number += 1
-        if not line.endswith(b"\n"):
-            raise self.damaged("the file ends before it is whole")
-        return line[:-1]
 
     def read_header(self):
         found = HEADER.fullmatch(self.next_line())

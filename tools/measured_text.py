@@ -9,11 +9,11 @@ import re
 from typing import BinaryIO, Dict, Iterator, List, NamedTuple, Sequence, Tuple
 
 from make_tables import Refusal
+from text_lines import TextLines
 
 MOMENTS = ("n", "E", "E2", "E01", "A", "A2", "q", "m", "q2", "q4", "Eq2", "Eq4")
 KINDS = ("sum", "hist", "axis", "face")
 CLASSES, MOST_BINS, BANKS = 32, 31, 4
-LONGEST_LINE = 4096
 COUNT = "(0|[1-9][0-9]{0,9})"
 HEADER = re.compile(f"measure 1 size={COUNT} slots={COUNT} samples={COUNT} rule=(heat|metropolis) every={COUNT} from={COUNT} "
                     f"to={COUNT} digest=([0-9a-f]{{64}})")
@@ -76,19 +76,11 @@ def faults(size: int, number: int, lines: Lines) -> Iterator[str]:
         yield "the overlaps are greater than the number of sites"
 
 
-class Reader:
-    def __init__(self, name: str, stream: BinaryIO) -> None:
-        self.name, self.stream, self.number = name, stream, 0
+class Reader(TextLines):
+    longest = 4096
 
     def line(self) -> str:
-        stored = self.stream.readline(LONGEST_LINE)
-        self.number += 1
-        if not stored.endswith(b"\n"):
-            raise self.damaged("the text ends before it is whole")
-        return stored[:-1].decode("ascii", "replace")
-
-    def damaged(self, what: str) -> Refusal:
-        return Refusal(f"{self.name}, line {self.number}: {what}")
+        return self.next_line().decode("ascii", "replace")
 
     def heading(self) -> Heading:
         found = HEADER.fullmatch(self.line())
@@ -124,7 +116,7 @@ class Reader:
         if self.line() != f"end,{heading.to}":
             raise self.damaged(f"the line end,{heading.to} is due")
         if self.stream.readline(1):
-            self.number += 1
+            self.line_number += 1
             raise self.damaged("the text has ended before this line")
         return Measured(self.name, heading, tuple(found), lines)
 

@@ -11,9 +11,10 @@ from typing import BinaryIO, Callable, Dict, List, NamedTuple, Optional, Sequenc
 import numpy as np
 from numpy.typing import NDArray
 
-from analyse import HEADER, LONGEST_LINE, Report
+from analyse import HEADER, Report
 from make_tables import Refusal
 from manifest import study_of
+from text_lines import LONGEST_LINE
 
 Integers = NDArray[np.int64]
 COUNT, SIGNED = rb"(?:0|[1-9][0-9]{0,9})", rb"(?:0|-?[1-9][0-9]{0,6})"

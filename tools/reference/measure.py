@@ -18,64 +18,32 @@ import checkpoint_judge  # noqa: E402
 import expected_runs  # noqa: E402
 import input_judge  # noqa: E402
 from input_judge import BANK, Open, Refused  # noqa: E402
+from reference.answers import ending_of, tell  # noqa: E402
 from reference.banks import banks_encoding  # noqa: E402
 from reference.checkpoint import encoding  # noqa: E402
 from reference.epoch import serial  # noqa: E402
 from reference.measured import Heading, followed_text  # noqa: E402
 from reference.opening import Sample, opening  # noqa: E402
 from reference.plain import number_word  # noqa: E402
+from reference.request_words import file_word, split_words  # noqa: E402
 
 MeasureOrder = namedtuple("MeasureOrder", "run workers pieces until from_ save")
-# What a call leaves: its status, the output, the error output, and the bytes that were saved, if any.
-Ended = namedtuple("Ended", "status text line saved")
-NOT_TOLD = 13
 
 
 # ---------------------------------------------------------------- words
-
-
-def file_word(word):
-    return word if 1 <= len(word) <= 255 else None
-
 
 OPTIONS = {b"--workers": lambda word: number_word(1, 64, word), b"--pieces": lambda word: number_word(1, 16, word),
            b"--until": lambda word: number_word(0, input_judge.GREATEST_EPOCH, word), b"--from": file_word, b"--save": file_word}
 
 
-def said_by(words):
-    """What words behind the command's name say, by the name of an option or b"" for the run file; None where they are wrong."""
-    said, rest = {}, list(words)
-    while rest:
-        name, value, rest = b"", rest[0], rest[1:]
-        if value.startswith(b"--"):
-            name, equals, value = value.partition(b"=")
-            if not equals:
-                if not rest:
-                    return None
-                value, rest = rest[0], rest[1:]
-        read = OPTIONS.get(name) if name else file_word
-        if name in said or read is None or read(value) is None:
-            return None
-        said[name] = read(value)
-    return said
-
-
 def measure_order(words):
     """The order of `measure`, None where the words are none."""
-    if words[:1] != [b"measure"]:
+    read = split_words(OPTIONS, words[1:]) if words[:1] == [b"measure"] else None
+    if read is None or len(read.others) != 1 or file_word(read.others[0]) is None:
         return None
-    said = said_by(words[1:])
-    if said is None or b"" not in said:
-        return None
-    return MeasureOrder(said[b""], said.get(b"--workers", 1), said.get(b"--pieces", 1), said.get(b"--until"),
+    said = read.said
+    return MeasureOrder(read.others[0], said.get(b"--workers", 1), said.get(b"--pieces", 1), said.get(b"--until"),
                         said.get(b"--from"), said.get(b"--save"))
-
-
-def is_utf_8(word):
-    try:
-        return bool(word.decode()) or not word
-    except UnicodeDecodeError:
-        return False
 
 
 # ---------------------------------------------------------------- steps
@@ -121,31 +89,14 @@ def measured(order):
 
 def ended(words):
     """How a call with these words ends; the files are those of the folder where it runs."""
-    order = measure_order(words) if all(map(is_utf_8, words)) else None
-    if order is None:
-        return Ended(2, "", "glass: the command line is not understood\n", None)
-    try:
-        text, saved = measured(order)
-    except Refused as refusal:
-        return Ended(refusal.status, "", f"glass: {refusal.line}\n", None)
-    except Open:
-        return Ended(NOT_TOLD, "", "measure: the answer isn't told here\n", None)
-    if saved is not None:
-        try:
-            Path(order.save.decode()).write_bytes(saved)
-        except OSError:
-            return Ended(10, text, "glass: placing the checkpoint failed\n", None)
-    return Ended(0, text, "", saved)
+    return ending_of(measure_order, measured, words)
 
 
 def main(words):
     if words == ["--help"]:
         print(__doc__)
         return 0
-    done = ended([b"measure", *map(os.fsencode, words)])
-    sys.stdout.write(done.text)
-    sys.stderr.write(done.line)
-    return done.status
+    return tell(ended([b"measure", *map(os.fsencode, words)]))
 
 
 if __name__ == "__main__":

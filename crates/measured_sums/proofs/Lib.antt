@@ -2,10 +2,12 @@ pub mod SignedTerms
 pub mod Planes
 pub mod BinsAndClasses
 pub mod Parts
+pub mod Growth
 pub mod BinSums
 pub mod PlaneSizes
 pub mod BoundedSums
 pub mod Inequalities
 pub mod GreatestSums
 pub mod KnownValues
+pub mod KnownSums
 pub mod KnownTexts

@@ -14,6 +14,7 @@ use Rattle.measured_sums.specs.PlaneFamilies.{Family, plane_of, plane_sum}
 use Rattle.measured_sums.specs.PlaneCorrelations.{plane_correlation}
 use Rattle.measured_sums.specs.EpochBins.{bin_of, epoch_digits, most_bins, overlap_classes}
 use Rattle.measured_sums.specs.MeasuredSums.{Observed, Quantity, Number, EnergySquares, EnergyProducts, Links, LinkSquares, Overlaps, Magnitudes, OverlapSquares, InClass, Axes, Faces, square, term_of, observed, bin_sum, epochs_in_bin, sum_from}
+use Rattle.measured_sums.specs.RunningSums.{behind_epoch, no_sums, sums_below}
 
 -- ---- fields
 
@@ -90,6 +91,17 @@ PartsAddUp = (plan : Plan) (s : Sample) (every m e t k : ℕ) (quantity : Quanti
 -- so are the numbers of epochs, which say which bins have lines
 abbrev pub EpochsAddUp : Type 0
 EpochsAddUp = (every k c m e : ℕ) → c ≤ m → m ≤ e → epochs_in_bin every k c m + epochs_in_bin every k m e ≡ epochs_in_bin every k c e
+
+-- ---- a slot's sums while a run goes on
+
+-- where the run begins there are none
+abbrev pub SumsBegin : Type 0
+SumsBegin = (plan : Plan) (s : Sample) (every t k : ℕ) (quantity : Quantity) → sums_below plan s every t s.epoch k quantity ≡ no_sums k quantity
+
+-- and each epoch of the serial dynamics adds what is observed in it
+abbrev pub SumsGrow : Type 0
+SumsGrow = (plan : Plan) (s : Sample) (every t e k : ℕ) (quantity : Quantity) → s.epoch ≤ e → sums_below plan s every t (e + 1) k quantity
+    ≡ behind_epoch every plan.size e (observed plan (serial plan s e) t) (sums_below plan s every t e) k quantity
 
 -- ---- numbers of one run
 

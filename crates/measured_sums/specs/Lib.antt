@@ -4,6 +4,7 @@ pub mod PlaneFamilies
 pub mod PlaneCorrelations
 pub mod EpochBins
 pub mod MeasuredSums
+pub mod RunningSums
 pub mod SumsText
 -- laws over these
 pub mod Laws

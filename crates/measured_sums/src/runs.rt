@@ -1,6 +1,6 @@
 //! Sums over runs: each law is the contract of a function with an empty body.
 
-ghost use Rattle.measured_sums.specs.Laws.{BinsAreDigits, BinsCoverTheRun, DistancesOfBins, EpochsAddUp, HistogramsAddUp, NumberIsEpochs, PartsAddUp, RowsHaveTheSame, SumsAreBounded};
+ghost use Rattle.measured_sums.specs.Laws.{BinsAreDigits, BinsCoverTheRun, DistancesOfBins, EpochsAddUp, HistogramsAddUp, NumberIsEpochs, PartsAddUp, RowsHaveTheSame, SumsAreBounded, SumsBegin, SumsGrow};
 
 /// The bin of an epoch is the number of its binary digits.
 pub fn bins_are_digits()
@@ -20,6 +20,17 @@ pub fn parts_add_up()
 /// So are the numbers of measured epochs.
 pub fn epochs_add_up()
     ensures { EpochsAddUp }
+{}
+
+/// Where a run begins, a slot's sums are 0.
+pub fn sums_begin()
+    ensures { SumsBegin }
+{}
+
+/// Each epoch of the serial dynamics adds to a slot's sums what is observed in it, where it is measured,
+/// in its own bin alone.
+pub fn sums_grow()
+    ensures { SumsGrow }
 {}
 
 /// What is summed up of a slot and epoch is what the row of a report has.

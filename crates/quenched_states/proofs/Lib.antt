@@ -1,0 +1,7 @@
+pub mod StillParts
+pub mod KeptLines
+pub mod Fields
+pub mod Rings
+pub mod KnownQuenches
+pub mod KnownCopies
+pub mod KnownBytes
