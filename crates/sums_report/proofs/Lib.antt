@@ -1,1 +1,2 @@
 pub mod HeldTexts
+pub mod RunBins

@@ -1,7 +1,10 @@
 -- The sums of a run as they are held, bank by bank of 64 samples and slot by slot, and what holds of them.
-use Rattle.std.specs.Prelude.{◌≡◌, ℕ, ◌+◌, ◌*◌, ◌/◌, ◌%◌, ◌<◌, ◌≤◌, List, [], length, slice_index_or}
+use Rattle.std.specs.Prelude.{◌≡◌, ℕ, ◌+◌, ◌-◌, ◌*◌, ◌/◌, ◌%◌, ◌<◌, ◌≤◌, List, [], length, slice_index_or}
+use Rattle.scalar_rule.specs.Plan.{Plan}
+use Rattle.scalar_rule.specs.declared.sample.Sample.{Sample}
+use Rattle.measured_sums.specs.EpochBins.{bin_of}
 use Rattle.measured_sums.specs.MeasuredSums.{epochs_in_bin}
-use Rattle.measured_sums.specs.RunningSums.{RunningSums}
+use Rattle.measured_sums.specs.RunningSums.{RunningSums, sums_below}
 use Rattle.measured_sums.specs.SumsText.{Heading, sums_text}
 use Rattle.plane_sums.specs.Bins.{SumsView, bin_at, sum_in}
 use Rattle.plane_sums.specs.Slots.{HaveSums}
@@ -52,3 +55,9 @@ HoldSums h banks sums = (g t : ℕ) → g < length banks → t < h.slots → Hav
 abbrev pub TextIsTheSamples : Type 0
 TextIsTheSamples = (h : Heading) (banks : List (List SumsView)) (sums : ℕ → ℕ → RunningSums) → AreHeld h banks → HoldSums h banks sums
     → sums_text h (held_sums banks) ≡ sums_text h sums
+
+-- a slot whose sums are those of a run, and whose bins go from that of the run's first epoch to that of its last, has the bins
+abbrev pub RunsHaveBins : Type 0
+RunsHaveBins = (h : Heading) (plan : ℕ → Plan) (start : ℕ → Sample) (t : ℕ) (slot : SumsView) → (start 0).epoch ≡ h.from
+    → slot.first ≡ bin_of h.from → length slot.bins ≡ bin_of (h.to - 1) + 1 - bin_of h.from
+    → HaveSums h.size (λ b. sums_below (plan b) (start b) h.every t h.to) slot → HasBins h slot

@@ -7,4 +7,4 @@ mod numbers;
 mod writer;
 
 pub use head::SumsHead;
-pub use writer::{text_is_the_samples, write_sums};
+pub use writer::{runs_have_bins, text_is_the_samples, write_sums};

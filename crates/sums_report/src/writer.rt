@@ -6,7 +6,7 @@ ghost use Rattle.measured_sums.specs.MeasuredSums.{epochs_in_bin};
 ghost use Rattle.measured_sums.specs.SumsText.{bin_lines, sample_sums, slot_sums, sums_text};
 ghost use Rattle.plane_sums.specs.Bins.{bin_at, sum_in};
 ghost use Rattle.spin_model.specs.Steps.{table};
-ghost use Rattle.sums_report.specs.HeldSums.{heading_of, held_sums, sums_of_slot, AreHeld, HasBins, TextIsTheSamples};
+ghost use Rattle.sums_report.specs.HeldSums.{heading_of, held_sums, sums_of_slot, AreHeld, HasBins, RunsHaveBins, TextIsTheSamples};
 
 use crate::head::{END_ROOM, SumsHead, add_end, add_heading};
 use crate::lines::{SumsPlace, add_bin_lines};
@@ -40,6 +40,11 @@ pub fn write_sums<O: Sink>(
 /// Where what is held are the sums of the samples, this is their text. A law: the body is empty.
 pub fn text_is_the_samples()
     ensures { TextIsTheSamples }
+{}
+
+/// A slot that holds the sums of a run has its bins. A law: the body is empty.
+pub fn runs_have_bins()
+    ensures { RunsHaveBins }
 {}
 
 // Adds the lines of all samples behind a text that is still to be put.
