@@ -3,6 +3,7 @@ pub mod Planes
 pub mod BinsAndClasses
 pub mod Parts
 pub mod Growth
+pub mod BinRange
 pub mod BinSums
 pub mod PlaneSizes
 pub mod BoundedSums

@@ -73,6 +73,10 @@ abbrev pub BinsAreDigits : Type 0
 BinsAreDigits = (f : ℕ) → f < 2 ^ epoch_digits
     → (bin_of f ≡ 0 → f ≡ 0) × ((k : ℕ) → bin_of f ≡ k + 1 → (2 ^ k ≤ f) × (f < 2 ^ (k + 1)))
 
+-- a bin with a measured epoch lies between that of the run's first epoch and that of its last
+abbrev pub BinsAreBetween : Type 0
+BinsAreBetween = (every k c e : ℕ) → 0 < epochs_in_bin every k c e → (bin_of c ≤ k) × (k ≤ bin_of (e - 1))
+
 -- each overlap is in one class
 abbrev pub ClassesAddUp : Type 0
 ClassesAddUp = (l : ℕ) (seen : Observed) → sum_of (λ c. term_of l seen (InClass c)) overlap_classes ≡ pos 1

@@ -14,6 +14,7 @@ pub use fields::{
     total_is_overlap,
 };
 pub use runs::{
-    bins_are_digits, bins_cover_the_run, distances_of_bins, epochs_add_up, histograms_add_up,
-    number_is_epochs, parts_add_up, rows_have_the_same, sums_are_bounded, sums_begin, sums_grow,
+    bins_are_between, bins_are_digits, bins_cover_the_run, distances_of_bins, epochs_add_up,
+    histograms_add_up, number_is_epochs, parts_add_up, rows_have_the_same, sums_are_bounded,
+    sums_begin, sums_grow,
 };

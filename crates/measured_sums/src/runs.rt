@@ -1,10 +1,15 @@
 //! Sums over runs: each law is the contract of a function with an empty body.
 
-ghost use Rattle.measured_sums.specs.Laws.{BinsAreDigits, BinsCoverTheRun, DistancesOfBins, EpochsAddUp, HistogramsAddUp, NumberIsEpochs, PartsAddUp, RowsHaveTheSame, SumsAreBounded, SumsBegin, SumsGrow};
+ghost use Rattle.measured_sums.specs.Laws.{BinsAreBetween, BinsAreDigits, BinsCoverTheRun, DistancesOfBins, EpochsAddUp, HistogramsAddUp, NumberIsEpochs, PartsAddUp, RowsHaveTheSame, SumsAreBounded, SumsBegin, SumsGrow};
 
 /// The bin of an epoch is the number of its binary digits.
 pub fn bins_are_digits()
     ensures { BinsAreDigits }
+{}
+
+/// A bin with a measured epoch lies between that of the run's first epoch and that of its last.
+pub fn bins_are_between()
+    ensures { BinsAreBetween }
 {}
 
 /// The first number of a bin is how many measured epochs it has, in every sample and slot.
