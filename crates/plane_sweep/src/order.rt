@@ -13,6 +13,7 @@ pub struct Turn {
 }
 
 /// The plane with which a sweep begins.
+#[inline(always)]
 pub fn first_turn() -> Turn
     ensures { result ≡ (record { colour = 0; z = 0 }) }
 {
@@ -22,6 +23,7 @@ pub fn first_turn() -> Turn
 /// The plane behind another in a sweep. Each plane of colour 1 follows as soon as those beside it of
 /// colour 0 are swept, while its couplings are still near the processor. The first and the last plane lie
 /// beside each other, so the last two turns are theirs.
+#[inline(always)]
 pub fn turn_after(turn: &Turn, size: u32) -> Turn
     requires lawful { IsLawfulSize size }
     requires within { turn.now.z < size }

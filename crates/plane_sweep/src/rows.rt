@@ -29,6 +29,7 @@ pub struct Row {
 /// by the draw of its place. There is code for a size, for each kind of table in order, and for planes
 /// whose first row begins at x = 0 or at x = 1: all are then known in its loops. A size of 0 stands for
 /// any. A table out of order, which no temperature has, takes the code for all sizes.
+#[inline(always)]
 pub fn sweep_words<const SIZE: usize>(
     own: &mut [u64],
     other: &[Plane],

@@ -155,6 +155,7 @@ fn sweep_turns<const SIZE: usize>(planes: &mut [Plane], dynamics: &Dynamics, dra
 }
 
 // The plane of a turn, by the planes of the other colour.
+#[inline(always)]
 fn sweep_turn<const SIZE: usize>(planes: &mut [Plane], sites: &HalfPlane, draws: &mut [u32])
     requires size { 0 < SIZE → sites.now.couplings.now.size ≡ SIZE }
     requires lawful { IsLawfulSize sites.now.couplings.now.size }
@@ -243,6 +244,7 @@ fn sweep_alone(plane: &mut Plane, other: &[Plane], dynamics: &Dynamics, turn: &T
 
 // The sites of a colour in a plane, by the planes of the other colour. Each site has a draw, used
 // or not, so that all samples can share it; `draws` is the room for them.
+#[inline(always)]
 fn sweep_plane<const SIZE: usize>(
     plane: &mut Plane,
     other: &[Plane],
