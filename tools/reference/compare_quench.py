@@ -24,6 +24,7 @@ from reference.compare_sums import FULL, by_pairs, write_run  # noqa: E402
 from reference.demo import demo_rows  # noqa: E402
 from reference.grid import Tempering  # noqa: E402
 from reference.kept import kept_encoding  # noqa: E402
+from reference.made_up_quench import made_up_quench  # noqa: E402
 from reference.measured import observed_in  # noqa: E402
 from reference.opening import Plan, opening  # noqa: E402
 from reference.overlaps import age_text, lines_text  # noqa: E402
@@ -240,7 +241,7 @@ def nothing_ages():
         near(f"C{pair}", means["C", *pair], wanted)
 
 
-PARTS = KNOWN + (small_quenches, two_banks, against_runs, against_age_and_lines, against_each_other, other_way_around)
+PARTS = KNOWN + (made_up_quench, small_quenches, two_banks, against_runs, against_age_and_lines, against_each_other, other_way_around)
 
 
 def main():

@@ -15,15 +15,16 @@ use Rattle.scalar_rule.specs.declared.plain_copy.PlainCopy.{PlainCopy}
 use Rattle.scalar_rule.specs.declared.sample.PlainSlot.{PlainSlot}
 use Rattle.scalar_rule.specs.declared.sample.Sample.{Sample}
 use Rattle.model_laws.specs.Energies.{sign}
-use Rattle.measured_sums.specs.OverlapField.{site_overlap, total_overlap, steps_ahead, distance_correlation}
+use Rattle.measured_sums.specs.OverlapField.{site_overlap, total_overlap, steps_ahead, link_overlap, distance_correlation}
 use Rattle.measured_sums.proofs.Planes.{total-overlap}
 use Rattle.measured_sums.proofs.SignedTerms.{terms-same}
-use Rattle.overlap_lines.specs.Overlaps.{steps_on, line_sum}
+use Rattle.overlap_lines.specs.Overlaps.{steps_on, link_sum, line_sum}
 use Rattle.aging_run.specs.Aging.{spins_after, two_time_overlap}
 use Rattle.quenched_states.specs.StillRule.{still, still_slot}
 use Rattle.quenched_states.specs.Copies.{copy_of, two_time_field}
 use Rattle.observable_laws.specs.Observables.{overlap_value}
 use Rattle.observable_laws.proofs.Products.{line-sum}
+use Rattle.observable_laws.proofs.Grid.{links-shortest}
 
 -- ---- lines
 
@@ -46,6 +47,9 @@ distances-lines l first second r = terms-same (λ d. sum_of (λ i. site_overlap 
     (λ d _. terms-same (λ i. site_overlap first second i *ℤ site_overlap first second (steps_ahead l i d r)) (λ i. overlap_value first second i *ℤ overlap_value first second (steps_on l i d r)) (volume l)
     (λ i _. ap₂ (λ x y. x *ℤ y) (field-value first second i) (field-value first second (steps_ahead l i d r) ∙ ap (overlap_value first second) (same-steps l i d r)))
     ∙ sym (line-sum l first second d r))
+
+pub links-sums : (l : ℕ) (first second : List Bool) → link_overlap l (site_overlap first second) ≡ link_sum l first second
+links-sums l first second = distances-lines l first second 1 ∙ sym (links-shortest l first second)
 
 -- ---- two times
 

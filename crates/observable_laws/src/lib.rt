@@ -3,7 +3,7 @@
 #![tactic(auto)]
 
 ghost use Rattle.observable_laws.specs.Observables.{OverlapIsASum, LinkSumIsASum, LineSumIsASum, LinesAreSymmetric, LinksAreShortestLines, TwoTimeOverlapIsASum, PottsEnergyIsASum};
-ghost use Rattle.observable_laws.specs.QuenchedObservables.{DistancesAreLines, TwoTimesAreAging};
+ghost use Rattle.observable_laws.specs.QuenchedObservables.{DistancesAreLines, LinksAreLinkSums, TwoTimesAreAging};
 
 /// The overlap of the records, twice the agreeing sites less all sites, is the sum of q over the sites.
 pub fn overlap_is_a_sum()
@@ -43,6 +43,11 @@ pub fn potts_energy_is_a_sum()
 /// What a quench prints of a distance is the sum of the three lines of that length.
 pub fn distances_are_lines()
     ensures { DistancesAreLines }
+{}
+
+/// The link sum of a field is the sum behind the link overlap.
+pub fn links_are_link_sums()
+    ensures { LinksAreLinkSums }
 {}
 
 /// What a quench prints of a copy at two times is the two-time overlap at the sweeps of these times.

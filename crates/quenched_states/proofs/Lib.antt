@@ -7,3 +7,4 @@ pub mod Accepted
 pub mod KnownQuenches
 pub mod KnownCopies
 pub mod KnownBytes
+pub mod KnownStates
