@@ -34,6 +34,7 @@ PATHS = {
     "measured_sums/specs/OverlapField": "planes", "measured_sums/specs/PlaneFamilies": "planes",
     "measured_sums/specs/PlaneCorrelations": "planes", "measured_sums/specs/EpochBins": "measured",
     "measured_sums/specs/MeasuredSums": "measured", "measured_sums/specs/SumsText": "measured",
+    "measured_sums/specs/RunningSums": "measured",
     "quenched_states/specs/StillRule": "quenched", "quenched_states/specs/KeptStates": "quenched",
     "quenched_states/specs/Copies": "copies", "quenched_states/specs/QuenchText": "quenched",
     "quenched_states/specs/CrossText": "crossed", "quenched_states/specs/KeptBytes": "kept",
@@ -44,7 +45,7 @@ PATHS = {
 # Definitions that the independent program writes otherwise, or that no run asks for.
 OTHERWISE = {
     "next": "`next_`: Python has a function of that name",
-    "Bonds": "a function, which Python gives no type", "Field": "the same", "Rule": "the word of the rule",
+    "Bonds": "a function, which Python gives no type", "Field": "the same", "RunningSums": "the same", "Rule": "the word of the rule",
     "metropolis": "in `new_spin`, by `is_flipped`", "ahead": "in `neighbours`", "behind": "in `neighbours`",
     "Neighbour": "a pair of a site and a bond", "heat_bath_on": "in `plain_configuration`",
     "hex_digit": "in `four_spins`", "rank": "the lock's progress word, of which no text and no bytes are made",

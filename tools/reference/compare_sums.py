@@ -21,7 +21,9 @@ from reference.grid import Tempering  # noqa: E402
 from reference.lattice import volume, x_of, y_of, z_of  # noqa: E402
 from reference.measure import MeasureOrder, ended, measure_order  # noqa: E402
 from reference.bonds import couplings_view  # noqa: E402
-from reference.measured import Heading, bin_of, class_of, run_sums, sums_text  # noqa: E402
+from reference.epoch import epoch, serial  # noqa: E402
+from reference.measured import (Followed, Heading, Quantity, axis_distances, behind_epoch, bin_of, class_of, face_distances,  # noqa: E402
+                                moments, no_sums, observed, run_sums, sums_below, sums_text)
 from reference.opening import Plan, opening  # noqa: E402
 from reference.planes import Family, axes, axis_correlation, face_correlation, face_diagonals, link_overlap, plane_of, total_overlap  # noqa: E402
 
@@ -205,6 +207,25 @@ def each_sum_from_the_start():
     same("each sum from the start", text, ferromagnet((0, 1), 0, 2))
 
 
+def epoch_by_epoch():
+    """A slot's sums, which each epoch adds to: those of the runs to each epoch, from an early start and from a later one."""
+    rows, swaps = (tuple(map(tuple, it)) for it in demo_rows(2))
+    plan = Plan(4, "metropolis", rows, swaps, couplings_view(4, {}), 1, 7)
+    quantities = (*moments, Quantity("InClass", 0), Quantity("InClass", 31), *axis_distances(4), *face_distances(4))
+    for begin, every, t in ((0, 1, 0), (0, 3, 1), (3, 2, 1)):
+        s = start = serial(plan, opening(plan, "random", 0, 0), begin)
+        sums = no_sums
+        for f in range(begin, begin + 6):
+            sums = behind_epoch(every, 4, f, observed(plan, s, t), sums)
+            s = epoch(plan, s)
+            run = Followed(plan, start, every, f + 1)
+            same(f"sums behind epoch {f} of slot {t}, each {every} measured",
+                 [sums(k, it) for k in range(5) for it in quantities], [run.sum(t, k, it) for k in range(5) for it in quantities])
+        last = sums_below(plan, start, every, t, begin + 6)
+        same(f"sums of the whole run, each {every} measured", [sums(k, it) for k in range(5) for it in moments[:4]],
+             [last(k, it) for k in range(5) for it in moments[:4]])
+
+
 # ---------------------------------------------------------------- laws
 
 
@@ -332,7 +353,7 @@ def main():
         return
     with tempfile.TemporaryDirectory() as folder:
         os.chdir(folder)
-        for part in (known_fields, random_fields, words, known_texts, each_sum_from_the_start, small_runs, last_state):
+        for part in (known_fields, random_fields, words, known_texts, each_sum_from_the_start, epoch_by_epoch, small_runs, last_state):
             begun, before = time.time(), len(DONE)
             part()
             print(f"{part.__name__}: {len(DONE) - before} comparisons agree, {time.time() - begun:.1f} s", flush=True)

@@ -1,4 +1,5 @@
-"""What `measure` sums up, and its text: measured_sums/specs/EpochBins.antt, MeasuredSums.antt and SumsText.antt.
+"""What `measure` sums up, and its text: measured_sums/specs/EpochBins.antt, MeasuredSums.antt,
+RunningSums.antt and SumsText.antt.
 
 Numbers are whole and as great as they get; a sample's epochs are followed one after the other, a site at a time."""
 from collections import namedtuple
@@ -92,6 +93,29 @@ def epochs_in_bin(every, k, c, e):
 def sum_from(plan, start, every, e, t, k, quantity):
     """A sample's sum in a slot and a bin from the state that it starts with, by the serial dynamics to epoch e."""
     return bin_sum(lambda f: term_of(plan.size, observed(plan, serial(plan, start, f), t), quantity), every, k, start.epoch, e)
+
+
+# ---------------------------------------------------------------- a slot's sums while a run goes on, by bin and quantity
+
+
+def no_sums(k, quantity):
+    """Over no epoch."""
+    return 0
+
+
+def with_epoch(l, f, seen, sums):
+    """With an epoch in which this was observed."""
+    return lambda k, quantity: sums(k, quantity) + (term_of(l, seen, quantity) if bin_of(f) == k else 0)
+
+
+def behind_epoch(every, l, f, seen, sums):
+    """Where the epoch isn't measured, nothing is added."""
+    return with_epoch(l, f, seen, sums) if is_recorded(every, f) else sums
+
+
+def sums_below(plan, start, every, t, e):
+    """Of a run to epoch e from a sample's state."""
+    return lambda k, quantity: sum_from(plan, start, every, e, t, k, quantity)
 
 
 # ---------------------------------------------------------------- the text
