@@ -1,5 +1,5 @@
 -- The report of banks that were driven, from what each ended with.
-use Rattle.std.proofs.Common.{arith, ◌≡◌, ℕ, suc, ◌+◌, ◌-◌, ◌*◌, ◌<◌, ◌≤◌, min, nat_lt, cond, List, [], ◌∷◌, ◌++◌, length, map, drop, get_or, refl, sym, ap, ap₂, ◌∙◌, subst, append_assoc}
+use Rattle.std.proofs.Common.{arith, ◌≡◌, ℕ, suc, ◌+◌, ◌-◌, ◌*◌, ◌<◌, ◌≤◌, min, cond, List, [], ◌∷◌, ◌++◌, length, drop, get_or, refl, sym, ap, ap₂, ◌∙◌, subst, append_assoc}
 use Rattle.std.specs.Prelude.{All, ◌&&◌, ◌==◌}
 use Rattle.std.proofs.lemmas.List.{length-map, take-append-drop}
 use Rattle.std.proofs.lemmas.List.Elements.{All-cons, All-nil, All-head, All-tail, All-get_or}
@@ -20,14 +20,12 @@ use Rattle.exchange_board.specs.declared.origin.Origin.{Origin}
 use Rattle.exchange_board.specs.Answers.{stages_of}
 use Rattle.exchange_board.specs.Content.{plan_of, slots_in, rows_before}
 use Rattle.exchange_board.specs.Machine.{AllEnded}
-use Rattle.glass_engine.specs.Banks.{of_sample}
-use Rattle.glass_engine.specs.BankRuns.{bank_of, for_samples, runs_of, samples_in, own_measured, run_measured, run_slots, floor_before, floor_after, report_by, run_report, Course, IsAbreast, HaveSamples, AreAbreast}
-use Rattle.glass_engine.specs.KeptBanks.{saved_as, done_as, Shared, IsBankRun, AreBankRuns}
+use Rattle.glass_engine.specs.BankRuns.{bank_of, for_samples, runs_of, samples_in, run_measured, run_slots, floor_before, floor_after, report_by, run_report, Course, IsAbreast, HaveSamples, AreAbreast}
+use Rattle.glass_engine.specs.KeptRun.{Shared, IsBankRun, AreBankRuns, AreRuns}
 use Rattle.glass_engine.specs.Laws.{IsSerial}
 use Rattle.glass_engine.specs.RecordPieces.{HasRowsFrom, AreRowsFrom, HasSpins}
 use Rattle.glass_engine.specs.Report.{rows_in_order, all_spins, uneven_measured}
 use Rattle.glass_engine.specs.Runs.{RunView, DoneView, starts, IsEnd}
-use Rattle.glass_engine.specs.declared.run.SaveKind.{SaveKind}
 use Rattle.glass_engine.proofs.Reporting.{stop-floor, floor-ended}
 use Rattle.glass_engine.proofs.WholeRuns.{whole-slots, whole-floor, level-serial}
 
@@ -227,32 +225,9 @@ banks-abreast orders ds runs ended =
       samples = subst (λ n. HaveSamples n (runs_of ds)) (sym (samples-are orders.samples (runs_of ds) runs.samples)) runs.samples;
     }
 
--- ---- which checkpoint is to be saved is not told
+-- ---- of one bank or of several
 
-pub banks-saved : (kind : SaveKind) (runs : List RunView) → map bank_of (map (saved_as kind) runs) ≡ map bank_of runs
-banks-saved kind [] = refl
-banks-saved kind (run ∷ runs) = ap (λ banks. bank_of run ∷ banks) (banks-saved kind runs)
-
-of-saved : {A : Type 0} (none : A) (give : DoneView → ℕ → A) (kind : SaveKind) (ds : List DoneView) (b : ℕ)
-    → of_sample none give (map (done_as kind) ds) b ≡ of_sample none (λ d m. give (done_as kind d) m) ds b
-unfolding of_sample
-of-saved none give kind [] b = refl
-of-saved none give kind (d ∷ ds) b = ap (cond (nat_lt b 64) (give (done_as kind d) b)) (of-saved none give kind ds (b - 64))
-
-samples-saved : (kind : SaveKind) (ds : List DoneView) → samples_in (runs_of (map (done_as kind) ds)) ≡ samples_in (runs_of ds)
-unfolding samples_in
-samples-saved kind [] = refl
-samples-saved kind (d ∷ ds) = ap (λ n. d.run.orders.samples + n) (samples-saved kind ds)
-
-pub report-saved : (kind : SaveKind) (ds : List DoneView) → run_report (map (done_as kind) ds) ≡ run_report ds
-unfolding run_report
-report-saved kind [] = refl
-report-saved kind (d ∷ ds) =
-    let own : List DoneView = map (done_as kind) (d ∷ ds) in
-    let text : ℕ → (ℕ → ℕ → List Record) → (ℕ → List PlainSlot) → List ℕ = λ n m s.
-    header_line d.run.plan n (floor_before d) (floor_after d) ++ rows_in_order m n d.run.orders.every (floor_before d) (floor_after d) ++ end_line (floor_after d)
-    ++ cond (d.run.orders.spins && (floor_after d == d.run.until)) (all_spins d.run.plan n s) [] in
-    let measured : run_measured own ≡ run_measured (d ∷ ds) = λ i. λ b f. of-saved [] (λ (x : DoneView) m. own_measured x.run m f) kind (d ∷ ds) b i in
-    let slots : run_slots (floor_after d) own ≡ run_slots (floor_after d) (d ∷ ds) =
-    λ i. λ b. of-saved [] (λ (x : DoneView) m. (all_ready x.run.plan (starts x.run m) (floor_after d)).slots) kind (d ∷ ds) b i in
-    ap (λ n. text n (run_measured own) (run_slots (floor_after d) own)) (samples-saved kind (d ∷ ds)) ∙ ap₂ (text (samples_in (runs_of (d ∷ ds)))) measured slots
+pub runs-abreast : (ds : List DoneView) → AreRuns (runs_of ds) → All (λ (d : DoneView). IsEnd d.run d.ended) ds → AreAbreast ds
+runs-abreast [] runs ended = absurd runs
+runs-abreast (d ∷ []) runs ended = one-abreast d (All-head (λ (x : DoneView). IsEnd x.run x.ended) d [] ended)
+runs-abreast (d ∷ next ∷ ds) runs ended = banks-abreast runs.0 (d ∷ next ∷ ds) runs.1 ended

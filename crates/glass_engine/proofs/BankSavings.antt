@@ -1,6 +1,6 @@
 -- The checkpoint of banks that were driven: bank by bank, and it is that of their runs.
 use Rattle.std.proofs.Common.{arith, ◌≡◌, ℕ, ◌+◌, ◌*◌, ◌^◌, ◌<◌, ◌≤◌, List, [], ◌∷◌, ◌++◌, length, map, drop, get_or, refl, sym, ap, ap₂, ◌∙◌, subst, append_assoc, append-nil, length-append}
-use Rattle.std.specs.Prelude.{All, ◌≢◌}
+use Rattle.std.specs.Prelude.{All}
 use Rattle.std.proofs.Math.Nat.{mul-le-mul_right}
 use native.Mathlib.Nat.{mul_comm}
 use Rattle.std.proofs.lemmas.List.Elements.{All-head, All-tail, All-get_or}
@@ -22,13 +22,11 @@ use Rattle.plane_sweep.specs.declared.uneven.RaggedStand.{RaggedStand}
 use Rattle.exchange_board.specs.Content.{plan_of}
 use Rattle.glass_engine.specs.BankPieces.{ends_in, EndsLevel}
 use Rattle.glass_engine.specs.BankRuns.{bank_of, plans_of, runs_of, runs_checkpoint}
-use Rattle.glass_engine.specs.Banks.{Bank, banks_checkpoint}
-use Rattle.glass_engine.specs.KeptBanks.{saved_as, done_as, Shared, AreBankRuns}
-use Rattle.glass_engine.specs.Runs.{RunView, DoneView, IsEnd}
-use Rattle.glass_engine.specs.declared.run.SaveKind.{SaveKind}
-use Rattle.glass_engine.specs.declared.run.SaveKind.TheVariants as saves
-use Rattle.glass_engine.proofs.BankDrives.{same-count, bank-plan, runs-done}
-use Rattle.glass_engine.proofs.BankReports.{IsBankEnd, bank-ends, banks-saved, serial-end}
+use Rattle.glass_engine.specs.Banks.{Bank}
+use Rattle.glass_engine.specs.KeptRun.{Shared, AreBankRuns}
+use Rattle.glass_engine.specs.Runs.{DoneView, IsEnd}
+use Rattle.glass_engine.proofs.BankDrives.{same-count, bank-plan}
+use Rattle.glass_engine.proofs.BankReports.{IsBankEnd, bank-ends, serial-end}
 use Rattle.glass_engine.proofs.SavedRuns.{ended-level, ended-flattened}
 use Rattle.glass_engine.proofs.Savings.{flattened-fits}
 
@@ -161,15 +159,3 @@ checkpoint-is orders (d ∷ ds) runs ended =
     ap (text (plans_of (runs_of all))) (sym (bytes-serial shared orders all ends))
     ∙ ap (λ ps. text ps (banks_bytes ps (states shared.until))) (sym (banks-plans all))
     ∙ ap (λ e. text (map (λ (x : Bank). x.plan) (map bank_of (runs_of all))) (banks_bytes (map (λ (x : Bank). x.plan) (map bank_of (runs_of all))) (states e))) (sym first.until)
-
-checkpoint-saved : (kind : SaveKind) (runs : List RunView) → runs_checkpoint (map (saved_as kind) runs) ≡ runs_checkpoint runs
-unfolding runs_checkpoint
-checkpoint-saved kind [] = refl
-checkpoint-saved kind (run ∷ runs) = ap (λ banks. banks_checkpoint banks run.until) (banks-saved kind (run ∷ runs))
-
-pub checkpoint-done : (kind : SaveKind) (ds view : List DoneView) → map (done_as kind) ds ≡ view → runs_checkpoint (runs_of ds) ≡ runs_checkpoint (runs_of view)
-checkpoint-done kind ds view is = sym (checkpoint-saved kind (runs_of ds)) ∙ sym (ap runs_checkpoint (runs-done kind ds)) ∙ ap (λ xs. runs_checkpoint (runs_of xs)) is
-
-pub never-saved : (kind : SaveKind) (ds : List DoneView) → 0 < length ds → kind ≡ saves.Never → All (λ (d : DoneView). d.run.saves ≢ saves.Never) (map (done_as kind) ds) → ⊥
-never-saved kind [] some is all = omega arith
-never-saved kind (d ∷ ds) some is all = All-head (λ (x : DoneView). x.run.saves ≢ saves.Never) (done_as kind d) (map (done_as kind) ds) all is

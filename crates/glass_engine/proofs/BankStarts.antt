@@ -1,6 +1,7 @@
 -- The runs of banks as they are opened.
-use Rattle.std.proofs.Common.{arith, ◌≡◌, ℕ, zero, suc, ◌-◌, ◌*◌, ◌<◌, ◌≤◌, false, min, List, [], ◌∷◌, ◌++◌, length, map, drop, refl, sym, ap, ◌∙◌, subst}
-use Rattle.std.specs.Prelude.{All}
+use Rattle.std.proofs.Common.{arith, ◌≡◌, ℕ, zero, suc, ◌-◌, ◌*◌, ◌<◌, ◌≤◌, false, min, List, [], ◌∷◌, ◌++◌, length, drop, refl, sym, ap, ◌∙◌, subst}
+use Rattle.std.specs.Prelude.{All, ◌≢◌}
+use Rattle.spin_model.specs.Limits.{every_take}
 use Rattle.std.proofs.lemmas.List.{get_or-replicate}
 use Rattle.std.proofs.lemmas.List.Elements.{All-nil, All-cons}
 use Rattle.run_checkpoint.specs.BankEncoding.{HaveShape, BanksFit}
@@ -12,8 +13,12 @@ use Rattle.plane_sweep.specs.Uneven.{level_stand}
 use Rattle.plane_sweep.specs.declared.stand.Stand.{Stand}
 use Rattle.plane_sweep.specs.declared.uneven.Place.{Place}
 use Rattle.glass_engine.specs.BankRuns.{bank_run, bank_runs, for_samples, plans_of, HaveSamples, AreBankOrders, AreBankStarts}
-use Rattle.glass_engine.specs.KeptBanks.{saved_as, Shared, IsBankRun, AreBankRuns}
+use Rattle.glass_engine.specs.KeptRun.{Shared, IsBankRun, AreBankRuns, AreRuns}
+use Rattle.glass_engine.specs.KeptSaving.{kind_of, banks_need, HasRoom, KeepsSaving}
+use Rattle.glass_engine.specs.Runs.{RunView}
+use Rattle.glass_engine.specs.declared.saving.Saving.{Saving}
 use Rattle.glass_engine.specs.declared.run.SaveKind.{SaveKind}
+use Rattle.glass_engine.specs.declared.run.SaveKind.TheVariants as saves
 
 -- ---- banks that are left
 
@@ -79,14 +84,6 @@ runs-plans epoch [] (x ∷ xs) orders until kind fit = absurd fit
 runs-plans epoch (plan ∷ plans) [] orders until kind fit = absurd fit
 runs-plans epoch (plan ∷ plans) (x ∷ xs) orders until kind fit = ap (λ ps. plan ∷ ps) (runs-plans epoch plans xs (for_samples (orders.samples - 64) orders) until kind fit.2)
 
-pub runs-saved : (plans : List Plan) (stands : List Stand) (orders : Orders) (until : ℕ) (was kind : SaveKind)
-    → map (saved_as kind) (bank_runs plans stands orders until was) ≡ bank_runs plans stands orders until kind
-unfolding bank_runs
-runs-saved [] stands orders until was kind = refl
-runs-saved (plan ∷ plans) [] orders until was kind = refl
-runs-saved (plan ∷ plans) (x ∷ xs) orders until was kind =
-    ap (λ rs. bank_run plan x (for_samples (min orders.samples 64) orders) until kind ∷ rs) (runs-saved plans xs (for_samples (orders.samples - 64) orders) until was kind)
-
 -- a state at one epoch as such
 pub level-flattened : (stand : Stand) → 0 < length stand.slots → flattened (level_stand stand) ≡ stand
 level-flattened stand some =
@@ -142,3 +139,30 @@ runs-keep plans stands orders until kind starts lawful some short =
       each = runs-each shared orders plans stands orders.samples kind some starts.shape starts.fit;
       samples = runs-samples starts.epoch orders plans stands orders.samples until kind starts.fit lawful.few_samples;
     }
+
+pub runs-saves : (plans : List Plan) (stands : List Stand) (orders : Orders) (until : ℕ) (kind : SaveKind) → All (λ (run : RunView). run.saves ≡ kind) (bank_runs plans stands orders until kind)
+unfolding bank_runs
+runs-saves [] stands orders until kind = All-nil (λ (run : RunView). run.saves ≡ kind)
+runs-saves (plan ∷ plans) [] orders until kind = All-nil (λ (run : RunView). run.saves ≡ kind)
+runs-saves (plan ∷ plans) (x ∷ xs) orders until kind =
+    All-cons (λ (run : RunView). run.saves ≡ kind) (bank_run plan x (for_samples (min orders.samples 64) orders) until kind) (bank_runs plans xs (for_samples (orders.samples - 64) orders) until kind)
+    refl (runs-saves plans xs (for_samples (orders.samples - 64) orders) until kind)
+
+-- ---- several runs as runs
+
+pub several-are : (orders : Orders) (runs : List RunView) → AreBankRuns orders runs → AreRuns runs
+several-are orders [] are = absurd (let z = are.orders_are.some_banks in omega arith)
+several-are orders (run ∷ []) are = tt
+several-are orders (run ∷ next ∷ runs) are = (orders, are)
+
+-- what they keep of their buffer
+pub several-keep : (save : SaveKind) (runs : List RunView) (kept : Saving) → 2 ≤ length runs → All (λ (run : RunView). run.takes ≡ every_take) runs → All (λ (run : RunView). run.saves ≡ save) runs
+    → save ≢ saves.Ragged → kind_of kept ≡ save → HasRoom (banks_need (plans_of runs)) kept → KeepsSaving runs kept
+several-keep save [] kept several takes same never kind room = absurd (omega arith)
+several-keep save (run ∷ []) kept several takes same never kind room = absurd (omega arith)
+several-keep save (run ∷ next ∷ runs) kept several takes same never kind room = record {
+  kind = subst (λ k. All (λ (r : RunView). r.saves ≡ k) (run ∷ next ∷ runs)) (sym kind) same;
+  room = room;
+  whole = λ level. takes;
+  alone = λ uneven. absurd (never (sym kind ∙ uneven));
+}

@@ -7,11 +7,10 @@ use Rattle.exchange_board.specs.Machine.{taken, AllEnded}
 use Rattle.exchange_board.specs.Stops.{IsStop}
 use Rattle.exchange_board.specs.Views.{Stage, BoardView, RaggedEndedView}
 use Rattle.glass_engine.proofs.Counts.{made}
-use Rattle.glass_engine.specs.KeptRun.{run_view, KeepsRun, done_view, KeepsDone}
+use Rattle.glass_engine.specs.KeptBank.{bank_view, KeepsBank, bank_done_view, KeepsBankDone}
 use Rattle.glass_engine.specs.Runs.{RunView, IsOriginOf, IsEnd}
-use Rattle.glass_engine.specs.KeptSaving.{kind_of, KeepsSaving}
-use Rattle.glass_engine.specs.declared.run.Run.TheInside as run
-use Rattle.glass_engine.specs.declared.done.Done.TheInside as done
+use Rattle.glass_engine.specs.declared.run.BankRun.TheInside as run
+use Rattle.glass_engine.specs.declared.done.BankDone.TheInside as done
 
 -- a board that stopped with no more to do
 pub record HasEnded (b : BoardView) (d : RaggedEndedView) : Type 0 where
@@ -41,38 +40,28 @@ end-of run b d origin lawful h =
       made = made d.origin d run.until run.takes lawful stop origin.until_is origin.takes_is finished;
     }
 
-pub run-ends : (r : run.Inside) (b : BoardView) (d : RaggedEndedView) → KeepsRun r → b.origin ≡ r.opened.value.origin → HasEnded b d → IsEnd (run_view r) d
+pub run-ends : (r : run.Inside) (b : BoardView) (d : RaggedEndedView) → KeepsBank r → b.origin ≡ r.opened.value.origin → HasEnded b d → IsEnd (bank_view r) d
 run-ends r b d keeps same h =
-    let P : Origin → Type 0 = λ o. IsOriginOf (run_view r) o in
+    let P : Origin → Type 0 = λ o. IsOriginOf (bank_view r) o in
     let L : Origin → Type 0 = λ o. IsLawfulOrigin o in
-    end-of (run_view r) b d (subst P (sym (h.stop.same ∙ same)) keeps.origin) (subst L (sym (h.stop.same ∙ same)) keeps.lawful) h
+    end-of (bank_view r) b d (subst P (sym (h.stop.same ∙ same)) keeps.origin) (subst L (sym (h.stop.same ∙ same)) keeps.lawful) h
 
-pub done-keeps : (r : run.Inside) (b : BoardView) (d : RaggedEndedView) → KeepsRun r → b.origin ≡ r.opened.value.origin → HasEnded b d
-    → KeepsDone (record { ended = d; orders = r.orders; saving = r.saving })
+pub done-keeps : (r : run.Inside) (b : BoardView) (d : RaggedEndedView) → KeepsBank r → b.origin ≡ r.opened.value.origin → HasEnded b d
+    → KeepsBankDone (record { ended = d; orders = r.orders; saves = r.saves })
 done-keeps r b d keeps same h =
     let there : d.origin ≡ r.opened.value.origin = h.stop.same ∙ same in
-    let x : done.Inside = record { ended = d; orders = r.orders; saving = r.saving } in
+    let x : done.Inside = record { ended = d; orders = r.orders; saves = r.saves } in
     let every = ap (λ (o : Origin). o.window.every) there ∙ keeps.origin.every_is in
     let samples = ap (λ (o : Origin). o.window.samples) there ∙ keeps.origin.samples_is in
     let L : Origin → Type 0 = λ o. IsLawfulOrigin o in
-    let view : Origin → RunView = λ o. record {
-      plan = plan_of o;
-      base = o.base;
-      orders = r.orders;
-      until = o.window.until;
-      takes = o.window.takes;
-      saves = kind_of r.saving;
-    } in
-    let S : Origin → Type 0 = λ o. KeepsSaving (view o) r.saving in
     record {
       orders = keeps.orders;
-      ended = end-of (done_view x).run b d (record { plan_is = refl; base_is = refl; until_is = refl; every_is = every; samples_is = samples; takes_is = refl }) (subst L (sym there) keeps.lawful) h;
-      saving = subst S (sym there) keeps.saving;
+      ended = end-of (bank_done_view x).run b d (record { plan_is = refl; base_is = refl; until_is = refl; every_is = every; samples_is = samples; takes_is = refl }) (subst L (sym there) keeps.lawful) h;
     }
 
 -- what contracts see of a run stays
 pub run-stays : (r : run.Inside) (d : RaggedEndedView) → d.origin ≡ r.opened.value.origin
-    → (let x : done.Inside = record { ended = d; orders = r.orders; saving = r.saving } in (done_view x).run ≡ run_view r)
+    → (let x : done.Inside = record { ended = d; orders = r.orders; saves = r.saves } in (bank_done_view x).run ≡ bank_view r)
 run-stays r d same =
-    let view : Origin → RunView = λ o. record { plan = plan_of o; base = o.base; orders = r.orders; until = o.window.until; takes = o.window.takes; saves = kind_of r.saving } in
+    let view : Origin → RunView = λ o. record { plan = plan_of o; base = o.base; orders = r.orders; until = o.window.until; takes = o.window.takes; saves = r.saves } in
     ap view same

@@ -20,9 +20,9 @@ use Rattle.shared_board.proofs.Words.{word-at, words-long, taken-words}
 use Rattle.shared_board.proofs.Stores.{SeatView}
 use Rattle.shared_board.specs.Shared.{lock_id}
 use Rattle.turn_cell.proofs.Seating.{idle-base, written}
-use Rattle.glass_engine.specs.KeptRun.{KeepsRun}
+use Rattle.glass_engine.specs.KeptBank.{KeepsBank}
 use Rattle.glass_engine.specs.Working.{Seat, AreAtRest, HaveLeft}
-use Rattle.glass_engine.specs.declared.run.Run.TheInside as run
+use Rattle.glass_engine.specs.declared.run.BankRun.TheInside as run
 use Rattle.glass_engine.proofs.Driven.{HasEnded}
 use Rattle.glass_engine.proofs.WholeRuns.{later, later-lawful}
 use Rattle.std.proofs.lemmas.Option.{same_Some}
@@ -152,7 +152,7 @@ closed-over id plan o n (p ∷ ps) (q ∷ qs) b d some all left same most lawful
 abbrev pub back : List Seat → List Seat → ℕ → List Seat
 back ps qs len = take len (qs ++ drop (length qs) ps)
 
-module _ (r : run.Inside) (plan : Plan) (qs : List Seat) (keeps : KeepsRun r) (whole : r.seats.len ≡ length r.seats.items)
+module _ (r : run.Inside) (plan : Plan) (qs : List Seat) (keeps : KeepsBank r) (whole : r.seats.len ≡ length r.seats.items)
     (left : HaveLeft (lock_id r.board) plan r.seats.items qs) where
   all-idle : AreIdle (lock_id r.board) (Some r.opened.value.origin) (length r.seats.items) qs
   all-idle = idle-left (lock_id r.board) plan r.opened.value.origin (length r.opened.value.places) (length r.seats.items) 0 r.seats.items qs keeps.seats left

@@ -1,6 +1,7 @@
 -- The summary of a run from a level state is that of the serial dynamics.
-use Rattle.std.proofs.Common.{arith, ◌≡◌, ℕ, zero, suc, ◌+◌, ◌-◌, ◌*◌, ◌<◌, ◌≤◌, true, List, [], ◌++◌, length, drop, take, refl, sym, ap, ap₂, ◌∙◌, cond, append-nil, length-append}
+use Rattle.std.proofs.Common.{arith, ◌≡◌, ℕ, zero, suc, ◌+◌, ◌-◌, ◌*◌, ◌<◌, ◌≤◌, true, List, [], ◌∷◌, ◌++◌, length, get_or, drop, take, refl, sym, ap, ap₂, ◌∙◌, cond, append-nil, length-append, subst}
 use Rattle.std.specs.Prelude.{ℤ, ◌+ℤ◌, not, ◌==◌}
+use Rattle.std.proofs.lemmas.List.Elements.{All-get_or}
 use Rattle.std.proofs.lemmas.List.{drop_at, take_all, length-drop}
 use Rattle.spin_model.specs.Limits.{every_take}
 use Rattle.spin_model.proofs.Tables.{length-table}
@@ -18,8 +19,9 @@ use Rattle.scalar_rule.specs.declared.sample.Record.{Record}
 use Rattle.scalar_rule.specs.declared.sample.Sample.{Sample}
 use Rattle.glass_engine.specs.Laws.{LevelRunIsSerial}
 use Rattle.glass_engine.specs.RecordPieces.{piece}
-use Rattle.glass_engine.specs.Runs.{RunView, IsEnd}
-use Rattle.glass_engine.specs.Summary.{both_energies, slot_sums, summary_text, summary, BeginsLevel}
+use Rattle.glass_engine.specs.BankRuns.{runs_of, IsAbreast, AreAbreast}
+use Rattle.glass_engine.specs.Runs.{RunView, DoneView, IsEnd}
+use Rattle.glass_engine.specs.Summary.{both_energies, slot_sums, summary_text, summary, BeginsLevel, IsSummed}
 use Rattle.spin_model.proofs.Joined.{joined-same, window-more}
 use Rattle.spin_model.proofs.Counts.{count-same}
 use Rattle.spin_model.specs.SignedSums.{sum_of}
@@ -69,7 +71,7 @@ lasts plan start every until records first some on is =
       pieces = λ b h. ap (λ xs. piece xs (slots_of plan) b) (rest ∙ sym (append-nil back)) ∙ piece-records_at m 64 (slots_of plan) e b [] sized h;
     }
 
--- what a run is that has a summary
+-- what a run is that has a summary, and its end
 pub record HasSummary (run : RunView) (start : ℕ → Sample) (d : RaggedEndedView) : Type 0 where
   pub begins : BeginsLevel run start
   pub takes : run.takes ≡ every_take
@@ -77,6 +79,25 @@ pub record HasSummary (run : RunView) (start : ℕ → Sample) (d : RaggedEndedV
   pub some : 1 ≤ run.until
   pub recorded : is_recorded run.orders.every (run.until - 1) ≡ true
   pub ends : IsEnd run d
+
+-- the one bank of a run
+first-run : (ds : List DoneView) (run : RunView) (d : DoneView) → runs_of ds ≡ run ∷ [] → d ≡ get_or ds 0 d → d.run ≡ run
+first-run [] run d one is = absurd (omega (arith, ap length one))
+first-run (x ∷ ds) run d one is = ap (λ (y : DoneView). y.run) is ∙ ap (λ rs. get_or rs 0 run) one
+
+pub first-summary : (plan : Plan) (start : ℕ → Sample) (e : ℕ) (ds : List DoneView) (a : AreAbreast ds) (s : IsSummed plan start e (runs_of ds)) (d : DoneView) → d ≡ get_or ds 0 d
+    → HasSummary s.run start d.ended
+first-summary plan start e ds a s d is =
+    let P : DoneView → Type 0 = IsAbreast a.course in
+    let ended = (subst P (sym is) (All-get_or P ds 0 d (omega (arith, a.some)) a.each)).ended in
+    record {
+      begins = s.begins;
+      takes = s.takes;
+      samples = s.samples;
+      some = omega (arith, s.until, s.some);
+      recorded = ap (λ k. is_recorded s.run.orders.every (k - 1)) s.until ∙ s.recorded;
+      ends = subst (λ (r : RunView). IsEnd r d.ended) (first-run ds s.run d s.one is) ended;
+    }
 
 run-lasts : (law : LevelRunIsSerial) (run : RunView) (start : ℕ → Sample) (d : RaggedEndedView) (h : HasSummary run start d)
     → Lasts run.plan (λ b. part run.plan.size b h.begins.stand) run.until d.records

@@ -1,5 +1,5 @@
 -- The runs of several banks before and after they are driven: one run for each bank, from states at one epoch.
-use Rattle.std.specs.Prelude.{◌≡◌, ℕ, ◌+◌, ◌-◌, ◌*◌, ◌<◌, ◌≤◌, min, Bool, ◌&&◌, ◌==◌, if◌then◌else◌, List, [], ◌∷◌, ◌++◌, length, map, All}
+use Rattle.std.specs.Prelude.{◌≡◌, ℕ, ◌+◌, ◌-◌, ◌*◌, ◌<◌, ◌≤◌, min, ◌&&◌, ◌==◌, if◌then◌else◌, List, [], ◌∷◌, ◌++◌, length, map, All}
 use Rattle.spin_model.specs.Limits.{every_take, last_epoch, most_rows}
 use Rattle.run_plan.specs.declared.run_file.Orders.{Orders}
 use Rattle.run_checkpoint.specs.BankEncoding.{HaveShape, BanksFit}
@@ -18,7 +18,6 @@ use Rattle.glass_engine.specs.Banks.{Bank, of_sample, banks_checkpoint}
 use Rattle.glass_engine.specs.Report.{rows_in_order, all_spins, uneven_measured}
 use Rattle.glass_engine.specs.Runs.{RunView, DoneView, starts, IsEnd}
 use Rattle.glass_engine.specs.declared.run.SaveKind.{SaveKind}
-use Rattle.glass_engine.specs.declared.run.SaveKind.TheVariants as saves
 
 -- ---- what is opened
 
@@ -38,10 +37,6 @@ bank_runs (plan ∷ plans) [] orders until kind = []
 bank_runs (plan ∷ plans) (stand ∷ stands) orders until kind =
     bank_run plan stand (for_samples (min orders.samples 64) orders) until kind
     ∷ bank_runs plans stands (for_samples (orders.samples - 64) orders) until kind
-
--- whether the checkpoint of the banks is to be saved
-abbrev pub bank_kind : Bool → SaveKind
-bank_kind save = if save then saves.Level else saves.Never
 
 -- the orders that a run over so many banks can have: the last bank prints a sample, and no sample is left behind it
 pub record AreBankOrders (banks : ℕ) (orders : Orders) : Type 0 where

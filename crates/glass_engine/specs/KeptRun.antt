@@ -1,49 +1,68 @@
--- What a run keeps.
-use Rattle.std.specs.Prelude.{◌≡◌, ◌<◌, length}
-use Rattle.exchange_board.specs.Answers.{stages_of}
-use Rattle.exchange_board.specs.Content.{plan_of, IsLawfulOrigin}
-use Rattle.turn_cell.specs.Seats.{AreOpened}
-use Rattle.shared_board.specs.Shared.{lock_id}
-use Rattle.glass_engine.specs.Runs.{RunView, AreRunOrders, DoneView, IsOriginOf, IsEnd}
-use Rattle.glass_engine.specs.KeptSaving.{kind_of, KeepsSaving}
-use Rattle.glass_engine.specs.declared.run.Run.TheInside as run
+-- What a run of 1 to 4 banks keeps.
+use Rattle.std.specs.Prelude.{◌≡◌, ℕ, ◌≤◌, List, [], ◌∷◌, length, All, vec_capacity}
+use Rattle.spin_model.specs.Limits.{every_take, last_epoch}
+use Rattle.run_checkpoint.specs.Encoding.{flattened}
+use Rattle.run_plan.specs.declared.run_file.Orders.{Orders}
+use Rattle.scalar_rule.specs.Plan.{slots_of}
+use Rattle.plane_sweep.specs.Packed.{StandFits}
+use Rattle.plane_sweep.specs.Uneven.{level_stand}
+use Rattle.glass_engine.specs.BankRuns.{runs_of, AreBankOrders, HaveSamples}
+use Rattle.glass_engine.specs.KeptSaving.{KeepsSaving}
+use Rattle.glass_engine.specs.Runs.{RunView, DoneView, IsEnd}
 use Rattle.glass_engine.specs.declared.done.Done.TheInside as done
+use Rattle.glass_engine.specs.declared.run.Run.TheInside as run
 
-abbrev pub run_view : run.Inside → RunView
-run_view r = record {
-  plan = plan_of r.opened.value.origin;
-  base = r.opened.value.origin.base;
-  orders = r.orders;
-  until = r.opened.value.origin.window.until;
-  takes = r.opened.value.origin.window.takes;
-  saves = kind_of r.saving;
-}
+-- ---- several banks
 
--- a run has a shared board that was opened at the places of its starting state, with its seats, which nobody took yet
+-- what all banks share: the size, the number of slots, and the epochs from which and to which they go
+pub record Shared : Type 0 where
+  pub size : ℕ
+  pub slots : ℕ
+  pub from : ℕ
+  pub until : ℕ
+
+-- a bank's run starts at rest at the one epoch, in a state that fits its plan, and isn't asked to stop
+pub record IsBankRun (shared : Shared) (orders : Orders) (run : RunView) : Type 0 where
+  pub size : run.plan.size ≡ shared.size
+  pub slots : slots_of run.plan ≡ shared.slots
+  pub level : run.base ≡ level_stand (flattened run.base)
+  pub fits : StandFits run.plan (flattened run.base)
+  pub from : (flattened run.base).epoch ≡ shared.from
+  pub until : run.until ≡ shared.until
+  pub every : run.orders.every ≡ orders.every
+  pub spins : run.orders.spins ≡ orders.spins
+  pub takes : run.takes ≡ every_take
+
+pub record AreBankRuns (orders : Orders) (runs : List RunView) : Type 0 where
+  pub orders_are : AreBankOrders (length runs) orders
+  pub shared : Shared
+  pub in_time : shared.from ≤ shared.until
+  pub short : shared.until ≤ last_epoch
+  pub each : All (IsBankRun shared orders) runs
+  pub samples : HaveSamples orders.samples runs
+
+-- ---- of one bank or of several
+
+abbrev pub AreRuns : List RunView → Type 0
+AreRuns [] = ⊥
+AreRuns (run ∷ []) = Unit {0}
+AreRuns (run ∷ next ∷ runs) = (orders : Orders) × AreBankRuns orders (run ∷ next ∷ runs)
+
+-- ---- before and after the drive
+
+abbrev pub run_view : run.Inside → List RunView
+run_view r = r.banks.items
+
 pub record KeepsRun (r : run.Inside) : Type 0 where
-  pub orders : AreRunOrders r.orders
-  pub lawful : IsLawfulOrigin r.opened.value.origin
-  pub origin : IsOriginOf (run_view r) r.opened.value.origin
-  pub places : r.opened.value.places ≡ stages_of r.opened.value.origin.base
-  pub some_seats : 0 < length r.seats.items
-  pub seats : AreOpened (lock_id r.board) r.opened.value.origin (length r.opened.value.places) (length r.seats.items) 0 r.seats.items
-  pub saving : KeepsSaving (run_view r) r.saving
+  pub runs : AreRuns r.banks.items
+  pub saving : KeepsSaving r.banks.items r.saving
+  pub driven : r.driven.items ≡ []
+  pub room : length r.banks.items ≤ vec_capacity r.driven
 
-abbrev pub done_view : done.Inside → DoneView
-done_view d = record {
-  run = record {
-    plan = plan_of d.ended.origin;
-    base = d.ended.origin.base;
-    orders = d.orders;
-    until = d.ended.origin.window.until;
-    takes = d.ended.origin.window.takes;
-    saves = kind_of d.saving;
-  };
-  ended = d.ended;
-}
+abbrev pub done_view : done.Inside → List DoneView
+done_view d = d.banks.items
 
--- a run at its end has what the rule gives at its places
 pub record KeepsDone (d : done.Inside) : Type 0 where
-  pub orders : AreRunOrders d.orders
-  pub ended : IsEnd (done_view d).run d.ended
-  pub saving : KeepsSaving (done_view d).run d.saving
+  pub runs : AreRuns (runs_of d.banks.items)
+  pub ended : All (λ (x : DoneView). IsEnd x.run x.ended) d.banks.items
+  pub saving : KeepsSaving (runs_of d.banks.items) d.saving

@@ -1,5 +1,5 @@
 -- What a run places as its checkpoint.
-use Rattle.std.specs.Prelude.{◌≡◌, ℕ, List, []}
+use Rattle.std.specs.Prelude.{◌≡◌, ℕ, List, [], ◌∷◌}
 use Rattle.spin_model.specs.Limits.{every_take}
 use Rattle.scalar_rule.specs.Plan.{Plan}
 use Rattle.scalar_rule.specs.Serial.{serial}
@@ -11,7 +11,8 @@ use Rattle.plane_sweep.specs.declared.stand.Stand.{Stand}
 use Rattle.plane_sweep.specs.declared.uneven.RaggedStand.{RaggedStand}
 use Rattle.exchange_board.specs.Views.{RaggedEndedView}
 use Rattle.run_checkpoint.specs.Encoding.{encoding, flattened, uneven_encoding}
-use Rattle.glass_engine.specs.Runs.{RunView, starts, IsEnd}
+use Rattle.glass_engine.specs.BankRuns.{runs_of, runs_checkpoint}
+use Rattle.glass_engine.specs.Runs.{RunView, DoneView, starts, IsEnd}
 use Rattle.glass_engine.specs.declared.run.SaveKind.{SaveKind}
 use Rattle.glass_engine.specs.declared.run.SaveKind.TheVariants as saves
 
@@ -25,6 +26,12 @@ written saves.Ragged plan samples every stand = uneven_encoding plan samples eve
 -- that of a run that ended so
 abbrev pub checkpoint : RunView → RaggedStand → List ℕ
 checkpoint run stand = written run.saves run.plan run.orders.samples run.orders.every stand
+
+-- of a run of one bank or of several
+abbrev pub end_checkpoint : List DoneView → List ℕ
+end_checkpoint [] = []
+end_checkpoint (d ∷ []) = checkpoint d.run d.ended.stand
+end_checkpoint (d ∷ next ∷ ds) = runs_checkpoint (runs_of (d ∷ next ∷ ds))
 
 -- ---- laws
 

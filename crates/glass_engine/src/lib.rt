@@ -1,10 +1,7 @@
 //! The engine of a run: it is opened with all its memory, driven to its end, and reported.
 #![tactic(auto)]
 
-mod bank_driving;
 mod bank_opening;
-mod bank_saving;
-mod banks;
 mod done;
 mod driving;
 mod laws;
@@ -17,10 +14,7 @@ mod saving;
 mod summary;
 mod workers;
 
-pub use bank_driving::drive_banks;
 pub use bank_opening::open_banks;
-pub use bank_saving::save_banks;
-pub use banks::{Banks, BanksDone};
 pub use done::Done;
 pub use driving::drive;
 pub use laws::{

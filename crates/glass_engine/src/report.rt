@@ -10,7 +10,7 @@ ghost use Rattle.glass_engine.specs.RecordPieces.{parts_of, tail_of, AreRunRows,
 ghost use Rattle.glass_engine.specs.Report as text;
 
 use crate::bank_opening::of_samples;
-use crate::done::Done;
+use crate::done::{BankDone, Done};
 use crate::rows::{RunRows, bank_with};
 use glass_edges::{Fault, Sink};
 use lattice_geometry::Lattice;
@@ -21,7 +21,7 @@ use scalar_rule::Plan;
 use spin_model::BANK_SAMPLES;
 use std::thread::Threads;
 
-/// Puts the one report of a run, whose banks these are, in order: the header with the number of all
+/// Puts the one report of a run: the header with the number of all
 /// samples, the rows in order of epoch, sample and slot as far as every slot came, the end, and where the
 /// orders ask for them and the run came to its last epoch the last spins. The rows go by sheets, which
 /// threads fill side by side where they can be started. Takes no memory.
@@ -32,20 +32,19 @@ use std::thread::Threads;
 pub fn print_report<R: Threads + Sync, O: Sink>(
     rt: &R,
     sheets: &mut Sheets,
-    driven: &[Done],
+    done: &Done,
     out: &mut O,
 ) -> Result<(), Fault>
-    requires { AreAbreast driven.now }
-    ensures { Writes O.Sink out.old out.new (run_report driven.now) result }
+    ensures { Writes O.Sink out.old out.new (run_report done.now) result }
 {
-    let rows = rows_of(driven);
+    let rows = rows_of(done.banks());
     header(out, rows.plan, rows.orders.samples, rows.from, rows.to)?;
     put_rows_by(rt, sheets, out, &rows)?;
     put_tail(out, &rows)
 }
 
 // The rows of banks that were driven, as far as every slot came.
-fn rows_of(driven: &[Done]) -> RunRows<'_>
+fn rows_of(driven: &[BankDone]) -> RunRows<'_>
     requires { AreAbreast driven.now }
     ensures ready { AreRunRows result }
     ensures spins { result.to ≡ result.until → HaveSpins result }
@@ -65,7 +64,7 @@ fn rows_of(driven: &[Done]) -> RunRows<'_>
 }
 
 // How many samples banks print, of which all but the last print 64.
-fn samples_of(driven: &[Done]) -> u32
+fn samples_of(driven: &[BankDone]) -> u32
     requires { AreAbreast driven.now }
     ensures { result ≡ samples_in (runs_of driven.now) }
 {

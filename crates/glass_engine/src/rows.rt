@@ -9,7 +9,7 @@ ghost use Rattle.glass_engine.specs.RecordPieces.{AreRunRows, AreRowsFrom, HaveN
 ghost use Rattle.glass_engine.specs.Report as text;
 ghost use Rattle.glass_engine.specs.RowLaws.{rows-empty, rows-joined};
 
-use crate::done::Done;
+use crate::done::BankDone;
 use glass_edges::{Fault, Line, Sink};
 use report_sheets::RowSource;
 use report_text::add_row;
@@ -20,7 +20,7 @@ use scalar_rule::{Plan, Record, is_recorded, recorded_epochs};
 /// whole, the number of slots, and the epoch to which the run was to go.
 #[derive(Clone, Copy)]
 pub(crate) struct RunRows<'a> {
-    pub(crate) driven: &'a [Done],
+    pub(crate) driven: &'a [BankDone],
     pub(crate) plan: &'a Plan,
     pub(crate) orders: Orders,
     pub(crate) slots: usize,
@@ -148,7 +148,7 @@ fn add_epoch<O: Sink>(
 }
 
 /// The bank that a sample is in.
-pub(crate) fn bank_with(driven: &[Done], sample: u32) -> &Done
+pub(crate) fn bank_with(driven: &[BankDone], sample: u32) -> &BankDone
     requires { sample / 64 < length driven.now }
     ensures { result.now ≡ slice_index_or driven.now (sample / 64) result.now }
 {
@@ -156,7 +156,7 @@ pub(crate) fn bank_with(driven: &[Done], sample: u32) -> &Done
 }
 
 // The records of a bit of a bank in a recorded epoch, before which so many were recorded.
-fn sample_records(bank: &Done, slots: usize, passed: usize, bit: usize) -> &[Record]
+fn sample_records(bank: &BankDone, slots: usize, passed: usize, bit: usize) -> &[Record]
     requires short { passed ≤ last_epoch }
     requires few_slots { slots ≤ most_slots }
     requires few_bits { bit < 64 }

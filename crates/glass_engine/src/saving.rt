@@ -1,6 +1,6 @@
 //! The buffer of a checkpoint, which is reserved before a run.
 
-ghost use Rattle.std.specs.Prelude.{◌≡◌, ◌*◌, ◌≤◌, IfOk};
+ghost use Rattle.std.specs.Prelude.{◌≡◌, ◌≤◌, [], IfOk};
 ghost use Rattle.plane_sweep.specs.Uneven.{RaggedStandFits};
 ghost use Rattle.glass_engine.specs.KeptSaving as model;
 
@@ -34,7 +34,7 @@ impl Saving {
     ) -> Result<Saving, NoMemory>
         requires { samples ≤ 64 }
         ensures kind { IfOk result (λ saving. model.kind_of saving ≡ kind) }
-        ensures room { IfOk result (model.HasRoom plan.now samples) }
+        ensures room { IfOk result (model.HasRoom (model.bank_need plan.now samples)) }
     {
         let size = plan.lattice().size();
         let slots = plan.slots();
@@ -53,9 +53,9 @@ impl Saving {
     pub(crate) fn write(&mut self, stand: &RaggedStand, plan: &Plan, samples: u32, every: u64)
         requires fits { RaggedStandFits plan.now samples every stand.now }
         requires level { model.EndsAs self.old stand.now }
-        requires room { model.HasRoom plan.now samples self.old }
+        requires room { model.HasRoom (model.bank_need plan.now samples) self.old }
         ensures kind { model.kind_of self.new ≡ model.kind_of self.old }
-        ensures long { model.IsLong plan.now samples self.new }
+        ensures limit { model.limit_of self.new ≡ model.limit_of self.old }
         ensures bytes { model.IsWritten plan.now samples every stand.now self.new }
     {
         // A plan's size is that of a lattice.
@@ -68,10 +68,10 @@ impl Saving {
     }
 
     /// Empties the buffer.
-    pub(crate) fn clear(&mut self, plan: &Plan, samples: u32)
-        requires { model.IsLong plan.now samples self.old }
+    pub(crate) fn clear(&mut self)
         ensures kind { model.kind_of self.new ≡ model.kind_of self.old }
-        ensures room { model.HasRoom plan.now samples self.new }
+        ensures limit { model.limit_of self.new ≡ model.limit_of self.old }
+        ensures empty { model.bytes_of self.new ≡ [] }
     {
         match self {
             Saving::Never => {}

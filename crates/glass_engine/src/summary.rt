@@ -1,16 +1,16 @@
 //! The summary of a run whose plan is made from a number.
 
-ghost use Rattle.std.specs.Prelude.{◌≡◌, ℕ, ◌+ℤ◌, ◌-◌, ◌*◌, ◌<◌, ◌≤◌, ◌==◌, not, true, unsigned_abs, length, slice_index, flat_map};
-ghost use Rattle.spin_model.specs.Limits.{every_take, most_slots};
+ghost use Rattle.std.specs.Prelude.{◌≡◌, ℕ, ◌+ℤ◌, ◌*◌, ◌<◌, ◌≤◌, ◌==◌, not, unsigned_abs, length, slice_index, flat_map};
+ghost use Rattle.spin_model.specs.Limits.{most_slots};
 ghost use Rattle.glass_edges.specs.Causes.{HasCause};
 ghost use Rattle.glass_edges.specs.Writes.{Writes};
 ghost use Rattle.plane_sweep.specs.Uneven.{uneven_part};
 ghost use Rattle.scalar_rule.specs.Plan.{slots_of};
-ghost use Rattle.scalar_rule.specs.Records.{is_recorded};
 ghost use Rattle.scalar_rule.specs.declared.sample.Sample as samples;
 ghost use Rattle.spin_model.specs.SignedSums.{sum_of};
 ghost use Rattle.spin_model.specs.Steps.{table, count_below};
 ghost use Rattle.spin_model.specs.Words.{one_if};
+ghost use Rattle.glass_engine.specs.BankRuns.{runs_of};
 ghost use Rattle.glass_engine.specs.RecordPieces.{piece};
 ghost use Rattle.glass_engine.specs.Summary as text;
 
@@ -32,21 +32,18 @@ const SAMPLES: usize = 64;
 ///
 /// Where the output failed; it has then taken a prefix of the summary.
 pub fn write_summary<O: Sink>(done: &Done, plan: &Plan, n: u64, out: &mut O) -> Result<(), Fault>
-    requires plan { plan.now ≡ done.now.run.plan }
-    requires level { (start : ℕ → samples.Sample) × text.BeginsLevel done.now.run start }
-    requires takes { done.now.run.takes ≡ every_take }
-    requires samples { done.now.run.orders.samples ≡ 64 }
-    requires some { 1 ≤ done.now.run.until }
-    requires recorded { is_recorded done.now.run.orders.every (done.now.run.until - 1) ≡ true }
-    ensures written { (start : ℕ → samples.Sample) → text.BeginsLevel done.now.run start
-        → Writes O.Sink out.old out.new (text.summary n plan.now start done.now.run.until) result }
+    requires { (start : ℕ → samples.Sample) × (e : ℕ) × text.IsSummed plan.now start e (runs_of done.now) }
+    ensures written { (start : ℕ → samples.Sample) (e : ℕ) → text.IsSummed plan.now start e (runs_of done.now)
+        → Writes O.Sink out.old out.new (text.summary n plan.now start e) result }
     ensures cause { HasCause (O.faults out.old) (O.faults out.new) result }
 {
     level_run_is_serial();
-    let records = done.ended.records();
+    let banks = done.banks();
+    let ended = banks[0].ended();
+    let records = ended.records();
     let last = records.len() - SAMPLES * plan.slots() as usize;
-    let until = done.ended.origin().window.until;
-    put_summary(out, n, plan, done.ended.stand(), &records[last..], until)
+    let until = ended.origin().window.until;
+    put_summary(out, n, plan, ended.stand(), &records[last..], until)
 }
 
 // Puts a summary, from the records of the last epoch.

@@ -1,18 +1,19 @@
 -- A run of several banks as it is opened, and what it prints and saves.
 use Rattle.std.proofs.Common.{arith, ◌≡◌, ◌≢◌, ℕ, ◌-◌, ◌*◌, ◌<◌, ◌≤◌, min, List, [], ◌∷◌, length, map, get_or, Option, Some, None, Result, Ok, Err, refl, sym, ap, ◌∙◌, subst}
 use Rattle.std.specs.Prelude.{All}
-use Rattle.std.proofs.lemmas.List.{length-map, get_or-map}
-use Rattle.std.proofs.lemmas.List.Elements.{All-nil, All-cons, All-head, All-tail}
+use Rattle.std.proofs.lemmas.List.{length-map}
+use Rattle.std.proofs.lemmas.List.Elements.{All-nil, All-cons, All-head, All-tail, All-weaker}
 use Rattle.glass_edges.specs.Refusals.{unless}
 use Rattle.exchange_board.specs.Views.{RaggedEndedView}
-use Rattle.glass_engine.specs.BankLaws.{banks_with, HaveSlots, BanksReportIsSerial, BanksCheckpointIsSerial}
+use Rattle.glass_engine.specs.BankLaws.{banks_with, HaveSlots, StandForBanks, BanksReportIsSerial, BanksCheckpointIsSerial}
 use Rattle.glass_engine.specs.Banks.{Bank, banks_checkpoint}
-use Rattle.glass_engine.specs.BankRuns.{bank_run, bank_runs, bank_kind, for_samples, runs_of, runs_checkpoint, AreBankOrders}
+use Rattle.glass_engine.specs.BankRuns.{bank_run, bank_runs, for_samples, plans_of, runs_of, runs_checkpoint, AreBankOrders}
 use Rattle.glass_engine.specs.Laws.{stand_at}
 use Rattle.glass_engine.specs.Runs.{RunView, DoneView, IsEnd}
 use Rattle.glass_engine.specs.declared.run.SaveKind.{SaveKind}
 use Rattle.glass_engine.specs.declared.run.SaveKind.TheVariants as saves
-use Rattle.glass_engine.proofs.BankStarts.{fit-long, runs-plans}
+use Rattle.glass_engine.proofs.BankStarts.{fit-long, runs-long, runs-plans, runs-saves}
+use Rattle.glass_engine.proofs.Savings.{several-bytes}
 use Rattle.glass_engine.proofs.SavedRuns.{fits-at}
 use Rattle.glass_engine.proofs.WholeRuns.{level-serial}
 use Rattle.plane_sweep.specs.declared.stand.Stand.{Stand}
@@ -27,13 +28,14 @@ use Rattle.run_plan.specs.declared.run_file.Orders.{Orders}
 use Rattle.scalar_rule.specs.Plan.{Plan, slots_of}
 use Rattle.scalar_rule.specs.Serial.{serial}
 use Rattle.scalar_rule.specs.declared.sample.Sample.{Sample}
-use Rattle.glass_main.specs.BanksOpened.{is_named, AreOpened, AreReady, AreRunsOf}
+use Rattle.glass_main.specs.Opened.{saves_as, AreOpened, AreReady, AreRunsOf}
+use Rattle.glass_main.proofs.OpenedRuns.{saves-named}
 use Rattle.glass_main.specs.Endings.{IsOfAmount}
 use Rattle.glass_main.proofs.Amounts.{amount-told}
 use Rattle.glass_main.specs.ManyBanks.{PlannedBanks, bank_count, banks_amount_refusal, banks_at, stands_at, starts_at}
 use Rattle.glass_main.specs.Request.{BanksWork, told_as, banks_work}
 use Rattle.glass_main.specs.Resumes.{AreResumable}
-use Rattle.glass_main.specs.declared.bank_finishing.OpenedBanks.{OpenedBanks}
+use Rattle.glass_main.specs.declared.finishing.Opened.{Opened}
 use Rattle.glass_main.specs.declared.refusal.Refusal.TheVariants as refused
 
 -- ---- the first bank
@@ -120,24 +122,17 @@ banks-accepted planned until starts none = ap (λ found. told_as refused.Plan (u
 
 -- ---- its runs
 
-runs-kind : (plans : List Plan) (stands : List Stand) (orders : Orders) (until : ℕ) (kind : SaveKind) → kind ≢ saves.Never → All (λ (run : RunView). run.saves ≢ saves.Never) (bank_runs plans stands orders until kind)
-unfolding bank_runs
-runs-kind [] stands orders until kind some = All-nil (λ (run : RunView). run.saves ≢ saves.Never)
-runs-kind (p ∷ ps) [] orders until kind some = All-nil (λ (run : RunView). run.saves ≢ saves.Never)
-runs-kind (p ∷ ps) (x ∷ xs) orders until kind some =
-    All-cons (λ (run : RunView). run.saves ≢ saves.Never) (bank_run p x (for_samples (min orders.samples 64) orders) until kind) (bank_runs ps xs (for_samples (orders.samples - 64) orders) until kind)
-    some (runs-kind ps xs (for_samples (orders.samples - 64) orders) until kind some)
-
-saved-kind : (name : Option (List ℕ)) → name ≢ None → bank_kind (is_named name) ≢ saves.Never
-saved-kind None named = absurd (named refl)
-saved-kind (Some name) named = λ is. absurd cc
-
-pub opened-ready : (planned : PlannedBanks) (stands : List Stand) (until : ℕ) (name : Option (List ℕ)) (opened : OpenedBanks) → AreResumable planned.plans until stands
+pub opened-ready : (planned : PlannedBanks) (stands : List Stand) (until : ℕ) (name : Option (List ℕ)) (opened : Opened) → AreResumable planned.plans until stands
     → AreOpened planned stands until name opened → AreReady name opened
-opened-ready planned stands until name opened r o = record {
-  plans = o.shares ∙ sym (runs-plans r.epoch planned.plans stands planned.orders until (bank_kind (is_named name)) r.fit) ∙ ap (map (λ (run : RunView). run.plan)) (sym o.runs);
-  saved = λ named. subst (λ runs. All (λ (run : RunView). run.saves ≢ saves.Never) runs) (sym o.runs) (runs-kind planned.plans stands planned.orders until (bank_kind (is_named name)) (saved-kind name named));
-}
+opened-ready planned stands until name opened r o =
+    let kind = saves_as None name in
+    let R : RunView → Type 0 = λ run. run.saves ≢ saves.Never in
+    record {
+      plans = o.shares ∙ sym (runs-plans r.epoch planned.plans stands planned.orders until kind r.fit) ∙ ap plans_of (sym o.runs);
+      saved = λ named. subst (All R) (sym o.runs)
+          (All-weaker (λ (run : RunView). run.saves ≡ kind) R (λ run is never. saves-named None name named (sym is ∙ never)) (bank_runs planned.plans stands planned.orders until kind)
+          (runs-saves planned.plans stands planned.orders until kind));
+    }
 
 -- ---- what they save
 
@@ -201,20 +196,19 @@ all-end epoch (p ∷ ps) (x ∷ xs) (s ∷ ss) orders until kind (d ∷ ds) fit 
     (states.0, states.1, all-end epoch ps xs ss (for_samples (orders.samples - 64) orders) until kind ds fit.2 stand.1 (ap rest-of are) (All-tail E d ds ends))
 
 -- what they print and save, from each start that the states are packed of
-pub opened-runs : (report : BanksReportIsSerial) (saving : BanksCheckpointIsSerial) (planned : PlannedBanks) (stands : List Stand) (until : ℕ) (name : Option (List ℕ)) (opened : OpenedBanks) (starts : List (ℕ → Sample))
-    → 1 ≤ length planned.plans → planned.orders.samples ≤ 64 * length planned.plans → HaveSlots planned.plans → AreResumable planned.plans until stands
-    → AreOpened planned stands until name opened → BanksStand planned.plans starts stands → AreRunsOf planned starts until opened.banks
-opened-runs report saving planned stands until name opened starts some few slots r o stand =
-    let kind = bank_kind (is_named name) in
-    record {
-      report = λ dones are ends. report planned.plans stands starts planned.orders until kind dones few (record { epoch = r.epoch; fit = r.fit; slots = slots; stand = stand }) (are ∙ o.runs) ends;
-      checkpoint = ap runs_checkpoint o.runs ∙ saving planned.plans stands starts planned.orders until kind some (record { epoch = r.epoch; fit = r.fit; slots = slots; stand = stand })
-          ∙ saved-states planned.plans starts stands until stand;
-      states = λ dones are ends. all-end r.epoch planned.plans stands starts planned.orders until kind dones r.fit stand (are ∙ o.runs) ends;
-    }
-
--- ---- after the drive
-
-pub all-done : (dones : List DoneView) (P : RunView → Type 0) → All P (map (λ (d : DoneView). d.run) dones) → All (λ (d : DoneView). P d.run) dones
-all-done dones P all = λ k d below.
-    subst P (get_or-map (λ (x : DoneView). x.run) dones k d d.run below) (all k d.run (subst (λ n. k < n) (sym (length-map dones (λ (x : DoneView). x.run))) below))
+pub opened-runs : (report : BanksReportIsSerial) (saving : BanksCheckpointIsSerial) (planned : PlannedBanks) (stands : List Stand) (until : ℕ) (name : Option (List ℕ)) (opened : Opened) (starts : List (ℕ → Sample))
+    → 2 ≤ length planned.plans → planned.orders.samples ≤ 64 * length planned.plans → HaveSlots planned.plans → AreResumable planned.plans until stands
+    → AreOpened planned stands until name opened → BanksStand planned.plans starts stands → AreRunsOf name (BanksWork planned starts until) opened.run
+opened-runs report saving planned stands until name opened starts several few slots r o stand = λ dones are ends.
+    let kind = saves_as None name in
+    let is = are ∙ o.runs in
+    let s : StandForBanks planned.plans stands starts = record { epoch = r.epoch; fit = r.fit; slots = slots; stand = stand } in
+    let long = ap length is ∙ runs-long r.epoch planned.plans stands planned.orders until kind r.fit in
+    let count = length-map dones (λ (d : DoneView). d.run) in (
+      all-end r.epoch planned.plans stands starts planned.orders until kind dones r.fit stand is ends,
+      (
+        report planned.plans stands starts planned.orders until kind dones few s is ends,
+        λ named. sym (several-bytes dones (omega (arith, long, count))) ∙ ap runs_checkpoint is
+            ∙ saving planned.plans stands starts planned.orders until kind (omega arith) s ∙ saved-states planned.plans starts stands until stand,
+      ),
+    )

@@ -1,7 +1,8 @@
 -- The run whose plan is made from a number: what it starts from, and the text of its summary.
-use Rattle.std.proofs.Common.{◌≡◌, ℕ, ◌<◌, ap, sym, ◌∙◌, subst, arith, lit<}
+use Rattle.std.proofs.Common.{◌≡◌, ℕ, ◌<◌, List, [], ◌∷◌, length, map, get_or, ap, sym, ◌∙◌, subst, arith, lit<}
+use Rattle.glass_engine.specs.BankRuns.{plans_of}
 use Rattle.glass_engine.specs.Runs.{RunView}
-use Rattle.glass_engine.specs.Summary.{BeginsLevel, summary}
+use Rattle.glass_engine.specs.Summary.{BeginsLevel}
 use Rattle.plane_sweep.specs.Packed.{part, StandFits, StandsFor}
 use Rattle.plane_sweep.specs.Uneven.{level_stand}
 use Rattle.plane_sweep.specs.declared.stand.Stand.{Stand}
@@ -10,10 +11,7 @@ use Rattle.scalar_rule.specs.Opening.{opening}
 use Rattle.scalar_rule.specs.Plan.{Plan, slots_of}
 use Rattle.scalar_rule.specs.declared.sample.Sample.{Sample}
 use Rattle.scalar_rule.specs.declared.sample.Start.{Start}
-use Rattle.scalar_rule.specs.declared.sample.Start.TheVariants.{Random}
 use Rattle.spin_model.proofs.Tables.{length-table}
-use Rattle.glass_main.specs.DemoRun.{IsDemoRun}
-use Rattle.glass_main.specs.Texts.{demo_text}
 
 -- its plan has temperature slots
 pub some-slots : (n : ℕ) (plan : Plan) → plan ≡ demo_plan n → 0 < slots_of plan
@@ -35,8 +33,7 @@ begins-opening plan start stand run is base fits stands = record {
   stands = subst (λ (p : Plan). StandsFor p (opening plan start 0) stand) (sym is) stands;
 }
 
--- the summary of such a run is the number's text
-pub summary-of : (n : ℕ) (run : RunView) (plan : Plan) → IsDemoRun n run → plan ≡ run.plan → summary n plan (opening (demo_plan n) Random 0) run.until ≡ demo_text n
-summary-of n run plan demo is =
-    ap (λ (p : Plan). summary n p (opening (demo_plan n) Random 0) run.until) (is ∙ demo.plan)
-    ∙ ap (λ e. summary n (demo_plan n) (opening (demo_plan n) Random 0) e) demo.until
+-- its plan is the first that is shared
+pub first-plan : {X : Type 0} (f : X → Plan) (xs : List X) (x : X) (runs : List RunView) (run : RunView) → map f xs ≡ plans_of runs → runs ≡ run ∷ [] → x ≡ get_or xs 0 x → f x ≡ run.plan
+first-plan f [] x runs run same one is = absurd (omega (arith, ap length same, ap (λ rs. length (plans_of rs)) one))
+first-plan f (y ∷ ys) x runs run same one is = ap f is ∙ ap (λ ps. get_or ps 0 (f y)) (same ∙ ap plans_of one)

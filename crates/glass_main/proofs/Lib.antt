@@ -8,6 +8,7 @@ pub mod DemoRuns
 pub mod Resumed
 pub mod Amounts
 pub mod RunEndings
+pub mod Finished
 pub mod OneBank
 pub mod AddingUp
 pub mod ReadStops

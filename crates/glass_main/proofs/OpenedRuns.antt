@@ -1,5 +1,7 @@
 -- The report and the checkpoint of a run that is opened as it is to be, and the epoch at which its starting state begins.
-use Rattle.std.proofs.Common.{◌≡◌, ℕ, ◌<◌, ◌≤◌, false, List, [], ◌∷◌, length, Option, Some, None, ap, ap₂, sym, ◌∙◌, subst, arith}
+use Rattle.std.proofs.Common.{◌≡◌, ℕ, ◌<◌, ◌≤◌, false, List, [], ◌∷◌, length, get_or, Option, Some, None, refl, ap, ap₂, sym, ◌∙◌, subst, arith}
+use Rattle.std.specs.Prelude.{All, ◌≢◌}
+use Rattle.std.proofs.lemmas.List.Elements.{All-nil, All-cons, All-head}
 use Rattle.std.proofs.lemmas.List.{length-map, length-replicate, get_or-replicate, ext_get_or}
 use Rattle.spin_model.specs.Limits.{every_take}
 use Rattle.run_checkpoint.specs.Encoding.{encoding, AreBankStates}
@@ -21,31 +23,21 @@ use Rattle.exchange_board.specs.Answers.{start_place}
 use Rattle.exchange_board.specs.Views.{RaggedEndedView}
 use Rattle.exchange_board.proofs.Cells.{floor-deep}
 use Rattle.glass_engine.specs.Laws.{stand_at, UnstoppedRunIsWhole, LevelReportIsSerial}
-use Rattle.glass_engine.specs.BankRuns.{run_report}
+use Rattle.glass_engine.specs.BankRuns.{plans_of, runs_of, run_report}
 use Rattle.glass_engine.specs.Report.{report, uneven_report}
-use Rattle.glass_engine.specs.Runs.{RunView, starts, IsEnd}
+use Rattle.glass_engine.specs.Runs.{RunView, DoneView, starts, IsEnd}
 use Rattle.glass_engine.proofs.Reporting.{one-report}
-use Rattle.glass_engine.specs.Saves.{checkpoint, written, WholeCheckpointIsTheRules, LevelCheckpointIsSerial}
+use Rattle.glass_engine.specs.Saves.{checkpoint, end_checkpoint, written, WholeCheckpointIsTheRules, LevelCheckpointIsSerial}
 use Rattle.glass_engine.specs.declared.run.SaveKind.TheVariants as saves
 use Rattle.glass_engine.proofs.SavedRuns.{fits-at}
 use Rattle.glass_engine.proofs.WholeRuns.{rest-at, unstopped-whole}
 use Rattle.glass_main.specs.Beginnings.{Beginning, Level, Uneven, begins_at, all_at, run_text, state_at, run_checkpoint, IsBaseOf}
-use Rattle.glass_main.specs.Opened.{saves_as, IsOpened, text_at, bytes_at, Comes, IsRunOf}
+use Rattle.glass_main.specs.Opened.{saves_as, own_run, IsOpened, AreReady, AreRunsOf, text_at, bytes_at, Comes, IsRunOf}
+use Rattle.glass_main.specs.Request.{RunWork}
 use Rattle.glass_main.specs.Stops.{RunGives}
 use Rattle.glass_main.proofs.StoppedRuns.{base-floor, base-text, base-state-at, stopped-report, comes-packed, comes-from}
 use Rattle.glass_main.specs.declared.planned.Planned.{Planned}
 use Rattle.glass_main.specs.declared.finishing.Opened.{Opened}
-
--- an opened run is one of what it starts from
-pub run-of : (stop_after : Option ℕ) (planned : Planned) (base : RaggedStand) (e : ℕ) (name : Option (List ℕ)) (opened : Opened) (from : Beginning)
-    → IsOpened planned base e stop_after name opened → IsBaseOf planned.plan from base → IsRunOf stop_after planned from e opened.run
-run-of stop_after planned base e name opened from o begun = record {
-  plan = o.plan;
-  orders = o.orders;
-  until = o.until;
-  takes = o.takes;
-  base = subst (IsBaseOf planned.plan from) (sym o.base_is) begun;
-}
 
 -- the positions of a run to its end
 ended-at : (run : RunView) (d : RaggedEndedView) → UnstoppedRunIsWhole → run.takes ≡ every_take → IsEnd run d → positions_of d.stand ≡ all_at run.plan run.until
@@ -119,7 +111,7 @@ begins-upto planned from e run d plan until base end =
     omega arith
 
 -- its report
-pub text-of : (whole : UnstoppedRunIsWhole) (law : LevelReportIsSerial) (stop_after : Option ℕ) (planned : Planned) (from : Beginning) (e : ℕ) (run : RunView) (d : RaggedEndedView)
+text-of : (whole : UnstoppedRunIsWhole) (law : LevelReportIsSerial) (stop_after : Option ℕ) (planned : Planned) (from : Beginning) (e : ℕ) (run : RunView) (d : RaggedEndedView)
     → IsRunOf stop_after planned from e run → IsEnd run d → run_report (record { run = run; ended = d } ∷ []) ≡ text_at stop_after planned from e d.stand
 text-of whole law None planned from e run d o end = report-of whole law planned from e run d o end
 text-of whole law (Some takes) planned from e run d o end =
@@ -129,12 +121,17 @@ text-of whole law (Some takes) planned from e run d o end =
     ∙ base-text planned from e (positions_of d.stand) run.base some (few-samples run d planned o.orders end) (begins-upto planned from e run d o.plan o.until o.base end) o.base
 
 -- its checkpoint
-pub bytes-of : (whole : WholeCheckpointIsTheRules) (law : LevelCheckpointIsSerial) (stop_after : Option ℕ) (name : List ℕ) (planned : Planned) (from : Beginning) (e : ℕ) (run : RunView) (d : RaggedEndedView)
+bytes-of : (whole : WholeCheckpointIsTheRules) (law : LevelCheckpointIsSerial) (stop_after : Option ℕ) (name : List ℕ) (planned : Planned) (from : Beginning) (e : ℕ) (run : RunView) (d : RaggedEndedView)
     → run.saves ≡ saves_as stop_after (Some name) → IsRunOf stop_after planned from e run → IsEnd run d → checkpoint run d.stand ≡ bytes_at stop_after planned from e d.stand
 bytes-of whole law None name planned from e run d kind o end = checkpoint-of whole law planned from e run d kind o end
 bytes-of whole law (Some takes) name planned from e run d kind o end =
     ap (λ k. written k run.plan run.orders.samples run.orders.every d.stand) kind
     ∙ ap₂ (λ p (r : Orders). written saves.Ragged p r.samples r.every d.stand) o.plan o.orders
+
+bytes-named : (whole : WholeCheckpointIsTheRules) (law : LevelCheckpointIsSerial) (stop_after : Option ℕ) (name : Option (List ℕ)) (planned : Planned) (from : Beginning) (e : ℕ) (run : RunView) (d : RaggedEndedView)
+    → run.saves ≡ saves_as stop_after name → IsRunOf stop_after planned from e run → IsEnd run d → name ≢ None → checkpoint run d.stand ≡ bytes_at stop_after planned from e d.stand
+bytes-named whole law stop_after None planned from e run d kind o end named = absurd (named refl)
+bytes-named whole law stop_after (Some name) planned from e run d kind o end named = bytes-of whole law stop_after name planned from e run d kind o end
 
 -- the states of one that isn't to stop fit
 fits-end : (planned : Planned) (from : Beginning) (e : ℕ) (run : RunView) (d : RaggedEndedView) → IsRunOf None planned from e run → IsEnd run d
@@ -156,7 +153,7 @@ fits-end planned from e run d o end =
     }
 
 -- where it comes to
-pub run-comes : (stop_after : Option ℕ) (planned : Planned) (from : Beginning) (e : ℕ) (run : RunView) (d : RaggedEndedView) → IsRunOf stop_after planned from e run → IsEnd run d
+run-comes : (stop_after : Option ℕ) (planned : Planned) (from : Beginning) (e : ℕ) (run : RunView) (d : RaggedEndedView) → IsRunOf stop_after planned from e run → IsEnd run d
     → Comes stop_after planned from e d.stand
 run-comes None planned from e run d o end = fits-end planned from e run d o end
 run-comes (Some takes) planned from e run d o end =
@@ -164,10 +161,50 @@ run-comes (Some takes) planned from e run d o end =
     (comes-packed planned e takes run d o.plan o.orders o.until o.takes end)
 
 -- what is written of it
-pub run-gives : (stop_after : Option ℕ) (planned : Planned) (from : Beginning) (e : ℕ) (came : RaggedStand) (P : List ℕ → List ℕ → Type 0) → Comes stop_after planned from e came
+run-gives : (stop_after : Option ℕ) (planned : Planned) (from : Beginning) (e : ℕ) (came : RaggedStand) (P : List ℕ → List ℕ → Type 0) → Comes stop_after planned from e came
     → P (text_at stop_after planned from e came) (bytes_at stop_after planned from e came) → RunGives stop_after planned from e P
 run-gives None planned from e came P comes p = (comes, p)
 run-gives (Some takes) planned from e came P comes p = (came, comes, p)
+
+-- ---- as it is opened
+
+pub saves-named : (stop_after : Option ℕ) (name : Option (List ℕ)) → name ≢ None → saves_as stop_after name ≢ saves.Never
+saves-named stop_after None named = absurd (named refl)
+saves-named None (Some name) named = λ is. absurd cc
+saves-named (Some takes) (Some name) named = λ is. absurd cc
+
+pub own-ready : (planned : Planned) (base : RaggedStand) (e : ℕ) (stop_after : Option ℕ) (name : Option (List ℕ)) (opened : Opened) → IsOpened planned base e stop_after name opened → AreReady name opened
+own-ready planned base e stop_after name opened o =
+    let run = own_run planned base e stop_after name in
+    let S : RunView → Type 0 = λ r. r.saves ≢ saves.Never in
+    record {
+      plans = o.shares ∙ sym (ap plans_of o.runs);
+      saved = λ named. subst (All S) (sym o.runs) (All-cons S run [] (saves-named stop_after name named) (All-nil S));
+    }
+
+-- the end of the run of one bank
+pub one-done : (dones : List DoneView) (run : RunView) → runs_of dones ≡ run ∷ [] → (d : RaggedEndedView) × (dones ≡ record { run = run; ended = d } ∷ [])
+one-done [] run one = absurd (omega (arith, ap length one))
+one-done (x ∷ []) run one =
+    let make : RunView → List DoneView = λ r. record { run = r; ended = x.ended } ∷ [] in
+    (x.ended, ap make (ap (λ rs. get_or rs 0 run) one))
+one-done (x ∷ y ∷ ds) run one = absurd (omega (arith, ap length one))
+
+-- it does the work that is asked for, from each start that its state is packed of
+pub own-work : UnstoppedRunIsWhole → LevelReportIsSerial → WholeCheckpointIsTheRules → LevelCheckpointIsSerial
+    → (planned : Planned) (base : RaggedStand) (e : ℕ) (stop_after : Option ℕ) (name : Option (List ℕ)) (opened : Opened) (from : Beginning) → IsOpened planned base e stop_after name opened
+    → IsBaseOf planned.plan from base → AreRunsOf name (RunWork planned from e stop_after) opened.run
+own-work whole report wholes levels planned base e stop_after name opened from o begun = λ dones are ends.
+    let run = own_run planned base e stop_after name in
+    let one = one-done dones run (are ∙ o.runs) in
+    let d = one.0 in
+    let E : DoneView → Type 0 = λ x. IsEnd x.run x.ended in
+    let end : IsEnd run d = All-head E (record { run = run; ended = d }) [] (subst (All E) one.1 ends) in
+    let is : IsRunOf stop_after planned from e run = record { plan = refl; orders = refl; until = refl; takes = refl; base = begun } in
+    let P : List DoneView → List ℕ → List ℕ → Type 0 = λ ds text bytes. (run_report ds ≡ text) × (name ≢ None → end_checkpoint ds ≡ bytes) in
+    subst (λ ds. RunGives stop_after planned from e (P ds)) (sym one.1)
+    (run-gives stop_after planned from e d.stand (P (record { run = run; ended = d } ∷ [])) (run-comes stop_after planned from e run d is end)
+    (text-of whole report stop_after planned from e run d is end, bytes-named wholes levels stop_after name planned from e run d refl is end))
 
 -- ---- how far a starting state is
 

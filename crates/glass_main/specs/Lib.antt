@@ -23,5 +23,3 @@ pub mod Gathers
 pub mod BankTables
 pub mod Resumes
 pub mod Opened
-pub mod BanksOpened
-pub mod DemoRun

@@ -1,17 +1,21 @@
 -- A run as it is opened, and why it isn't.
-use Rattle.std.specs.Prelude.{◌≡◌, ◌≢◌, ℕ, List, Option, Some, None, unwrap_or, Result}
+use Rattle.std.specs.Prelude.{◌≡◌, ◌≢◌, ℕ, List, [], ◌∷◌, map, All, Option, Some, None, unwrap_or, Result}
 use Rattle.std.specs.Arc.{arc_value}
 use Rattle.spin_model.specs.Limits.{every_take}
 use Rattle.run_checkpoint.specs.Encoding.{AreBankStates}
-use Rattle.glass_engine.specs.Runs.{RunView}
+use Rattle.glass_engine.specs.BankRuns.{bank_runs, plans_of, runs_of, run_report}
+use Rattle.glass_engine.specs.Runs.{RunView, DoneView, IsEnd}
+use Rattle.glass_engine.specs.Saves.{end_checkpoint}
 use Rattle.glass_engine.specs.declared.run.SaveKind.{SaveKind}
 use Rattle.glass_engine.specs.declared.run.SaveKind.TheVariants as saves
 use Rattle.plane_sweep.specs.Uneven.{positions_of}
+use Rattle.plane_sweep.specs.declared.stand.Stand.{Stand}
 use Rattle.plane_sweep.specs.declared.uneven.RaggedStand.{RaggedStand}
 use Rattle.glass_main.specs.Beginnings.{Beginning, run_text, state_at, run_checkpoint, IsBaseOf}
 use Rattle.glass_main.specs.Stops.{ComesTo, stopped_text, stopped_checkpoint}
 use Rattle.glass_main.specs.Endings.{IsOfAmount}
-use Rattle.glass_main.specs.Request.{Work}
+use Rattle.glass_main.specs.ManyBanks.{PlannedBanks}
+use Rattle.glass_main.specs.Request.{Work, Gives}
 use Rattle.glass_main.specs.Statuses.{IsRefusedBy}
 use Rattle.glass_main.specs.declared.refusal.Refusal.{Refusal}
 use Rattle.glass_main.specs.declared.ending.Ending.{Ending}
@@ -30,16 +34,36 @@ saves_as stop_after None = saves.Never
 saves_as None (Some name) = saves.Level
 saves_as (Some takes) (Some name) = saves.Ragged
 
--- the run has the plan, the orders and the epoch that it is to have, makes the hand-outs that it may, and starts from this
--- packed state
+-- the run of one bank that has the plan, the orders and the epoch that it is to have, makes the hand-outs that it may, and starts
+-- from this packed state
+abbrev pub own_run : Planned → RaggedStand → ℕ → Option ℕ → Option (List ℕ) → RunView
+own_run planned base e stop_after name = record {
+  plan = planned.plan;
+  base = base;
+  orders = planned.orders;
+  until = e;
+  takes = takes_of stop_after;
+  saves = saves_as stop_after name;
+}
+
 pub record IsOpened (planned : Planned) (base : RaggedStand) (e : ℕ) (stop_after : Option ℕ) (name : Option (List ℕ)) (opened : Opened) : Type 0 where
-  pub share : arc_value opened.plan ≡ planned.plan
-  pub plan : opened.run.plan ≡ planned.plan
-  pub orders : opened.run.orders ≡ planned.orders
-  pub until : opened.run.until ≡ e
-  pub takes : opened.run.takes ≡ takes_of stop_after
-  pub base_is : opened.run.base ≡ base
-  pub saves_is : opened.run.saves ≡ saves_as stop_after name
+  pub shares : map arc_value opened.plans.items ≡ planned.plan ∷ []
+  pub runs : opened.run ≡ own_run planned base e stop_after name ∷ []
+
+-- the runs are those of several banks from these packed states, which aren't asked to stop
+pub record AreOpened (planned : PlannedBanks) (stands : List Stand) (e : ℕ) (name : Option (List ℕ)) (opened : Opened) : Type 0 where
+  pub shares : map arc_value opened.plans.items ≡ planned.plans
+  pub runs : opened.run ≡ bank_runs planned.plans stands planned.orders e (saves_as None name)
+
+-- runs that can be driven and saved: their plans are those that are shared, and where a checkpoint is to be saved each has it
+pub record AreReady (name : Option (List ℕ)) (opened : Opened) : Type 0 where
+  pub plans : map arc_value opened.plans.items ≡ plans_of opened.run
+  pub saved : name ≢ None → All (λ (run : RunView). run.saves ≢ saves.Never) opened.run
+
+-- these runs do this work: at their end their report is its text, and where it is named their checkpoint its checkpoint
+abbrev pub AreRunsOf : Option (List ℕ) → Work → List RunView → Type 0
+AreRunsOf name work runs = (dones : List DoneView) → runs_of dones ≡ runs → All (λ (d : DoneView). IsEnd d.run d.ended) dones
+    → Gives work (λ text bytes. (run_report dones ≡ text) × (name ≢ None → end_checkpoint dones ≡ bytes))
 
 -- ---- its end
 

@@ -8,28 +8,27 @@ ghost use Rattle.glass_engine.specs.BankLaws.{BanksReportIsSerial, BanksCheckpoi
 ghost use Rattle.run_checkpoint.specs.BankEncoding.{BanksStand, HaveShape};
 ghost use Rattle.scalar_rule.specs.Records.{recorded_epochs};
 ghost use Rattle.scalar_rule.specs.declared.sample.Sample.{Sample};
-ghost use Rattle.glass_main.specs.BanksOpened.{is_named, AreReady, AreRunsOf};
 ghost use Rattle.glass_main.specs.CheckpointBytes.{ResumesBytes};
 ghost use Rattle.command_words.specs.CommandLine as commands;
 ghost use Rattle.glass_main.specs.ManyBanks.{banks_amount_refusal, stands_at, starts_at};
-ghost use Rattle.glass_main.specs.Opened.{IsUnopened};
+ghost use Rattle.glass_main.specs.Opened.{saves_as, AreReady, AreRunsOf, IsUnopened};
 ghost use Rattle.glass_main.specs.Outside.{output, store};
 ghost use Rattle.command_words.specs.ReadCommand.{name_bytes, read_run_order, IsLawfulOrder};
-ghost use Rattle.glass_main.specs.Request.{banks_work, plans_at, has_banks};
+ghost use Rattle.glass_main.specs.Request.{BanksWork, banks_work, plans_at, has_banks};
 ghost use Rattle.glass_main.specs.Resumes.{AreResumable};
 ghost use Rattle.glass_main.specs.Statuses.{Ends};
 
 use crate::asked::Asked;
-use crate::bank_finishing::{OpenedBanks, finish_banks};
 use crate::bank_resuming::gather_stands;
 use crate::ending::Ending;
+use crate::finishing::{Opened, finish};
 use crate::plans::{PlannedBanks, Plans};
 use crate::refusal::Refusal;
 use crate::run::until_of;
 use crate::sheets::sheets_of;
 use command_words::RunOrder;
 use glass_edges::{Gate, NoMemory, Shelf, Sink};
-use glass_engine::{banks_checkpoint_is_serial, banks_report_is_serial, open_banks};
+use glass_engine::{SaveKind, banks_checkpoint_is_serial, banks_report_is_serial, open_banks};
 use plain_list::Items;
 use plane_sweep::Stand;
 use run_plan::{Orders, PlanRefused, check_amount};
@@ -69,7 +68,7 @@ pub(crate) fn run_banks<R: Threads + Wait + Sync, H: Shelf, O: Sink, G: Gate + S
         Ok(opened) => opened,
         Err(ending) => return ending,
     };
-    finish_banks(rt, shelf, out, gate, opened, &order)
+    finish(rt, shelf, out, gate, opened, &order)
 }
 
 // Opens the banks from their states, unless they would print too much.
@@ -79,7 +78,7 @@ fn open_run(
     stands: Items<Stand>,
     until: u64,
     order: &RunOrder<'_>,
-) -> Result<OpenedBanks, Ending>
+) -> Result<Opened, Ending>
     requires stands { AreResumable planned.plans until stands }
     requires until { until ≤ last_epoch }
     requires order { IsLawfulOrder order.now }
@@ -89,7 +88,7 @@ fn open_run(
     // What they print and save is the serial dynamics', from each start that the states are packed of.
     ensures runs { IfOk result (λ opened. BanksReportIsSerial → BanksCheckpointIsSerial
         → (starts : List (ℕ → Sample)) → BanksStand planned.plans starts stands
-        → AreRunsOf planned starts until opened.banks) }
+        → AreRunsOf (name_bytes order.now.save) (BanksWork planned starts until) opened.run) }
     ensures stopped { (starts : List (ℕ → Sample)) → starts_at starts ≡ stands_at stands
         → IfErr result (IsUnopened (banks_work planned until starts)) }
 {
@@ -101,14 +100,10 @@ fn open_run(
     let Ok(sheets) = sheets_of(alloc, order, &plans[0], &orders, from, until) else {
         return Err(Ending::NoMemory);
     };
-    let save = is_saved(order);
+    let save = kind_of(order);
     let stands = stands.into_vec();
     match open_banks(alloc, &plans, &orders, stands, until, order.workers, save) {
-        Ok(banks) => Ok(OpenedBanks {
-            plans,
-            banks,
-            sheets,
-        }),
+        Ok(run) => Ok(Opened { plans, run, sheets }),
         Err(NoMemory) => Err(Ending::NoMemory),
     }
 }
@@ -136,9 +131,12 @@ fn check_banks_amount(
     check_amount(plan, orders, from, until)
 }
 
-// Whether the checkpoint of the run is saved.
-fn is_saved(order: &RunOrder<'_>) -> bool
-    ensures { result ≡ is_named (name_bytes order.now.save) }
+// Which checkpoint the run saves.
+fn kind_of(order: &RunOrder<'_>) -> SaveKind
+    ensures { result ≡ saves_as None (name_bytes order.now.save) }
 {
-    order.save.is_some()
+    match order.save {
+        None => SaveKind::Never,
+        Some(_) => SaveKind::Level,
+    }
 }

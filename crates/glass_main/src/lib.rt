@@ -4,7 +4,6 @@
 mod age;
 mod asked;
 mod average;
-mod bank_finishing;
 mod bank_gathering;
 mod bank_resuming;
 mod bank_run;

@@ -21,7 +21,7 @@ use crate::asked::Asked;
 use crate::bank_gathering::gather_plans;
 use crate::bank_run::run_banks;
 use crate::ending::Ending;
-use crate::finishing::{Opened, finish_run};
+use crate::finishing::{Opened, alone, finish};
 use crate::planned::Planned;
 use crate::plans::Plans;
 use crate::refusal::Refusal;
@@ -29,7 +29,10 @@ use crate::resuming::gather_base;
 use crate::sheets::sheets_of;
 use command_words::RunOrder;
 use glass_edges::{Gate, NoMemory, Shelf, Sink};
-use glass_engine::{SaveKind, open};
+use glass_engine::{
+    SaveKind, level_checkpoint_is_serial, level_report_is_serial, open, unstopped_run_is_whole,
+    whole_checkpoint_is_the_rules,
+};
 use plane_sweep::RaggedStand;
 use run_plan::{Orders, check_amount};
 use scalar_rule::Plan;
@@ -91,6 +94,12 @@ fn run_one<R: Threads + Wait + Sync, H: Shelf, O: Sink, G: Gate + Sync>(
         (output O.Sink out.old) (output O.Sink out.new) }
     ensures bytes { result ≡ Ending.Done → ResumesBytes (name_bytes asked.entry.order.from) (H.holds shelf.old) }
 {
+    // The report and the checkpoint of a run that isn't to stop are those of the rule at its last epoch, and
+    // from states at one epoch those of the serial dynamics.
+    unstopped_run_is_whole();
+    level_report_is_serial();
+    whole_checkpoint_is_the_rules();
+    level_checkpoint_is_serial();
     let Asked { order, planned } = asked;
     let until = until_of(&order, &planned.orders);
     let base = match gather_base(alloc, shelf, &planned, until, order.from) {
@@ -101,7 +110,7 @@ fn run_one<R: Threads + Wait + Sync, H: Shelf, O: Sink, G: Gate + Sync>(
         Ok(opened) => opened,
         Err(ending) => return ending,
     };
-    finish_run(rt, shelf, out, gate, opened, &order)
+    finish(rt, shelf, out, gate, opened, &order)
 }
 
 /// The epoch at which a run ends.
@@ -182,7 +191,8 @@ fn open_planned(
         order.workers,
         kind_of(order),
     )?;
-    Ok(Opened { plan, run, sheets })
+    let plans = alone(alloc, plan)?;
+    Ok(Opened { plans, run, sheets })
 }
 
 // How many hand-outs of a slot the run makes at most.

@@ -6,12 +6,16 @@ use Rattle.scalar_rule.specs.Plan.{Plan, slots_of}
 use Rattle.glass_engine.proofs.BankLoops.{first-len}
 use Rattle.glass_engine.proofs.bank_opening.reserve.Goals as goal
 
-pub returns-clause-room : goal.returns-clause-room
-returns-clause-room c =
+pub returns-in_ok-room-in-Level-clause-room : goal.returns-in_ok-room-in-Level-clause-room
+returns-in_ok-room-in-Level-clause-room c =
     let plans = c.args.plans.now in
     let len = first-len arc_value plans c.index-plans-0.result c.requires.some c.index-plans-0.is in
     let size = ap (λ (p : Plan). p.size) c.deref.ensures in
-    let slots = ap (λ (p : Plan). slots_of p) c.deref-2.ensures in
+    let slots = ap (λ (p : Plan). slots_of p) c.deref-in-Level.ensures in
     let own = c.length-bank.ensures.value in
     let is : bank_len (map arc_value plans) ≡ c.length-bank.result = len ∙ sym (own ∙ search rules) in
-    (c.in_ok-reserve.ensures.empty, let z = ap₂ (λ k n. 44 + k * n) is (length-map plans arc_value) in omega (arith, z, c.in_ok-reserve.ensures.spare))
+    let z = ap₂ (λ k n. 44 + k * n) is (length-map plans arc_value) in
+    record {
+      long = omega (arith, z, c.in_ok-room-in-Level.ensures.spare);
+      empty = c.in_ok-room-in-Level.ensures.empty;
+    }

@@ -1,9 +1,9 @@
 use Rattle.std.specs.Arc.{arc_value}
-use Rattle.std.proofs.Common.{arith, ◌≡◌, ℕ, ◌*◌, ◌≤◌, List, sym, ap, ◌∙◌, subst, length, map}
+use Rattle.std.proofs.Common.{arith, ◌≡◌, ℕ, ◌*◌, ◌≤◌, List, None, sym, ap, ◌∙◌, subst, length, map}
 use Rattle.std.proofs.lemmas.List.{length-map}
 use Rattle.glass_edges.specs.Refusals.{unless}
 use Rattle.glass_engine.proofs.BankStarts.{fit-long}
-use Rattle.glass_engine.specs.BankRuns.{bank_runs, bank_kind, AreBankStarts}
+use Rattle.glass_engine.specs.BankRuns.{bank_runs, AreBankStarts}
 use Rattle.plane_sweep.specs.declared.stand.Stand.{Stand}
 use Rattle.run_checkpoint.specs.BankEncoding.{HaveShape, BanksFit}
 use Rattle.scalar_rule.specs.Records.{recorded_epochs}
@@ -11,11 +11,11 @@ use Rattle.run_plan.specs.declared.run_file.Orders.{Orders}
 use Rattle.scalar_rule.specs.Plan.{Plan}
 use Rattle.glass_main.proofs.Amounts.{refused-amount}
 use Rattle.glass_main.proofs.BankRuns.{first-at, amount-none, banks-told, have-slots, opened-ready, opened-runs}
-use Rattle.glass_main.specs.BanksOpened.{is_named}
+use Rattle.glass_main.specs.Opened.{saves_as}
 use Rattle.glass_main.specs.ManyBanks.{PlannedBanks, banks_amount_refusal, starts_at, stands_at}
 use Rattle.command_words.specs.ReadCommand.{name_bytes}
 use Rattle.glass_main.specs.Request.{BanksWork, banks_work}
-use Rattle.glass_main.specs.declared.bank_finishing.OpenedBanks.{OpenedBanks}
+use Rattle.glass_main.specs.declared.finishing.Opened.{Opened}
 use Rattle.glass_main.proofs.bank_run.open_run.Goals as goal
 
 pub at-requires : goal.at-requires
@@ -115,10 +115,10 @@ pub returns-in-Ok-open_banks-clause-ready : goal.returns-in-Ok-open_banks-clause
 returns-in-Ok-open_banks-clause-ready c =
     let planned = c.args.planned in
     let name = name_bytes c.args.order.now.save in
-    let opened : OpenedBanks = record { plans = c.planned.inside.plans; banks = c.in-Ok-open_banks.banks; sheets = c.in-Ok.sheets } in
+    let opened : Opened = record { plans = c.planned.inside.plans; run = c.in-Ok-open_banks.run'; sheets = c.in-Ok.sheets } in
     let plans = ap (λ (p : PlannedBanks). p.plans) c.planned.view_is in
-    let B : List Plan → List Stand → Orders → Type 0 = λ ps xs o. c.in-Ok-open_banks.banks ≡ bank_runs ps xs o c.args.until (bank_kind (is_named name)) in
-    let b0 = c.in-Ok-open_banks.ensures ∙ ap (λ k. bank_runs (map arc_value c.deref-3.result.now) c.into_vec-stands.result.items c.planned.inside.orders c.args.until (bank_kind k)) c.is_saved-save.ensures in
+    let B : List Plan → List Stand → Orders → Type 0 = λ ps xs o. c.in-Ok-open_banks.run' ≡ bank_runs ps xs o c.args.until (saves_as None name) in
+    let b0 = c.in-Ok-open_banks.ensures ∙ ap (λ k. bank_runs (map arc_value c.deref-3.result.now) c.into_vec-stands.result.items c.planned.inside.orders c.args.until k) c.kind_of-save.ensures in
     let b1 = subst (λ ps. B ps c.into_vec-stands.result.items c.planned.inside.orders) (ap (map arc_value) c.deref-3.ensures.value ∙ plans) b0 in
     let b2 = subst (λ xs. B planned.plans xs c.planned.inside.orders) c.into_vec-stands.ensures b1 in
     let b3 = subst (λ o. B planned.plans c.args.stands o) (ap (λ (p : PlannedBanks). p.orders) c.planned.view_is) b2 in
@@ -128,7 +128,7 @@ pub returns-in-Ok-open_banks-clause-runs : goal.returns-in-Ok-open_banks-clause-
 returns-in-Ok-open_banks-clause-runs c = λ report saving starts packed.
     let planned = c.args.planned in
     let name = name_bytes c.args.order.now.save in
-    let opened : OpenedBanks = record { plans = c.planned.inside.plans; banks = c.in-Ok-open_banks.banks; sheets = c.in-Ok.sheets } in
+    let opened : Opened = record { plans = c.planned.inside.plans; run = c.in-Ok-open_banks.run'; sheets = c.in-Ok.sheets } in
     let view = ap (λ (p : PlannedBanks). length p.plans) c.planned.view_is in
     let own = length-map c.planned.inside.plans.items arc_value in
     let count = c.planned.invariant.count in
@@ -139,8 +139,8 @@ returns-in-Ok-open_banks-clause-runs c = λ report saving starts packed.
     let S : List Plan → Type 0 = λ ps. HaveShape shape.size shape.slots ps in
     let some = c.in_default.ensures.slots shape.size shape.slots (subst S (sym items) shape.shape) in
     let few = ap (λ (p : PlannedBanks). p.orders.samples) c.planned.view_is in
-    let B : List Plan → List Stand → Orders → Type 0 = λ ps xs o. c.in-Ok-open_banks.banks ≡ bank_runs ps xs o c.args.until (bank_kind (is_named name)) in
-    let b0 = c.in-Ok-open_banks.ensures ∙ ap (λ k. bank_runs (map arc_value c.deref-3.result.now) c.into_vec-stands.result.items c.planned.inside.orders c.args.until (bank_kind k)) c.is_saved-save.ensures in
+    let B : List Plan → List Stand → Orders → Type 0 = λ ps xs o. c.in-Ok-open_banks.run' ≡ bank_runs ps xs o c.args.until (saves_as None name) in
+    let b0 = c.in-Ok-open_banks.ensures ∙ ap (λ k. bank_runs (map arc_value c.deref-3.result.now) c.into_vec-stands.result.items c.planned.inside.orders c.args.until k) c.kind_of-save.ensures in
     let b1 = subst (λ ps. B ps c.into_vec-stands.result.items c.planned.inside.orders) (ap (map arc_value) c.deref-3.ensures.value ∙ plans) b0 in
     let b2 = subst (λ xs. B planned.plans xs c.planned.inside.orders) c.into_vec-stands.ensures b1 in
     let b3 = subst (λ o. B planned.plans c.args.stands o) (ap (λ (p : PlannedBanks). p.orders) c.planned.view_is) b2 in

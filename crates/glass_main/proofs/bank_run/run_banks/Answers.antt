@@ -59,16 +59,16 @@ returns-clause-ends g c =
     let B : ℕ → Type 0 = λ e. Begins order.from (BanksStand planned.plans) (option_map (banks_beginning_at order.from planned e) (g.H.Shelf.holds c.args.shelf.now)) (Ok stands) (store g.H.Shelf c.args.shelf.now) (store g.H.Shelf c.gather_stands.new.shelf) in
     let begun = has-begun order (Banks planned) (banks_beginning_at order.from planned e) (banks_work planned e) (λ files. refl) (BanksStand planned.plans) stands _ _ c.requires.planned (subst B same c.in-Ok.ensures.asked) in
     let W : ℕ → Type 0 = λ e. (starts : List (ℕ → Sample)) → BanksStand planned.plans starts stands
-    → Wrote order.save (Some (Ok (BanksWork planned starts e))) c.finish_banks.result (store g.H.Shelf c.gather_stands.new.shelf) (store g.H.Shelf c.finish_banks.new.shelf)
-    (output g.O.Sink c.args.out.now) (output g.O.Sink c.finish_banks.new.out) in
-    let wrote : W until = λ starts b. c.finish_banks.ensures.wrote planned starts until
+    → Wrote order.save (Some (Ok (BanksWork planned starts e))) c.finish.result (store g.H.Shelf c.gather_stands.new.shelf) (store g.H.Shelf c.finish.new.shelf)
+    (output g.O.Sink c.args.out.now) (output g.O.Sink c.finish.new.out) in
+    let wrote : W until = λ starts b. c.finish.ensures.wrote (BanksWork planned starts until)
     (c.in-Ok-open_run.ensures.runs c.banks_report_is_serial.ensures c.banks_checkpoint_is_serial.ensures starts b) in
     let none : (starts : List (ℕ → Sample)) → BanksStand planned.plans starts stands → banks_amount_refusal planned.plans planned.orders (starts_at starts) e ≡ None =
     λ starts b. ap (λ k. banks_amount_refusal planned.plans planned.orders k e) (stand-epoch planned.plans starts stands b)
     ∙ ap (banks_amount_refusal planned.plans planned.orders (stands_at stands)) (sym same) ∙ c.in-Ok-open_run.ensures.accepted in
     ends-finished order (Banks planned) (banks_beginning_at order.from planned e) (banks_work planned e) (λ files. refl) (BanksStand planned.plans) stands (λ starts. BanksWork planned starts e)
-    (λ starts b. banks-accepted planned e starts (none starts b)) c.finish_banks.result _ _ _ _ _ begun c.finish_banks.ensures.ending
-    c.finish_banks.ensures.out c.finish_banks.ensures.files (subst W same wrote) c.finish_banks.ensures.later_store c.finish_banks.ensures.later
+    (λ starts b. banks-accepted planned e starts (none starts b)) c.finish.result _ _ _ _ _ begun c.finish.ensures.ending
+    c.finish.ensures.out c.finish.ensures.files (subst W same wrote) c.finish.ensures.later_store c.finish.ensures.later
 
 pub returns-in-Err-clause-bytes : goal.returns-in-Err-clause-bytes
 returns-in-Err-clause-bytes g c = begins-undone _ _ _ _ _ _ _ c.in-Err.ensures.asked

@@ -1,15 +1,20 @@
-use Rattle.std.proofs.Common.{◌≡◌, ap, sym, ◌∙◌, subst, lit<, arith}
+use Rattle.std.proofs.Common.{map, refl, ap, sym, ◌∙◌, subst, lit<, arith}
+use Rattle.std.specs.Arc.{arc_value}
+use Rattle.spin_model.specs.Limits.{every_take}
+use Rattle.glass_engine.specs.BankRuns.{plans_of}
+use Rattle.glass_engine.specs.declared.run.SaveKind.TheVariants as saves
 use Rattle.glass_engine.specs.Runs.{RunView}
 use Rattle.glass_engine.specs.Summary.{BeginsLevel}
 use Rattle.plane_sweep.specs.Uneven.{RaggedStandFits}
-use Rattle.run_plan.specs.DemoPlan.{demo_orders}
 use Rattle.run_plan.specs.declared.run_file.Orders.{Orders}
 use Rattle.scalar_rule.specs.Opening.{opening}
 use Rattle.scalar_rule.specs.Plan.{Plan}
+use Rattle.scalar_rule.specs.Records.{is_recorded}
 use Rattle.scalar_rule.specs.declared.sample.Start.TheVariants.{Random}
 use Rattle.glass_main.proofs.DemoRuns.{some-slots, begins-opening}
 use Rattle.glass_main.proofs.OpenedRuns.{opening-deep}
 use Rattle.glass_main.proofs.demo.open_demo.Goals as goal
+use Rattle.glass_main.proofs.demo.open_demo.Goals.{In_ok-plans}
 
 pub open-requires-clause-base : goal.open-requires-clause-base
 open-requires-clause-base c =
@@ -24,18 +29,35 @@ open-requires-clause-reach c =
     let deep = opening-deep c.in_ok-plan.plan _ c.in_ok-stand.stand c.in_ok-base.base some c.in_ok-stand.ensures.fits c.in_ok-stand.ensures.opening c.in_ok-base.ensures.level in
     omega (arith, deep)
 
+-- the run as it is opened
+abbrev run : (c : In_ok-plans) → RunView
+run c = record {
+  plan = arc_value c.in_ok-plan-2.plan;
+  base = c.in_ok-base.base;
+  orders = c.in_ok-plan.orders;
+  until = c.in_ok-plan.orders.epochs;
+  takes = every_take;
+  saves = saves.Never;
+}
+
+pub returns-clause-share : goal.returns-clause-share
+returns-clause-share c =
+    ap (map arc_value) c.in_ok-plans.ensures ∙ sym (ap plans_of c.in_ok-run.ensures)
+
 pub returns-clause-run : goal.returns-clause-run
 returns-clause-run c =
-    let is = c.in_ok-run.ensures in
-    let made = c.in_ok-plan.ensures.plan in
-    let plan : c.in_ok-run.run'.plan ≡ c.in_ok-plan.plan = ap (λ (r : RunView). r.plan) is ∙ c.in_ok-plan-2.ensures.ok in
-    let orders : c.in_ok-run.run'.orders ≡ demo_orders = ap (λ (r : RunView). r.orders) is ∙ c.in_ok-plan.ensures.orders in
-    let begins = begins-opening c.in_ok-plan.plan c.in_ok-plan.orders.start c.in_ok-stand.stand c.in_ok-run.run' plan (ap (λ (r : RunView). r.base) is ∙ c.in_ok-base.ensures.level) c.in_ok-stand.ensures.fits c.in_ok-stand.ensures.opening in
+    let run : RunView = run (goal.at.returns-clause-run c).In_ok-plans in
+    let orders = c.in_ok-plan.ensures.orders in
+    let begins = begins-opening c.in_ok-plan.plan c.in_ok-plan.orders.start c.in_ok-stand.stand run c.in_ok-plan-2.ensures.ok c.in_ok-base.ensures.level c.in_ok-stand.ensures.fits c.in_ok-stand.ensures.opening in
     record {
-      plan = plan ∙ made;
-      orders = orders;
-      until = ap (λ (r : RunView). r.until) is ∙ ap (λ (o : Orders). o.epochs) c.in_ok-plan.ensures.orders;
-      takes = ap (λ (r : RunView). r.takes) is;
-      begins = subst (λ (p : Plan). BeginsLevel c.in_ok-run.run' (opening p Random 0)) made
-          (subst (λ (o : Orders). BeginsLevel c.in_ok-run.run' (opening c.in_ok-plan.plan o.start 0)) c.in_ok-plan.ensures.orders begins);
+      run = run;
+      one = c.in_ok-run.ensures;
+      plan_is = c.in_ok-plan-2.ensures.ok ∙ c.in_ok-plan.ensures.plan;
+      begins = subst (λ (p : Plan). BeginsLevel run (opening p Random 0)) c.in_ok-plan.ensures.plan
+          (subst (λ (o : Orders). BeginsLevel run (opening c.in_ok-plan.plan o.start 0)) orders begins);
+      takes = refl;
+      samples = ap (λ (o : Orders). o.samples) orders;
+      until = ap (λ (o : Orders). o.epochs) orders;
+      some = omega arith;
+      recorded = ap (λ (o : Orders). is_recorded o.every 15) orders;
     }

@@ -3,7 +3,7 @@ use Rattle.plane_sweep.specs.Uneven.{positions_of}
 use Rattle.run_plan.specs.Amounts.{amount_refusal}
 use Rattle.scalar_rule.specs.Positions.{floor_of}
 use Rattle.glass_main.proofs.OneBank.{base-accepted}
-use Rattle.glass_main.proofs.OpenedRuns.{run-of}
+use Rattle.glass_main.proofs.OpenedRuns.{own-ready, own-work}
 use Rattle.glass_main.proofs.ReadBytes.{begins-undone}
 use Rattle.glass_main.proofs.RunEndings.{has-begun, ends-unbegun, ends-unopened, ends-finished}
 use Rattle.glass_main.proofs.StoppedRuns.{base-floor}
@@ -54,13 +54,19 @@ returns-clause-ends g c =
     let begun = has-begun order (One planned) (beginning_at order.from planned e) (run_work order.stop_after planned e) (λ files. refl) (IsBaseOf planned.plan) base _ _ c.requires.planned (subst B same c.in-Ok.ensures.asked) in
     let A : ℕ → Type 0 = λ e. amount_refusal planned.plan planned.orders (floor_of (positions_of base)) e ≡ None in
     let W : ℕ → Type 0 = λ e. (from : Beginning) → IsBaseOf planned.plan from base
-    → Wrote order.save (Some (Ok (RunWork planned from e order.stop_after))) c.finish_run.result (store g.H.Shelf c.gather_base.new.shelf) (store g.H.Shelf c.finish_run.new.shelf)
-    (output g.O.Sink c.args.out.now) (output g.O.Sink c.finish_run.new.out) in
-    let wrote : W until = λ from b. c.finish_run.ensures.wrote planned from until (run-of order.stop_after planned base until order.save c.in-Ok-open_run.opened from c.in-Ok-open_run.ensures.opened b) in
+    → Wrote order.save (Some (Ok (RunWork planned from e order.stop_after))) c.finish.result (store g.H.Shelf c.gather_base.new.shelf) (store g.H.Shelf c.finish.new.shelf)
+    (output g.O.Sink c.args.out.now) (output g.O.Sink c.finish.new.out) in
+    let wrote : W until = λ from b. c.finish.ensures.wrote (RunWork planned from until order.stop_after)
+    (own-work c.unstopped_run_is_whole.ensures c.level_report_is_serial.ensures c.whole_checkpoint_is_the_rules.ensures c.level_checkpoint_is_serial.ensures planned base until order.stop_after order.save c.in-Ok-open_run.opened from c.in-Ok-open_run.ensures.opened b) in
     let none : A e = subst A same c.in-Ok-open_run.ensures.accepted in
     ends-finished order (One planned) (beginning_at order.from planned e) (run_work order.stop_after planned e) (λ files. refl) (IsBaseOf planned.plan) base (λ from. RunWork planned from e order.stop_after)
-    (λ from b. base-accepted order.stop_after planned base e from c.in-Ok.ensures.resumable.some b none) c.finish_run.result _ _ _ _ _ begun c.finish_run.ensures.ending
-    c.finish_run.ensures.out c.finish_run.ensures.files (subst W same wrote) c.finish_run.ensures.later_store c.finish_run.ensures.later
+    (λ from b. base-accepted order.stop_after planned base e from c.in-Ok.ensures.resumable.some b none) c.finish.result _ _ _ _ _ begun c.finish.ensures.ending
+    c.finish.ensures.out c.finish.ensures.files (subst W same wrote) c.finish.ensures.later_store c.finish.ensures.later
 
 pub returns-in-Err-clause-bytes : goal.returns-in-Err-clause-bytes
 returns-in-Err-clause-bytes g c = begins-undone _ _ _ _ _ _ _ c.in-Err.ensures.asked
+
+pub finish-requires-clause-ready : goal.finish-requires-clause-ready
+finish-requires-clause-ready g c κs within =
+    let order = read_run_order c.args.asked.order in
+    own-ready c.args.asked.planned c.in-Ok.base c.until_of-until.result order.stop_after order.save c.in-Ok-open_run.opened c.in-Ok-open_run.ensures.opened

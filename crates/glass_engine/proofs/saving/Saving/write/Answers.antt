@@ -3,7 +3,7 @@ use Rattle.std.proofs.lemmas.List.{length-append}
 use Rattle.run_checkpoint.specs.Encoding.{FitsKind}
 use Rattle.run_checkpoint.specs.declared.kinds.Kind.TheVariants as kinds
 use Rattle.run_checkpoint.proofs.UnevenForm.{kind-length}
-use Rattle.glass_engine.specs.KeptSaving.{HasRoom, EndsAs}
+use Rattle.glass_engine.specs.KeptSaving.{bank_need, limit_of, HasRoom, EndsAs}
 use Rattle.glass_engine.proofs.Savings.{uneven-room, flattened-fits}
 use Rattle.glass_engine.proofs.saving.Saving.write.Goals as goal
 
@@ -13,18 +13,18 @@ encode-requires-clause-fits c =
 
 pub encode-requires-in-Ragged-clause-spare : goal.encode-requires-in-Ragged-clause-spare
 encode-requires-in-Ragged-clause-spare c =
-    let room = subst (HasRoom c.args.plan.now c.args.samples) c.in-Ragged.is c.requires.room in
+    let room = subst (HasRoom (bank_need c.args.plan.now c.args.samples)) c.in-Ragged.is c.requires.room in
     omega (arith, room.long, ap length room.empty, uneven-room c.args.plan.now c.args.samples c.args.every c.args.stand.now c.requires.fits)
 
-pub returns-in-Level-clause-long : goal.returns-in-Level-clause-long
-returns-in-Level-clause-long c =
-    let room = subst (HasRoom c.args.plan.now c.args.samples) c.in-Level.is c.requires.room in
+pub returns-in-Level-clause-limit : goal.returns-in-Level-clause-limit
+returns-in-Level-clause-limit c =
     let written = ap length c.encode.ensures.bytes ∙ length-append c.in-Level.room.bytes _ in
     let fits : FitsKind kinds.Level c.args.plan.now c.args.stand.now = (subst (λ s. EndsAs s c.args.stand.now) c.in-Level.is c.requires.level, flattened-fits c.args.plan.now c.args.samples c.args.every c.args.stand.now c.lattice.ensures.lawful c.requires.fits) in
-    omega (arith, room.long, ap length room.empty, written, c.encode.ensures.spare, kind-length kinds.Level c.args.plan.now c.args.stand.now c.lattice.ensures.lawful fits)
+    let was = ap limit_of c.in-Level.is in
+    omega (arith, was, written, c.encode.ensures.spare, kind-length kinds.Level c.args.plan.now c.args.stand.now c.lattice.ensures.lawful fits)
 
-pub returns-in-Ragged-clause-long : goal.returns-in-Ragged-clause-long
-returns-in-Ragged-clause-long c =
-    let room = subst (HasRoom c.args.plan.now c.args.samples) c.in-Ragged.is c.requires.room in
+pub returns-in-Ragged-clause-limit : goal.returns-in-Ragged-clause-limit
+returns-in-Ragged-clause-limit c =
     let written = ap length c.encode-in-Ragged.ensures.bytes ∙ length-append c.in-Ragged.room.bytes _ in
-    omega (arith, room.long, ap length room.empty, written, c.encode-in-Ragged.ensures.spare, kind-length (kinds.Uneven c.args.samples c.args.every) c.args.plan.now c.args.stand.now c.lattice.ensures.lawful c.requires.fits)
+    let was = ap limit_of c.in-Ragged.is in
+    omega (arith, was, written, c.encode-in-Ragged.ensures.spare, kind-length (kinds.Uneven c.args.samples c.args.every) c.args.plan.now c.args.stand.now c.lattice.ensures.lawful c.requires.fits)
