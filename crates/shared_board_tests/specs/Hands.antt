@@ -6,6 +6,9 @@ use Rattle.turn_cell.specs.Seats.{seat_view, IsSeatOf, IsIdle}
 use Rattle.turn_cell.specs.declared.pass.Pass.{Pass}
 use Rattle.turn_cell.specs.declared.view.View.{View}
 use Rattle.exchange_board.specs.declared.origin.Origin.{Origin}
+use Rattle.exchange_board.specs.declared.board.Next.TheVariants as nexts
+use Rattle.exchange_board.specs.declared.board.NextPair.{NextPair}
+use Rattle.exchange_board.specs.declared.board.NextPair.TheVariants as pairs
 use Rattle.exchange_board.specs.Content.{plan_of}
 use Rattle.exchange_board.specs.Views.{BoardView, JobView}
 use Rattle.shared_board.specs.Turns.{IsAmong}
@@ -37,10 +40,23 @@ abbrev pub seat_of : Bool → Seat → Seat → Seat
 seat_of false p q = p
 seat_of true p q = q
 
+-- the seat has nothing but these two partners in work, of a board of this plan
+pub record HasPair (plan : Plan) (j : JobView) (p : Seat) : Type 0 where
+  pub free : (seat_view p).holding ≡ false
+  pub work : (seat_view p).out ≡ (j.slot + 1, j.epoch) ∷ (j.slot, j.epoch) ∷ []
+  pub base : (seat_view p).base ≡ Some j.origin
+  pub plan_is : plan_of j.origin ≡ plan
+
 -- the seat has this slot in work
 pub record HasInWork (j : JobView) (p : Seat) : Type 0 where
   pub work : IsAmong (j.slot, j.epoch) (seat_view p).out
   pub base : (seat_view p).base ≡ Some j.origin
+
+-- where the seat was given one slot it has that in work, of a board of this plan
+abbrev pub IsGivenOne : TableId → Plan → NextPair → Seat → Type 0
+IsGivenOne id plan (pairs.Single (nexts.Job j)) p =
+    IsSeatOf id p × ((seat_view p).holding ≡ false) × HasInWork j p × (plan_of j.origin ≡ plan)
+IsGivenOne id plan next p = Unit {0}
 
 -- each of these slots is in work with the first seat, or with the second where its mark is set
 abbrev pub AreEach : List (Bool × JobView) → Seat → Seat → Type 0

@@ -6,4 +6,6 @@ mod boards;
 #[cfg(test)]
 mod events;
 #[cfg(test)]
+mod pairs;
+#[cfg(test)]
 mod seats;

@@ -54,8 +54,8 @@ pub(super) enum Pause {
     Stopped,
 }
 
-// The slot that a seat takes.
-fn job_by<R: Wait + Abort>(rt: &R, board: &SharedBoard, seat: &mut BoardPass, tries: bool) -> Job
+/// The slot that a seat takes.
+pub(super) fn job_by<R: Wait + Abort>(rt: &R, board: &SharedBoard, seat: &mut BoardPass, tries: bool) -> Job
     requires own { IsSeatOf (lock_id board.now) seat.old }
     requires free { (seat_view seat.old).holding ≡ false }
     ensures own { IsSeatOf (lock_id board.now) seat.new }
@@ -106,8 +106,8 @@ fn pause_by<R: Wait + Abort>(
     }
 }
 
-// The sweeps of a slot that a seat has in work, and its hand-back.
-fn bring_by<R: Threads + Wait + Sync + Abort>(
+/// The sweeps of a slot that a seat has in work, and its hand-back.
+pub(super) fn bring_by<R: Threads + Wait + Sync + Abort>(
     rt: &R,
     shared: &Shared,
     seat: &mut BoardPass,
@@ -133,7 +133,7 @@ fn bring_by<R: Threads + Wait + Sync + Abort>(
     }
 }
 
-// The same, with this answer.
+// The hand-back of a slot, which has this answer.
 fn comes_back_by<R: Threads + Wait + Sync + Abort>(
     rt: &R,
     shared: &Shared,
