@@ -79,13 +79,28 @@ fn partners_come_back_as_one_asks_for_more(rt: HostRuntime) -> Result<(), Fail> 
     };
     let pair = partners(&rt, &shared, &mut p);
     let last = job_by(&rt, &board, &mut q, false);
-    holds(&rt, "the slot without a partner", 2, last.slot() == 2 && last.epoch() == 0);
+    holds(
+        &rt,
+        "the slot without a partner",
+        2,
+        last.slot() == 2 && last.epoch() == 0,
+    );
     let swept = pair.sweep(&rt, &plan, 1);
     let next = board.settle_pair(&rt, &mut p, swept, ALL);
     let behind = alone_comes_back(&rt, &shared, &mut p, next);
-    holds(&rt, "the slot behind them", 0, behind.slot < 2 && behind.epoch == 1);
+    holds(
+        &rt,
+        "the slot behind them",
+        0,
+        behind.slot < 2 && behind.epoch == 1,
+    );
     let answer = bring_by(&rt, &shared, &mut q, last, false);
-    holds(&rt, "the answer to the slot without a partner", 2, answer == Arrival::Alone);
+    holds(
+        &rt,
+        "the answer to the slot without a partner",
+        2,
+        answer == Arrival::Alone,
+    );
     Ok(())
 }
 

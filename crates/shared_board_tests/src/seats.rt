@@ -55,7 +55,12 @@ pub(super) enum Pause {
 }
 
 /// The slot that a seat takes.
-pub(super) fn job_by<R: Wait + Abort>(rt: &R, board: &SharedBoard, seat: &mut BoardPass, tries: bool) -> Job
+pub(super) fn job_by<R: Wait + Abort>(
+    rt: &R,
+    board: &SharedBoard,
+    seat: &mut BoardPass,
+    tries: bool,
+) -> Job
     requires own { IsSeatOf (lock_id board.now) seat.old }
     requires free { (seat_view seat.old).holding ≡ false }
     ensures own { IsSeatOf (lock_id board.now) seat.new }
