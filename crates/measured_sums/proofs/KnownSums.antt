@@ -6,8 +6,8 @@ use Rattle.measured_sums.specs.MeasuredSums.{Observed, Number, Energies, EnergyS
 use Rattle.measured_sums.specs.RunningSums.{RunningSums, behind_epoch, no_sums}
 
 -- both energies, and the overlap 64 less twice a number of sites
-abbrev row : ℕ → ℕ → ℕ → Observed
-row first second differing = record {
+abbrev report_row : ℕ → ℕ → ℕ → Observed
+report_row first second differing = record {
   first_energy = neg_ℤ (pos first);
   second_energy = neg_ℤ (pos second);
   field = λ i. if nat_lt i differing then neg_ℤ (pos 1) else pos 1;
@@ -16,10 +16,10 @@ row first second differing = record {
 -- the overlaps -10, -14, -6 and -14, of which every one or each other one is measured
 abbrev glass : ℕ → RunningSums
 glass every =
-    behind_epoch every 4 3 (row 82 46 39)
-    (behind_epoch every 4 2 (row 86 70 35)
-    (behind_epoch every 4 1 (row 78 78 39)
-    (behind_epoch every 4 0 (row 54 66 37) no_sums)))
+    behind_epoch every 4 3 (report_row 82 46 39)
+    (behind_epoch every 4 2 (report_row 86 70 35)
+    (behind_epoch every 4 1 (report_row 78 78 39)
+    (behind_epoch every 4 0 (report_row 54 66 37) no_sums)))
 
 abbrev shown : ℕ → ℕ → List ℤ
 shown every k =
