@@ -1,7 +1,7 @@
 #!/usr/bin/env python3
 """Runs the commands of manual pages, and compares what they print with what the pages show.
 
-    python3 tests/pages.py PROGRAM [PAGE ..]        all pages of docs/manual but ON_DEMAND below, where none is named
+    python3 tests/pages.py PROGRAM [PAGE ..]        all pages of docs/manual, where none is named
     python3 tests/pages.py --not-run                the blocks of docs/manual that it leaves out, each with its reason
     python3 tests/pages.py --self-test
 
@@ -14,8 +14,11 @@ An indented block whose first line begins with "$ " has commands behind that mar
 Behind a line `<!-- not run: REASON -->` the next block of commands is left out. Behind `<!-- differs: PATTERN -->` the
 next shown block is compared without what the pattern finds, in it and in what is printed, as times and names of machines.
 
-The folder is a new one with the program as ./glass, which is also found as glass, the tools, and copies of the examples.
-Commands begin there, or in the folder of it that a line `<!-- commands begin in FOLDER -->` names.
+The folder is a new one with the program as ./glass, which is also found as glass, the tools, and copies of the examples
+and of the manual. Commands begin there, or in the folder of it that a line `<!-- commands begin in FOLDER -->` names.
+
+Pages with the line `<!-- needs arrays -->` have as python3 the first Python with numpy, scipy, matplotlib and h5py. Where
+none has them these pages are skipped, with a line.
 
 Status: 0 where all is as the pages say, 1 where something is not, with a line a fault, 2 for a wrong word."""
 import os
@@ -25,12 +28,11 @@ import subprocess
 import sys
 import tempfile
 from pathlib import Path
-from typing import Iterator, List, NamedTuple, Tuple
+from typing import Iterator, List, NamedTuple, Optional, Tuple
 
 TOP = Path(__file__).resolve().parent.parent
 MANUAL = "docs/manual"
-# It needs numpy, scipy, matplotlib and h5py, and takes a minute and a half of processor time.
-ON_DEMAND = ("docs/manual/from_rows_to_figures.md",)
+NEEDS_ARRAYS = "<!-- needs arrays -->"
 BEGIN = re.compile(r"^<!-- commands begin in (\S+) -->$", re.MULTILINE)
 NOT_RUN = re.compile(r"<!-- not run: (.+) -->")
 DIFFERS = re.compile(r"<!-- differs: (.+) -->")
@@ -150,6 +152,24 @@ def prepare(folder: Path, program: Path) -> None:
     # A copy, since a tool looks for the program beside its own folder.
     shutil.copytree(TOP / "tools", folder / "tools", ignore=shutil.ignore_patterns("__pycache__"))
     shutil.copytree(TOP / "examples", folder / "examples")
+    shutil.copytree(TOP / MANUAL, folder / MANUAL)
+
+
+def named_python3(folder: Path, python: str) -> None:
+    """Leaves a command of this name that is another Python; a link to one of a virtual environment would lose its packages."""
+    command = folder / "python3"
+    command.write_text(f'#!/bin/sh\nexec "{python}" "$@"\n')
+    command.chmod(0o755)
+
+
+def python_with_arrays() -> Optional[str]:
+    """The first Python that has what the tools for figures need."""
+    for name in ("python3", "/usr/bin/python3"):
+        found = shutil.which(name)
+        if found and subprocess.run([found, "-c", "import h5py, matplotlib, numpy, scipy"], stderr=subprocess.DEVNULL,
+                                    check=False).returncode == 0:
+            return found
+    return None
 
 
 def self_test() -> int:
@@ -193,15 +213,22 @@ def main(words: List[str]) -> int:
         print("pages: name the program, and pages behind it; --help says more", file=sys.stderr)
         return 2
     found: List[str] = []
-    chosen = words[1:] or [name for name in pages if name not in ON_DEMAND]
-    for name in chosen:
+    python, passed = python_with_arrays(), []
+    for name in words[1:] or pages:
+        page = (TOP / name).read_text(encoding="utf-8")
+        if NEEDS_ARRAYS in page and python is None:
+            print(f"pages: {name} is skipped: no Python has numpy, scipy, matplotlib and h5py")
+            continue
+        passed.append(name)
         with tempfile.TemporaryDirectory() as folder:
             prepare(Path(folder), Path(words[0]))
-            found += faults(name, (TOP / name).read_text(encoding="utf-8"), Path(folder))
+            if NEEDS_ARRAYS in page:
+                named_python3(Path(folder), str(python))
+            found += faults(name, page, Path(folder))
     for fault in found:
         print(fault, file=sys.stderr)
     if not found:
-        print(f"pages: passed, {', '.join(chosen)}")
+        print(f"pages: passed, {', '.join(passed)}")
     return 1 if found else 0
 
 
