@@ -70,7 +70,7 @@ gathers_fetched role name held holds before now lengths later_lengths limit (ans
     rw is (record {
       found = tt;
       passed = tt;
-      stopped = (((refl, past), bytes-too_many role held name n past (long n refl)), quiet (λ e. search rules), (name, subst (λ m. IfSome (lengths name m) (λ told. n ≡ told)) most (length_told n refl)));
+      stopped = (((refl, past), bytes-too_many role held name n past (long n refl)), quiet (λ e. search rules), record { name = name; long = long n refl; told = subst (λ m. IfSome (lengths name m) (λ told. n ≡ told)) most (length_told n refl) });
       same = same;
       lengths = stay;
       later = later;

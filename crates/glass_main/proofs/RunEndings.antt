@@ -25,16 +25,16 @@ same-store a b holds faults lengths =
     ap₂ first holds faults ∙ ap second lengths
 
 -- the refusal of an amount tells no length
-amount-tells : (lengths : List ℕ → ℕ → Option ℕ) (told : Refusal) → IsOfAmount told → TellsLength lengths told
-amount-tells lengths refused.Words h = tt
-amount-tells lengths (refused.Absent role) h = tt
-amount-tells lengths (refused.TooLong role n) h = absurd h
-amount-tells lengths (refused.Plan e) h = tt
-amount-tells lengths (refused.Rules e) h = tt
-amount-tells lengths (refused.Swaps e) h = tt
-amount-tells lengths (refused.Couplings e) h = tt
-amount-tells lengths (refused.Checkpoint e) h = tt
-amount-tells lengths (refused.Report e) h = tt
+amount-tells : (held : Option Files) (lengths : List ℕ → ℕ → Option ℕ) (told : Refusal) → IsOfAmount told → TellsLength held lengths told
+amount-tells held lengths refused.Words h = tt
+amount-tells held lengths (refused.Absent role) h = tt
+amount-tells held lengths (refused.TooLong role n) h = absurd h
+amount-tells held lengths (refused.Plan e) h = tt
+amount-tells held lengths (refused.Rules e) h = tt
+amount-tells held lengths (refused.Swaps e) h = tt
+amount-tells held lengths (refused.Couplings e) h = tt
+amount-tells held lengths (refused.Checkpoint e) h = tt
+amount-tells held lengths (refused.Report e) h = tt
 
 some-free : {A : Type 0} (x : Option A) (P : A → Type 0) → ((a : A) → P a) → IfSome x P
 some-free None P p = tt
@@ -137,7 +137,7 @@ module _ (order : RunOrder) (plans : Plans) {A : Type 0} (step : Files → Resul
       out = refl;
       files = (refl, refl);
       wrote = tt;
-      length = amount-tells held.lengths told amount.0;
+      length = amount-tells held.holds held.lengths told amount.0;
       later = (omega arith, omega arith);
     }
     unopened any (Unread role) held before h amount stops = absurd amount

@@ -1,6 +1,6 @@
 -- Which endings words may have, over any store: what holds also where no file is observable.
 use Rattle.std.specs.Prelude.{◌≡◌, ◌≢◌, ◌⊎◌, ℕ, ◌<◌, Bool, true, false, List, Option, Some, None, option_map, IfSome, Err}
-use Rattle.glass_edges.specs.Contents.{Files}
+use Rattle.glass_edges.specs.Contents.{Files, HoldsAtLeast}
 use Rattle.spin_model.specs.Limits.{last_epoch, most_rows}
 use Rattle.coupling_set.specs.CouplingsFile.{couplings_in}
 use Rattle.coupling_set.specs.declared.refused.CouplingsRefused.{CouplingsRefused}
@@ -90,10 +90,17 @@ abbrev pub IsOfOneEpoch : Refusal → Type 0
 IsOfOneEpoch (refused.Checkpoint e) = (plan : rule.Plan) × (bytes : List ℕ) × (level_refusal plan last_epoch bytes ≡ Some e)
 IsOfOneEpoch told = Unit {0}
 
--- a length that is told of a file is the one that a fetch of it answers, where the store says that beforehand
-abbrev pub TellsLength : (List ℕ → ℕ → Option ℕ) → Refusal → Type 0
-TellsLength lengths (refused.TooLong role n) = (name : List ℕ) × IfSome (lengths name (limit_of role)) (λ length. n ≡ length)
-TellsLength lengths told = Unit {0}
+-- a length that is told is of a file that the store holds: that file is at least so long, where the files are observable. Where the store
+-- says beforehand which length a fetch of that file tells, it is that one
+pub record IsLengthOf (held : Option Files) (lengths : List ℕ → ℕ → Option ℕ) (limit count : ℕ) : Type 0 where
+  pub name : List ℕ
+  pub long : HoldsAtLeast held name count
+  pub told : IfSome (lengths name limit) (λ length. count ≡ length)
+
+-- a length is told as a fetch answers it
+abbrev pub TellsLength : Option Files → (List ℕ → ℕ → Option ℕ) → Refusal → Type 0
+TellsLength held lengths (refused.TooLong role n) = IsLengthOf held lengths (limit_of role) n
+TellsLength held lengths told = Unit {0}
 
 -- a refusal of what a run prints; the amount that is told is above its limit
 abbrev pub IsOfAmount : Refusal → Type 0
