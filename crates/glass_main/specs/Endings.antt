@@ -85,6 +85,11 @@ IsOfAverages blocks (refused.TooLong role n) = (role ≡ roles.Report) × (limit
 IsOfAverages blocks (refused.Report e) = IsOfReport blocks e
 IsOfAverages blocks told = ⊥
 
+-- a command that takes many banks of 64 samples tells no need of fewer samples; one that takes but one bank may
+abbrev pub IsOfBanked : Bool → Refusal → Type 0
+IsOfBanked many (refused.Plan (plan.Banks samples)) = many ≡ false
+IsOfBanked many told = Unit {0}
+
 -- of a checkpoint that is refused at one epoch, which is at most 1000000000: some bytes are, for some plan
 abbrev pub IsOfOneEpoch : Refusal → Type 0
 IsOfOneEpoch (refused.Checkpoint e) = (plan : rule.Plan) × (bytes : List ℕ) × (level_refusal plan last_epoch bytes ≡ Some e)
@@ -170,11 +175,11 @@ MayFetch (Age order) held role = IsReached false order.run held role
 
 -- what a command may be refused for: `plain`, `demo` and `potts` read no file, and are never refused; `check`, `lines`, `age` and a run are
 -- for a file that they fetch, of which no step before refuses; no amount is asked for but by a run; `lines` reads a checkpoint at one
--- epoch alone
+-- epoch alone; `check`, and a run that isn't to stop between epochs, take many banks
 abbrev pub MayRefuse : Command → Option Files → Refusal → Type 0
 MayRefuse (Plain order) held told = ⊥
-MayRefuse (Check name) held told = IsOfFile (MayFetch (Check name) held) told
-MayRefuse (Run order) held told = IsOfFile (MayFetch (Run order) held) told ⊎ IsOfAmount told
+MayRefuse (Check name) held told = IsOfFile (MayFetch (Check name) held) told × IsOfBanked true told
+MayRefuse (Run order) held told = (IsOfFile (MayFetch (Run order) held) told × IsOfBanked (has_banks order.stop_after) told) ⊎ IsOfAmount told
 MayRefuse (Average order) held told = IsOfAverages order.blocks told
 MayRefuse (Demo n) held told = ⊥
 MayRefuse (Lines order) held told = IsOfFile (MayFetch (Lines order) held) told × IsOfOneEpoch told
