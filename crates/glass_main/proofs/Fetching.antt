@@ -1,11 +1,11 @@
 -- What a fetch gives of the bytes that a step asks for.
-use Rattle.std.proofs.Common.{rules, Global, ◌≡◌, ℕ, ◌<◌, ◌≤◌, List, length, Option, Some, None, option_map, IfSome, Result, Ok, Err, IfErr, if◌then◌else◌, refl, sym, ap, subst, ◌∙◌, arith}
+use Rattle.std.proofs.Common.{rules, Global, ◌≡◌, ℕ, Bool, ◌<◌, ◌≤◌, List, length, Option, Some, None, option_map, IfSome, Result, Ok, Err, IfErr, if◌then◌else◌, refl, sym, ap, subst, ◌∙◌, arith}
 use Rattle.std.specs.declared.vec.Vec.{Vec}
 use Rattle.glass_edges.specs.Causes.{Rose}
 use Rattle.glass_edges.specs.Contents.{Files, HoldsFile, LacksFile, HoldsAtLeast}
 use Rattle.glass_edges.specs.declared.shelf.Fetched.{Fetched}
 use Rattle.glass_edges.specs.declared.shelf.Fetched.TheVariants as answer
-use Rattle.glass_main.specs.Endings.{IsOfFile, IsOfOneEpoch}
+use Rattle.glass_main.specs.Endings.{IsOfFile, IsOfBanked, IsOfOneEpoch}
 use Rattle.glass_main.specs.declared.role.Role.{Role}
 use Rattle.glass_main.specs.declared.role.Role.TheVariants as roles
 use Rattle.glass_main.specs.declared.refusal.Refusal.{Refusal}
@@ -70,7 +70,7 @@ gathers_fetched role name held holds before now lengths later_lengths limit (ans
     rw is (record {
       found = tt;
       passed = tt;
-      stopped = (((refl, past), bytes-too_many role held name n past (long n refl)), quiet (λ e. search rules), (name, subst (λ m. IfSome (lengths name m) (λ told. n ≡ told)) most (length_told n refl)));
+      stopped = (((refl, past), bytes-too_many role held name n past (long n refl)), quiet (λ e. search rules), record { name = name; long = long n refl; told = subst (λ m. IfSome (lengths name m) (λ told. n ≡ told)) most (length_told n refl) });
       same = same;
       lengths = stay;
       later = later;
@@ -99,6 +99,27 @@ fetched-level role answer.Absent result is = rw is tt
 fetched-level role (answer.TooLong n) result is = rw is tt
 fetched-level role answer.Failed result is = rw is tt
 fetched-level role answer.NoMemory result is = rw is tt
+
+pub fetched-banks : (many : Bool) (role : Role) (fetched : Fetched) (result : Result (List ℕ) Ending) → result ≡ gathered role fetched → IfErr result (λ ending. IfRefused ending (IsOfBanked many))
+fetched-banks many role (answer.Held v) result is = rw is tt
+fetched-banks many role answer.Absent result is = rw is tt
+fetched-banks many role (answer.TooLong n) result is = rw is tt
+fetched-banks many role answer.Failed result is = rw is tt
+fetched-banks many role answer.NoMemory result is = rw is tt
+
+-- ---- steps that fetch no run file
+
+-- they tell no need of fewer samples
+pub of-file-banked : (many : Bool) (fetches : Role → Type 0) (told : Refusal) → (fetches roles.RunFile → ⊥) → IsOfFile fetches told → IsOfBanked many told
+of-file-banked many fetches refused.Words not h = tt
+of-file-banked many fetches (refused.Absent role) not h = tt
+of-file-banked many fetches (refused.TooLong role n) not h = tt
+of-file-banked many fetches (refused.Plan e) not h = absurd (not h.0)
+of-file-banked many fetches (refused.Rules e) not h = tt
+of-file-banked many fetches (refused.Swaps e) not h = tt
+of-file-banked many fetches (refused.Couplings e) not h = tt
+of-file-banked many fetches (refused.Checkpoint e) not h = tt
+of-file-banked many fetches (refused.Report e) not h = tt
 
 -- ---- steps that fetch more
 

@@ -57,7 +57,7 @@ free (Some a) = tt
 
 -- the call is refused, and leaves all as it was
 pub ends-refused : (order : AverageOrder) (told : Refusal) (held holds : Store) (o : Output) → IsOfAverages order.blocks told → IfSome (request_of (Average order) held.holds) (λ asked. IsRefusedBy asked told)
-    → TellsLength held.lengths told → holds.holds ≡ held.holds → holds.faults ≡ held.faults → Ends (Some (Average order)) (Refused told) held holds o o
+    → TellsLength held.holds held.lengths told → holds.holds ≡ held.holds → holds.faults ≡ held.faults → Ends (Some (Average order)) (Refused told) held holds o o
 ends-refused order told held holds o words cause length same passed = record {
   words = words;
   cause = cause;
@@ -132,7 +132,7 @@ fetches-report order held holds before now lengths later_lengths limit (answer.T
       found = tt;
       limit = tt;
       passed = tt;
-      stopped = λ (o : Output). ends-refused order (TooLong roles.Report n) _ _ o (refl, past) (bytes-refused order held (TooLong roles.Report n) (bytes-too_many roles.Report held order.report n past (long n refl))) (order.report, subst (λ m. IfSome (lengths order.report m) (λ told. n ≡ told)) most (length_told n refl)) same (quiet (λ e. search rules));
+      stopped = λ (o : Output). ends-refused order (TooLong roles.Report n) _ _ o (refl, past) (bytes-refused order held (TooLong roles.Report n) (bytes-too_many roles.Report held order.report n past (long n refl))) (record { name = order.report; long = long n refl; told = subst (λ m. IfSome (lengths order.report m) (λ told. n ≡ told)) most (length_told n refl) }) same (quiet (λ e. search rules));
     })
 fetches-report order held holds before now lengths later_lengths limit answer.Failed result is most found within absent above long length_told failed quiet later same = rw is (record {
   found = tt;

@@ -152,7 +152,7 @@ module _ {A B : Type 0} (Packs : A → B → Type 0) (read : List ℕ → Result
   begins-read bytes (Err (Refused told)) held holds g (e, told_is, file, due) = record {
     found = tt;
     passed = tt;
-    stopped = ((subst (IsOfFile (FetchesCheckpoint (Some name))) (sym told_is) (record { role_is = refl; named = λ none. absurd cc }, file), subst (λ t. IfSome (option_map (read_at read name) held.holds) (λ a. IsRefusedBy a t)) (sym told_is) (step-refused bytes held.holds e g.found due)), g.passed, subst (TellsLength held.lengths) (sym told_is) tt);
+    stopped = ((subst (IsOfFile (FetchesCheckpoint (Some name))) (sym told_is) (record { role_is = refl; named = λ none. absurd cc }, file), subst (λ t. IfSome (option_map (read_at read name) held.holds) (λ a. IsRefusedBy a t)) (sym told_is) (step-refused bytes held.holds e g.found due)), g.passed, subst (TellsLength held.holds held.lengths) (sym told_is) tt);
     same = g.same;
     lengths = g.lengths;
     later = g.later;

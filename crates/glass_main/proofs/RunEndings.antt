@@ -2,6 +2,7 @@
 -- from there.
 use Rattle.std.proofs.Common.{◌≡◌, ℕ, ◌≤◌, List, Option, Some, None, option_map, IfSome, Result, Ok, Err, refl, sym, ap, ap₂, ◌∙◌, subst, inl, inr, arith}
 use Rattle.glass_edges.specs.Contents.{Files, appended, AppendsPrefix}
+use Rattle.glass_main.specs.declared.role.Role.TheVariants as roles
 use Rattle.glass_main.specs.declared.refusal.Refusal.TheVariants as refused
 use Rattle.glass_main.specs.declared.plans.Plans.{Plans}
 use Rattle.glass_main.specs.declared.refusal.Refusal.{Refusal}
@@ -10,7 +11,7 @@ use Rattle.glass_main.specs.declared.ending.Ending.TheVariants.{Done, Refused, U
 use Rattle.command_words.specs.CommandLine.{Run}
 use Rattle.command_words.specs.RunWords.{RunOrder}
 use Rattle.glass_main.specs.Endings.{IsOfAmount, TellsLength, FetchesCheckpoint, MayFetch}
-use Rattle.glass_main.proofs.Fetching.{of-file-wider}
+use Rattle.glass_main.proofs.Fetching.{of-file-wider, of-file-banked}
 use Rattle.glass_main.specs.Opened.{IsUnopened, IsOfOpenRun}
 use Rattle.glass_main.specs.Outside.{Output, Store}
 use Rattle.glass_main.specs.Request.{Work, and_then, IsAccepted, plans_at, has_banks, run_of, run_at, GivesAsked}
@@ -25,16 +26,20 @@ same-store a b holds faults lengths =
     ap₂ first holds faults ∙ ap second lengths
 
 -- the refusal of an amount tells no length
-amount-tells : (lengths : List ℕ → ℕ → Option ℕ) (told : Refusal) → IsOfAmount told → TellsLength lengths told
-amount-tells lengths refused.Words h = tt
-amount-tells lengths (refused.Absent role) h = tt
-amount-tells lengths (refused.TooLong role n) h = absurd h
-amount-tells lengths (refused.Plan e) h = tt
-amount-tells lengths (refused.Rules e) h = tt
-amount-tells lengths (refused.Swaps e) h = tt
-amount-tells lengths (refused.Couplings e) h = tt
-amount-tells lengths (refused.Checkpoint e) h = tt
-amount-tells lengths (refused.Report e) h = tt
+amount-tells : (held : Option Files) (lengths : List ℕ → ℕ → Option ℕ) (told : Refusal) → IsOfAmount told → TellsLength held lengths told
+amount-tells held lengths refused.Words h = tt
+amount-tells held lengths (refused.Absent role) h = tt
+amount-tells held lengths (refused.TooLong role n) h = absurd h
+amount-tells held lengths (refused.Plan e) h = tt
+amount-tells held lengths (refused.Rules e) h = tt
+amount-tells held lengths (refused.Swaps e) h = tt
+amount-tells held lengths (refused.Couplings e) h = tt
+amount-tells held lengths (refused.Checkpoint e) h = tt
+amount-tells held lengths (refused.Report e) h = tt
+
+-- a checkpoint is no run file
+no-run-file : (name : Option (List ℕ)) → FetchesCheckpoint name roles.RunFile → ⊥
+no-run-file name fetches = let is : roles.RunFile ≡ roles.Checkpoint = fetches.role_is in absurd cc
 
 some-free : {A : Type 0} (x : Option A) (P : A → Type 0) → ((a : A) → P a) → IfSome x P
 some-free None P p = tt
@@ -70,7 +75,10 @@ module _ (order : RunOrder) (plans : Plans) {A : Type 0} (step : Files → Resul
       → Begins {B = B} order.from Packs (option_map step held.holds) (Err ending) held holds → Ends (Some (Run order)) ending held holds before before
   unbegun Packs Done held holds before found b = absurd b.stopped
   unbegun Packs (Refused told) held holds before found b = record {
-    words = inl (of-file-wider (FetchesCheckpoint order.from) (MayFetch (Run order) held.holds) told (λ role fetches. inr (record { fetches = fetches; reached = accepted-plans order plans held.holds found })) b.stopped.0.0);
+    words = inl (
+      of-file-wider (FetchesCheckpoint order.from) (MayFetch (Run order) held.holds) told (λ role fetches. inr (record { fetches = fetches; reached = accepted-plans order plans held.holds found })) b.stopped.0.0,
+      of-file-banked (has_banks order.stop_after) (FetchesCheckpoint order.from) told (no-run-file order.from) b.stopped.0.0,
+    );
     cause = asked-refused held.holds told found b.stopped.0.1;
     out = refl;
     files = (b.same, b.stopped.1);
@@ -137,7 +145,7 @@ module _ (order : RunOrder) (plans : Plans) {A : Type 0} (step : Files → Resul
       out = refl;
       files = (refl, refl);
       wrote = tt;
-      length = amount-tells held.lengths told amount.0;
+      length = amount-tells held.holds held.lengths told amount.0;
       later = (omega arith, omega arith);
     }
     unopened any (Unread role) held before h amount stops = absurd amount

@@ -1,6 +1,6 @@
 -- Which endings words may have, over any store: what holds also where no file is observable.
 use Rattle.std.specs.Prelude.{◌≡◌, ◌≢◌, ◌⊎◌, ℕ, ◌<◌, Bool, true, false, List, Option, Some, None, option_map, IfSome, Err}
-use Rattle.glass_edges.specs.Contents.{Files}
+use Rattle.glass_edges.specs.Contents.{Files, HoldsAtLeast}
 use Rattle.spin_model.specs.Limits.{last_epoch, most_rows}
 use Rattle.coupling_set.specs.CouplingsFile.{couplings_in}
 use Rattle.coupling_set.specs.declared.refused.CouplingsRefused.{CouplingsRefused}
@@ -85,15 +85,27 @@ IsOfAverages blocks (refused.TooLong role n) = (role ≡ roles.Report) × (limit
 IsOfAverages blocks (refused.Report e) = IsOfReport blocks e
 IsOfAverages blocks told = ⊥
 
+-- a command that takes many banks of 64 samples tells no need of fewer samples; one that takes but one bank may
+abbrev pub IsOfBanked : Bool → Refusal → Type 0
+IsOfBanked many (refused.Plan (plan.Banks samples)) = many ≡ false
+IsOfBanked many told = Unit {0}
+
 -- of a checkpoint that is refused at one epoch, which is at most 1000000000: some bytes are, for some plan
 abbrev pub IsOfOneEpoch : Refusal → Type 0
 IsOfOneEpoch (refused.Checkpoint e) = (plan : rule.Plan) × (bytes : List ℕ) × (level_refusal plan last_epoch bytes ≡ Some e)
 IsOfOneEpoch told = Unit {0}
 
--- a length that is told of a file is the one that a fetch of it answers, where the store says that beforehand
-abbrev pub TellsLength : (List ℕ → ℕ → Option ℕ) → Refusal → Type 0
-TellsLength lengths (refused.TooLong role n) = (name : List ℕ) × IfSome (lengths name (limit_of role)) (λ length. n ≡ length)
-TellsLength lengths told = Unit {0}
+-- a length that is told is of a file that the store holds: that file is at least so long, where the files are observable. Where the store
+-- says beforehand which length a fetch of that file tells, it is that one
+pub record IsLengthOf (held : Option Files) (lengths : List ℕ → ℕ → Option ℕ) (limit count : ℕ) : Type 0 where
+  pub name : List ℕ
+  pub long : HoldsAtLeast held name count
+  pub told : IfSome (lengths name limit) (λ length. count ≡ length)
+
+-- a length is told as a fetch answers it
+abbrev pub TellsLength : Option Files → (List ℕ → ℕ → Option ℕ) → Refusal → Type 0
+TellsLength held lengths (refused.TooLong role n) = IsLengthOf held lengths (limit_of role) n
+TellsLength held lengths told = Unit {0}
 
 -- a refusal of what a run prints; the amount that is told is above its limit
 abbrev pub IsOfAmount : Refusal → Type 0
@@ -163,11 +175,11 @@ MayFetch (Age order) held role = IsReached false order.run held role
 
 -- what a command may be refused for: `plain`, `demo` and `potts` read no file, and are never refused; `check`, `lines`, `age` and a run are
 -- for a file that they fetch, of which no step before refuses; no amount is asked for but by a run; `lines` reads a checkpoint at one
--- epoch alone
+-- epoch alone; `check`, and a run that isn't to stop between epochs, take many banks
 abbrev pub MayRefuse : Command → Option Files → Refusal → Type 0
 MayRefuse (Plain order) held told = ⊥
-MayRefuse (Check name) held told = IsOfFile (MayFetch (Check name) held) told
-MayRefuse (Run order) held told = IsOfFile (MayFetch (Run order) held) told ⊎ IsOfAmount told
+MayRefuse (Check name) held told = IsOfFile (MayFetch (Check name) held) told × IsOfBanked true told
+MayRefuse (Run order) held told = (IsOfFile (MayFetch (Run order) held) told × IsOfBanked (has_banks order.stop_after) told) ⊎ IsOfAmount told
 MayRefuse (Average order) held told = IsOfAverages order.blocks told
 MayRefuse (Demo n) held told = ⊥
 MayRefuse (Lines order) held told = IsOfFile (MayFetch (Lines order) held) told × IsOfOneEpoch told

@@ -29,7 +29,7 @@ gathered role answer.NoMemory = Err NoMemory
 abbrev pub Stops : {A : Type 0} → Option (Result A Refusal) → (Role → Type 0) → Ending → Store → Store → Type 0
 Stops asked fetches Done old new = ⊥
 Stops asked fetches (Refused told) old new =
-    (IsOfFile fetches told × IfSome asked (λ a. IsRefusedBy a told)) × (new.faults ≡ old.faults) × TellsLength old.lengths told
+    (IsOfFile fetches told × IfSome asked (λ a. IsRefusedBy a told)) × (new.faults ≡ old.faults) × TellsLength old.holds old.lengths told
 Stops asked fetches (Unread role) old new = fetches role × Rose old.faults new.faults
 Stops asked fetches Unwritten old new = ⊥
 Stops asked fetches Unsaved old new = ⊥

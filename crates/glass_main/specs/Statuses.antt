@@ -135,7 +135,7 @@ pub record Ends (command : Option Command) (ending : Ending) (held holds : Store
   pub out : Printed ending before now
   pub files : Kept (saved_name command) ending held holds
   pub wrote : Wrote (saved_name command) (request_for command held.holds) ending held holds before now
-  pub length : IfRefused ending (TellsLength held.lengths)
+  pub length : IfRefused ending (TellsLength held.holds held.lengths)
   pub later : (held.faults ≤ holds.faults) × (before.faults ≤ now.faults)
 
 -- ---- the error output

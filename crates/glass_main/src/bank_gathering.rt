@@ -6,10 +6,11 @@ ghost use Rattle.glass_edges.specs.Refusals.{Gives};
 ghost use Rattle.run_plan.specs.RunFile.{IsLawfulRunFile};
 ghost use Rattle.threshold_table.specs.Tables.{rule_table, swap_table};
 ghost use Rattle.glass_main.specs.BankTables.{HasLawfulOrders};
-ghost use Rattle.glass_main.specs.Endings.{IsReached, IsReachedAfter, IsReachedAfterRules};
+ghost use Rattle.glass_main.specs.Endings.{IsOfBanked, IsReached, IsReachedAfter, IsReachedAfterRules};
 ghost use Rattle.glass_main.specs.Gathers.{Gathers, Fetches};
 ghost use Rattle.glass_main.specs.Outside.{store};
 ghost use Rattle.glass_main.specs.Request as model;
+ghost use Rattle.glass_main.specs.Statuses.{IfRefused};
 
 use crate::bank_tables::plans_of;
 use crate::ending::Ending;
@@ -39,6 +40,7 @@ pub(crate) fn gather_plans<H: Shelf>(
     ensures asked { Gathers (option_map (model.plans_at many name.now) (H.holds shelf.old))
         (IsReached many name.now (H.holds shelf.old)) result
         (store H.Shelf shelf.old) (store H.Shelf shelf.new) }
+    ensures banks { IfErr result (λ ending. IfRefused ending (IsOfBanked many)) }
     ensures orders { IfOk result HasLawfulOrders }
 {
     let file = gather_run_file(alloc, shelf, name, many)?;

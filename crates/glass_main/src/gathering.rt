@@ -1,6 +1,6 @@
 //! Reading what a run file names, step by step.
 
-ghost use Rattle.std.specs.Prelude.{◌≡◌, ◌+◌, false, length, option_map, IfOk, IfErr, Ok, Err};
+ghost use Rattle.std.specs.Prelude.{◌≡◌, ◌+◌, Bool, false, length, option_map, IfOk, IfErr, Ok, Err};
 ghost use Rattle.coupling_set.specs.BondsAsWords.{couplings_with};
 ghost use Rattle.spin_model.specs.Couplings.{plus, random};
 ghost use Rattle.glass_edges.specs.Refusals.{Gives};
@@ -8,7 +8,7 @@ ghost use Rattle.run_plan.specs.RunFile.{run_file, IsLawfulRunFile, AreLawfulOrd
 ghost use Rattle.threshold_table.specs.Tables.{rule_table, swap_table};
 ghost use Rattle.glass_main.specs.BankTables.{rules_read, swaps_read};
 ghost use Rattle.glass_main.specs.CheckpointBytes.{AreBytes};
-ghost use Rattle.glass_main.specs.Endings.{IsOfOneEpoch, IsReached, IsReachedAfter, IsReachedAfterRules};
+ghost use Rattle.glass_main.specs.Endings.{IsOfBanked, IsOfOneEpoch, IsReached, IsReachedAfter, IsReachedAfterRules};
 ghost use Rattle.glass_main.specs.Gathers.{Gathers, Fetches, gathered};
 ghost use Rattle.glass_main.specs.Outside.{store};
 ghost use Rattle.glass_main.specs.Request as model;
@@ -116,6 +116,8 @@ pub(crate) fn gather_run_file<H: Shelf>(
 ) -> Result<RunFile, Ending>
     ensures asked { Gathers (option_map (model.run_file_at many name.now) (H.holds shelf.old))
         (Fetches Role.RunFile) result (store H.Shelf shelf.old) (store H.Shelf shelf.new) }
+    // A command that runs many banks tells no need of fewer samples.
+    ensures banks { IfErr result (λ ending. IfRefused ending (IsOfBanked many)) }
     ensures lawful { IfOk result IsLawfulRunFile }
     ensures orders { many ≡ false → IfOk result (λ file. AreLawfulOrders file.orders) }
 {
@@ -134,6 +136,7 @@ fn read_run_file(alloc: Global, bytes: &[u8], many: bool) -> Result<RunFile, Pla
     ensures orders { many ≡ false → IfOk result (λ file. AreLawfulOrders file.orders) }
     // What many banks refuse one refuses too.
     ensures cause { IfErr result (λ e. ¬ (e ≡ PlanRefused.NoMemory) → model.banked false (run_file bytes.now) ≡ Err e) }
+    ensures banks { IfErr result (λ e. IsOfBanked many (Refusal.Plan e)) }
 {
     let file = read_plan(alloc, bytes)?;
     check_banks(&file.orders, many)?;
@@ -256,6 +259,7 @@ pub(crate) fn gather_bytes<H: Shelf>(
         (Fetches role) result (store H.Shelf shelf.old) (store H.Shelf shelf.new) }
     // A fetch is refused for no format, and so for none of a checkpoint that is not at one epoch.
     ensures level { IfErr result (λ ending. IfRefused ending IsOfOneEpoch) }
+    ensures banks { (many : Bool) → IfErr result (λ ending. IfRefused ending (IsOfBanked many)) }
     ensures bytes { IfOk result AreBytes }
 {
     let bytes = fetch_bytes(alloc, shelf, role, name)?;
@@ -273,6 +277,7 @@ fn fetch_bytes<H: Shelf>(
     ensures asked { Gathers (option_map (model.bytes_at role name.now) (H.holds shelf.old))
         (Fetches role) result (store H.Shelf shelf.old) (store H.Shelf shelf.new) }
     ensures level { IfErr result (λ ending. IfRefused ending IsOfOneEpoch) }
+    ensures banks { (many : Bool) → IfErr result (λ ending. IfRefused ending (IsOfBanked many)) }
 {
     gathered(role, shelf.fetch(alloc, name, role.limit()))
 }
