@@ -14,7 +14,7 @@ use crate::energy::{ColourPlane, count_sized};
 use local_rule::ReadyRule;
 use plane_sweep::{
     HalfPlane, Plane, Row, Surroundings, first_row, kind_of, lend, pulls_of_four, row_behind,
-    sweep_words, update_sites, words_at,
+    side_of, sweep_words, update_sites, words_at,
 };
 use threshold_table::RuleKind;
 
@@ -49,7 +49,7 @@ pub(crate) fn sweep_plane_counted<const SIZE: usize>(
     ensures counted { (b : ℕ) → b < 64 → tallied counts.new b ≡ tallied counts.old b
         + plane_count sites.now.couplings.now other.now sites.now.colour sites.now.z plane.new.words b (half_plane sites.now.couplings.now.size) }
 {
-    let size = sites.couplings.size();
+    let size = side_of::<SIZE>(sites.couplings);
     let draws = &mut draws[..(size * (size / 2)) as usize];
     plane.wheel.fill(draws);
     sweep_words_counted::<SIZE>(counts, plane.words.as_mut_slice(), other, sites, draws);

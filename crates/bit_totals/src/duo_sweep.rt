@@ -21,7 +21,7 @@ use crate::tally::Tally;
 use multispin_word::Planes;
 use plane_sweep::{
     DUO_DRAWS, Duo, Dynamics, HalfPlane, Plane, SMALL_DRAWS, by_size, first_turn, is_small,
-    rule_of_slot, sites_of, sweep_turn_of_duo, turn_after,
+    rule_of_slot, side_of, sites_of, sweep_turn_of_duo, turn_after,
 };
 use scalar_rule::Plan;
 
@@ -137,7 +137,7 @@ fn sweep_turns<const SIZE: usize>(
     ensures first { SweepsAndCounts dynamics.now.couplings.now dynamics.now.rule.now first.old first.new result.0.rows }
     ensures second { SweepsAndCounts dynamics.now.couplings.now dynamics.now.rule.now second.old second.new result.1.rows }
 {
-    let size = dynamics.couplings.size();
+    let size = side_of::<SIZE>(dynamics.couplings);
     let mut tallies = (Tally::none(), Tally::none());
     let mut turn = first_turn();
     'turns: for i in 0..2 * size {
@@ -195,7 +195,7 @@ fn sweep_behind<const SIZE: usize>(
     ensures swept { SweepsTurn sites.now.couplings.now sites.now.rule.now sites.now.colour sites.now.z planes.old planes.new }
     ensures counted { CountsTurn sites.now.couplings.now sites.now.colour sites.now.z planes.new tally.old.rows tally.new.rows }
 {
-    let (ahead, behind) = planes.split_at_mut(sites.couplings.size() as usize);
+    let (ahead, behind) = planes.split_at_mut(side_of::<SIZE>(sites.couplings) as usize);
     let plane = &mut behind[sites.z as usize];
     sweep_plane_counted::<SIZE>(&mut tally.rows, plane, ahead, sites, draws);
 }

@@ -16,6 +16,7 @@ use crate::duo_rows::{Drawn, Others, sweep_words_of_duo};
 use crate::dynamics::{Dynamics, HalfPlane, rule_of_slot, sites_of};
 use crate::order::{first_turn, turn_after};
 use crate::replica::{Duo, Plane};
+use crate::sizes::side_of;
 use crate::sweeping::{is_forked, sweep_often};
 use local_rule::ReadyRule;
 use scalar_rule::Plan;
@@ -128,7 +129,7 @@ fn sweep_turns<const SIZE: usize>(
     ensures first { SweepsColours dynamics.now.couplings.now dynamics.now.rule.now first.old first.new }
     ensures second { SweepsColours dynamics.now.couplings.now dynamics.now.rule.now second.old second.new }
 {
-    let size = dynamics.couplings.size();
+    let size = side_of::<SIZE>(dynamics.couplings);
     let mut turn = first_turn();
     'turns: for i in 0..2 * size {
         sweep_turn_of_duo::<SIZE>(first, second, &sites_of(dynamics, &turn), draws);
@@ -155,7 +156,7 @@ pub fn sweep_turn_of_duo<const SIZE: usize>(
     ensures second { SweepsTurn sites.now.couplings.now sites.now.rule.now sites.now.colour sites.now.z second.old second.new }
 {
     let z = sites.z as usize;
-    let size = sites.couplings.size() as usize;
+    let size = side_of::<SIZE>(sites.couplings) as usize;
     let (first_ahead, first_behind) = first.split_at_mut(size);
     let (second_ahead, second_behind) = second.split_at_mut(size);
     if sites.colour == 0 {
@@ -206,7 +207,7 @@ fn sweep_plane<const SIZE: usize>(
     ensures first { SweepsPlane sites.now.couplings.now others.now.first.now sites.now.rule.now sites.now.colour sites.now.z first.old first.new }
     ensures second { SweepsPlane sites.now.couplings.now others.now.second.now sites.now.rule.now sites.now.colour sites.now.z second.old second.new }
 {
-    let size = sites.couplings.size();
+    let size = side_of::<SIZE>(sites.couplings);
     let count = (size * (size / 2)) as usize;
     let (front, rest) = draws.split_at_mut(count);
     let back = &mut rest[..count];

@@ -36,6 +36,7 @@ pub use order::{Turn, first_turn, turn_after};
 pub use parts::site_word;
 pub use replica::{Duo, Plane, Replica};
 pub use rows::{Row, first_row, kind_of, pulls_of, row_behind, sweep_words};
+pub use sizes::side_of;
 pub use stand::{PairWheels, Stand};
 pub use surroundings::{Surroundings, lend};
 pub use sweeping::{is_forked, sweep, sweep_often};

@@ -1,5 +1,22 @@
 //! The sizes of a lattice that have code of their own.
 
+ghost use Rattle.std.specs.Prelude.{◌≡◌, ◌<◌};
+ghost use Rattle.coupling_set.specs.CouplingWords.{AreCouplings};
+
+use coupling_set::Couplings;
+
+/// The side of the lattice, by code for a size, which is then a constant to the compiler, or for any where
+/// that is 0.
+#[inline(always)]
+pub fn side_of<const SIZE: usize>(couplings: &Couplings) -> u32
+    requires size { 0 < SIZE → couplings.now.size ≡ SIZE }
+    ensures value { result ≡ couplings.now.size }
+    ensures lawful { AreCouplings couplings.now }
+{
+    let size = couplings.size();
+    if SIZE == 0 { size } else { SIZE as u32 }
+}
+
 /// Calls a function whose const parameter is a size: that of the lattice where it has code of its own,
 /// and else 0, which stands for any.
 #[macro_export]

@@ -17,6 +17,7 @@ use crate::dynamics::{Dynamics, HalfPlane, rule_of_slot, sites_of};
 use crate::order::{Turn, first_turn, turn_after};
 use crate::replica::{Plane, Replica};
 use crate::rows::sweep_words;
+use crate::sizes::side_of;
 use local_rule::ReadyRule;
 use scalar_rule::Plan;
 use std::thread;
@@ -146,7 +147,7 @@ fn sweep_turns<const SIZE: usize>(planes: &mut [Plane], dynamics: &Dynamics, dra
     requires planes { FitsColours dynamics.now.couplings.now.size planes.old }
     ensures { SweepsColours dynamics.now.couplings.now dynamics.now.rule.now planes.old planes.new }
 {
-    let size = dynamics.couplings.size();
+    let size = side_of::<SIZE>(dynamics.couplings);
     let mut turn = first_turn();
     'turns: for i in 0..2 * size {
         sweep_turn::<SIZE>(planes, &sites_of(dynamics, &turn), draws);
@@ -166,7 +167,7 @@ fn sweep_turn<const SIZE: usize>(planes: &mut [Plane], sites: &HalfPlane, draws:
     ensures { SweepsTurn sites.now.couplings.now sites.now.rule.now sites.now.colour sites.now.z planes.old planes.new }
 {
     let z = sites.z as usize;
-    let (first, second) = planes.split_at_mut(sites.couplings.size() as usize);
+    let (first, second) = planes.split_at_mut(side_of::<SIZE>(sites.couplings) as usize);
     if sites.colour == 0 {
         sweep_plane::<SIZE>(&mut first[z], second, sites, draws);
     } else {
@@ -260,7 +261,7 @@ fn sweep_plane<const SIZE: usize>(
     requires plane { sites.now.z < sites.now.couplings.now.size }
     ensures { SweepsPlane sites.now.couplings.now other.now sites.now.rule.now sites.now.colour sites.now.z plane.old plane.new }
 {
-    let size = sites.couplings.size();
+    let size = side_of::<SIZE>(sites.couplings);
     let draws = &mut draws[..(size * (size / 2)) as usize];
     plane.wheel.fill(draws);
     sweep_words::<SIZE>(plane.words.as_mut_slice(), other, sites, draws);

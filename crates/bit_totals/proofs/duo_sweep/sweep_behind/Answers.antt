@@ -11,8 +11,8 @@ pub returns-clause-swept : goal.returns-clause-swept
 returns-clause-swept g c =
     let sites = c.args.sites.now in
     let planes = c.args.planes.now in
-    let is_front = c.split_at_mut-ahead.ensures.front ∙ ap (λ n. take n planes) c.size.ensures.value in
-    let is_back = c.split_at_mut-ahead.ensures.back ∙ ap (λ n. drop n planes) c.size.ensures.value in
+    let is_front = c.split_at_mut-ahead.ensures.front ∙ ap (λ n. take n planes) c.side_of.ensures.value in
+    let is_back = c.split_at_mut-ahead.ensures.back ∙ ap (λ n. drop n planes) c.side_of.ensures.value in
     let long = (halves sites.couplings.now.size planes _ _ c.requires.planes is_front is_back).back_long in
     turn-behind sites.couplings.now sites.rule.now sites.colour sites.z planes _ _ _ c.sweep_plane_counted.new.plane c.requires.colour c.requires.planes c.requires.plane is_front is_back
     (get_or_default _ sites.z c.index-behind-sites.result _ (omega arith)) c.sweep_plane_counted.ensures.swept
@@ -22,8 +22,8 @@ returns-clause-counted g c =
     let sites = c.args.sites.now in
     let couplings = sites.couplings.now in
     let planes = c.args.planes.now in
-    let is_front = c.split_at_mut-ahead.ensures.front ∙ ap (λ n. take n planes) c.size.ensures.value in
-    let is_back = c.split_at_mut-ahead.ensures.back ∙ ap (λ n. drop n planes) c.size.ensures.value in
+    let is_front = c.split_at_mut-ahead.ensures.front ∙ ap (λ n. take n planes) c.side_of.ensures.value in
+    let is_back = c.split_at_mut-ahead.ensures.back ∙ ap (λ n. drop n planes) c.side_of.ensures.value in
     let two = halves couplings.size planes _ _ c.requires.planes is_front is_back in
     let long = two.back_long in
     let plane = c.sweep_plane_counted.new.plane in

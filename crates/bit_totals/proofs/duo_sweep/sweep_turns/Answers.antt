@@ -39,14 +39,14 @@ turns-preserved g c =
     let now = c.turns in
     let made = c.sweep_turn.ensures in
     let is = c.sites_of-sites.ensures in
-    let side = c.size-size.ensures.value in
+    let side = c.side_of-size.ensures.value in
     let after = c.turn_after-turn.ensures in
     record {
       first =
-          counting-more couplings rule now.i c.size-size.result now.turn c.turn_after-turn.result c.args.first.now now.first new.first now.tallies.0.rows new.tallies.0.rows c.requires.lawful (omega arith)
+          counting-more couplings rule now.i c.side_of-size.result now.turn c.turn_after-turn.result c.args.first.now now.first new.first now.tallies.0.rows new.tallies.0.rows c.requires.lawful (omega arith)
           now.invariant.first (subst (S now.first new.first) is made.swept_first) (subst (C new.first now.tallies.0.rows new.tallies.0.rows) is made.first) side after;
       second =
-          counting-more couplings rule now.i c.size-size.result now.turn c.turn_after-turn.result c.args.second.now now.second new.second now.tallies.1.rows new.tallies.1.rows c.requires.lawful (omega arith)
+          counting-more couplings rule now.i c.side_of-size.result now.turn c.turn_after-turn.result c.args.second.now now.second new.second now.tallies.1.rows new.tallies.1.rows c.requires.lawful (omega arith)
           now.invariant.second (subst (S now.second new.second) is made.swept_second) (subst (C new.second now.tallies.1.rows new.tallies.1.rows) is made.second) side after;
     }
 

@@ -12,12 +12,12 @@ turns-preserved g c =
     let S : List Plane → List Plane → HalfPlane → Type 0 = λ old new s. SweepsTurn s.couplings.now s.rule.now s.colour s.z old new in
     let new = c.sweep_turn_of_duo.new in
     let is = c.sites_of.ensures in
-    let side = c.size-size.ensures.value in
+    let side = c.side_of-size.ensures.value in
     let after = c.turn_after-turn.ensures in
     let way = c.turns.invariant in
     record {
-      first = way-more couplings rule c.turns.i c.size-size.result c.turns.turn c.turn_after-turn.result c.args.first.now c.turns.first new.first c.requires.lawful.0 (omega arith) way.first (subst (S c.turns.first new.first) is c.sweep_turn_of_duo.ensures.first) side after;
-      second = way-more couplings rule c.turns.i c.size-size.result c.turns.turn c.turn_after-turn.result c.args.second.now c.turns.second new.second c.requires.lawful.0 (omega arith) way.second (subst (S c.turns.second new.second) is c.sweep_turn_of_duo.ensures.second) side after;
+      first = way-more couplings rule c.turns.i c.side_of-size.result c.turns.turn c.turn_after-turn.result c.args.first.now c.turns.first new.first c.requires.lawful.0 (omega arith) way.first (subst (S c.turns.first new.first) is c.sweep_turn_of_duo.ensures.first) side after;
+      second = way-more couplings rule c.turns.i c.side_of-size.result c.turns.turn c.turn_after-turn.result c.args.second.now c.turns.second new.second c.requires.lawful.0 (omega arith) way.second (subst (S c.turns.second new.second) is c.sweep_turn_of_duo.ensures.second) side after;
     }
 
 pub returns-clause-first : goal.returns-clause-first
