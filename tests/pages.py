@@ -151,7 +151,7 @@ def prepare(folder: Path, program: Path) -> None:
     shutil.copy(program, folder / "glass")
     # A copy, since a tool looks for the program beside its own folder.
     shutil.copytree(TOP / "tools", folder / "tools", ignore=shutil.ignore_patterns("__pycache__"))
-    shutil.copytree(TOP / "examples", folder / "examples")
+    shutil.copytree(TOP / "examples", folder / "examples", ignore=shutil.ignore_patterns("__pycache__", "seed_*"))
     shutil.copytree(TOP / MANUAL, folder / MANUAL)
 
 

@@ -293,7 +293,19 @@ def print_runs(folder: Path) -> None:
     print(f"\nAll that ran took {total:.1f} processor minutes.")
 
 
+def print_series(folder: Path) -> None:
+    """Which commands made the runs, of which commit's program, and where."""
+    path = folder / "series.csv"
+    if not path.exists():
+        return
+    head("made by", "program", "commit", "day", "machine", "beside it")
+    with open(path, newline="", encoding="utf-8") as stream:
+        for row in csv.DictReader(stream):
+            print(f"| `{row['command']}` | {row['program']} | {row['commit']} | {row['date']} | {row['machine']} | {row['load']} |")
+
+
 def print_all(folder: Path) -> None:
+    print_series(folder)
     found = print_exact(folder)
     if found:
         total, degrees, chance = chi_square(found)

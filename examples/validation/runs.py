@@ -146,6 +146,18 @@ def tasks(program: str, share: float, names: Sequence[str] = tuple(BY_NAME)) -> 
     return [task for _, task in sorted(found)]
 
 
+def minutes_of(wanted: Sequence[Task]) -> float:
+    """What runs take of a processor, by the mean of those of their parts that are kept; parts without any are left out."""
+    rates = {}
+    for part, program in {(task.part, task.program) for task in wanted}:
+        if file_of(part, program).exists():
+            with open(file_of(part, program), newline="") as stream:
+                seconds_kept = [float(line["seconds"]) for line in csv.DictReader(stream)]
+            # Of the independent program each run has several lines.
+            rates[part] = sum(seconds_kept) / len(set(runs_done(part, program)))
+    return sum(rates.get(task.part, 0.0) for task in wanted) / 60
+
+
 def keep(task: Task, lines: Sequence[Sequence[object]]) -> None:
     path = file_of(task.part, task.program)
     is_new = not path.exists()
@@ -173,6 +185,9 @@ def main() -> int:
     end = time.monotonic() + 60 * options.minutes if options.minutes else None
     program = options.program if options.program == "reference" else os.path.realpath(options.program)
     left = tasks(program, options.share, options.parts)
+    kept = sum(len(set(runs_done(part.name, program))) for part in PARTS)
+    print(f"runs: {kept} are kept; {len(left)} more take about {minutes_of(left):.0f} processor minutes by the rates of these",
+          file=sys.stderr, flush=True)
     with Pool(options.lanes) as pool:
         for task, lines in pool.imap_unordered(made, left):
             keep(task, lines)

@@ -1,5 +1,8 @@
 """The arithmetic of examples/validation, on data whose answer is known."""
 import math
+import os
+import shutil
+import subprocess
 import sys
 from pathlib import Path
 
@@ -159,6 +162,31 @@ def test_runs_that_are_kept_are_not_made_again(tmp_path, monkeypatch):
     kept = compare.read_runs(tmp_path, part.name)
     assert (kept.seconds, kept.whole.tolist(), kept.first.tolist(), kept.last.tolist()) == (4.0, [[0], [2]], [[1], [1]], [[2], [2]])
     assert compare.read_runs(tmp_path, "critical_8") is None
+
+
+def test_the_minutes_of_runs_are_those_of_the_runs_that_are_kept(tmp_path, monkeypatch):
+    monkeypatch.setattr(runs, "MEASURED", tmp_path)
+    part = parts.BY_NAME["critical_24"]
+    for run, seconds in ((1, 30.0), (2, 90.0)):
+        runs.keep(runs.Task(part.name, run, "glass"), [[run, part.seed(run), seconds, 0.0, 1.0, 2.0]])
+    wanted = [runs.Task(name, run, "glass") for name, run in ((part.name, 3), (part.name, 4), ("critical_8", 1))]
+    assert runs.minutes_of(wanted) == pytest.approx(2.0)
+    # Three lines of the independent program are one run.
+    runs.keep(runs.Task("glasses_4", 1, "reference"), [[1, 0, 20.0, *[0.0] * 27]] * 3)
+    assert runs.minutes_of([runs.Task("glasses_4", 2, "reference")]) == pytest.approx(1.0)
+
+
+def test_a_study_goes_on_from_the_runs_of_the_page(tmp_path):
+    copy = tmp_path / "examples"
+    shutil.copytree(FOLDER, copy / "validation", ignore=shutil.ignore_patterns("seed_*", "__pycache__"))
+    shutil.copytree(FOLDER.parent / "samples_4", copy / "samples_4", ignore=shutil.ignore_patterns("seed_*"))
+    shutil.copy(FOLDER.parent / "begin.sh", copy)
+    (tmp_path / "tools").symlink_to(FOLDER.parent.parent / "tools")
+    ran = subprocess.run([str(copy / "validation" / "study"), "--go-on", "0.05"], stdout=subprocess.PIPE, stderr=subprocess.PIPE,
+                         universal_newlines=True, check=True, env={**os.environ, "GLASS": "/bin/true", "PYTHON": sys.executable})
+    assert "; 0 more take about 0 processor minutes" in ran.stderr and "| ferromagnet_4 |" in ran.stdout
+    kept = sorted(path.name for path in (copy / "validation" / "seed_measured").glob("*.csv"))
+    assert kept == sorted(path.name for path in (FOLDER / "measured").glob("*.csv") if path.name != "series.csv")
 
 
 def test_the_page_has_what_is_printed(capsys):
