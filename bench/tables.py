@@ -9,8 +9,8 @@ a figure went over time.
     python3 bench/tables.py --self-test         the tests of this tool
 
 Each file of bench/results begins with the columns machine, commit, date (YYYY-MM-DD), load and turns. What is
-measured has its unit as the end of its name (min, s, ms, us, ns, ps, mb, kb, percent) or is a ratio. All other
-columns say of what it is. The commit is the one whose page had the figure first; the program is that of this commit
+measured has its unit as the end of its name (min, s, ms, us, ns, ps, mb, kb, percent), is a ratio, or is told in
+words (seen). All other columns say of what it is. The commit is the one whose page had the figure first; the program is that of this commit
 or of one just before it.
 
 Status: 0; 1 where --check finds a table that differs; 2 for a wrong word or file, with a line."""
@@ -30,14 +30,16 @@ HEAD = ["machine", "commit", "date", "load", "turns"]
 UNITS = ("min", "s", "ms", "us", "ns", "ps", "mb", "kb", "percent")
 RATIOS = ("ratio", "times", "four_runs_times", "two_workers", "four_workers", "eight_workers", "two_pieces",
           "four_pieces")
-PAGE, CONTRIBUTING, FRONT, COST = PAGES = ("bench/README.md", "CONTRIBUTING.md", "README.md", "docs/manual/speed.md")
+IN_WORDS = ("seen",)
+PAGE, CONTRIBUTING, FRONT, COST, TRIED = PAGES = ("bench/README.md", "CONTRIBUTING.md", "README.md", "docs/manual/speed.md",
+                                                  "bench/TRIED.md")
 MARK = re.compile(r"(<!-- table (\w+) -->\n)(.*?)(<!-- end -->)", re.DOTALL)
 Row = Dict[str, str]
 
 
 def is_measured(column: str) -> bool:
     """Whether a column has what was measured; else it says of what."""
-    return column in RATIOS or column.rpartition("_")[2] in UNITS or column.startswith(("ms_", "mb_"))
+    return column in RATIOS + IN_WORDS or column.rpartition("_")[2] in UNITS or column.startswith(("ms_", "mb_"))
 
 
 def read_results(name: str, folder: Path = HERE / "results") -> List[Row]:
@@ -134,6 +136,13 @@ def least_to_most(values: Sequence[float]) -> str:
     return shown[0] if len(shown) == 1 else f"{shown[0]} to {shown[-1]}"
 
 
+def tried(subject: str) -> Listed:
+    """The comparisons of a subject."""
+    columns = (("what", "what"), ("forms", "forms"), ("seen", "seen"), ("processor", "processor"), ("machine", "machine"),
+               ("date", "day"))
+    return Listed("tried", tuple((value_of(name), head) for name, head in columns), (("subject", subject),), TRIED)
+
+
 def front_table() -> str:
     """The speed of whole runs with AVX2 and ten sweeps an epoch, and of four workers, by size."""
     chosen = (("processor", "x86-64-v3"), ("sweeps", "10"))
@@ -167,6 +176,7 @@ TABLES: Dict[str, Union[Table, Listed, Made]] = {
         (span("heat_bath", "ps"), "a by heat bath, ps"), (span("epoch", "us"), "c, microseconds"),
         (span("start", "s"), "start, seconds")), (), COST, True),
     "speed": Made(front_table, FRONT),
+    **{f"tried_{subject}": tried(subject) for subject in ("sweep", "runs", "workers", "sums", "potts", "gate", "every")},
 }
 
 
@@ -246,7 +256,7 @@ def trend(rows: Sequence[Row]) -> str:
 
 def quotient(row: Row, first: Row, column: str) -> str:
     """How many times the first measurement of its machine a row's is, by its first measured column."""
-    if row is first or not row[column] or not first[column]:
+    if row is first or not row[column] or not first[column] or column in IN_WORDS:
         return "-"
     return f"{float(row[column]) / float(first[column]):.2f}"
 
@@ -286,7 +296,7 @@ def self_test() -> int:
     machines = "### Machines\n\n| name | what |\n|---|---|\n| A | a |\n\n### Others\n\n| B | b |\n"
     checks.same("a machine without a row", unnamed_machines(machines, rows), ["B"])
     checks.same("a table of another page", refusal(lambda: with_tables("<!-- table gate -->\n<!-- end -->"))[:4], "the ")
-    for column, answer in (("glass_ms", True), ("size", False), ("ratio", True), ("what", False), ("mb_64", True)):
+    for column, answer in (("glass_ms", True), ("size", False), ("ratio", True), ("what", False), ("mb_64", True), ("seen", True)):
         checks.same(f"{column} is measured", is_measured(column), answer)
     for file in sorted((HERE / "results").glob("*.csv")):
         rows = read_results(file.stem)
