@@ -15,7 +15,7 @@ from glass_analysis.sums import (FIGURES, Function, Means, Study, by_bins, figur
 from make_tables import Refusal
 from measured_text import CLASSES, Measured
 from report_errors import few_blocks
-from run_temperatures import check_run, keys_of, run_betas
+from run_temperatures import check_run, keys_of, run_betas, temperature_names
 
 # Figures that cross, and whether they rise with order.
 CROSSING = {"xi/L": (length_over_side, True), "R12": (r_12, True), "U4": (u_4, False)}
@@ -72,7 +72,7 @@ def end(texts: int, plot: Optional[str], drawn: object) -> None:
 
 
 def titles(betas: Optional[Sequence[float]], slots: int) -> List[str]:
-    return [f"{1 / beta:.6g}" if beta else "inf" for beta in betas] if betas else [""] * slots
+    return temperature_names(betas) if betas else [""] * slots
 
 
 def sums(options: argparse.Namespace) -> None:
