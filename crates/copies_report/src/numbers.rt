@@ -1,0 +1,17 @@
+//! The sums of a sample at all distances.
+
+ghost use Rattle.std.specs.Prelude.{◌≡◌, ℕ, ◌<◌, [], length, slice_index_or};
+ghost use Rattle.plane_sums.specs.Correlations.{signed_at};
+
+/// A sample's sums at all distances.
+pub(crate) fn column_of(sums: &[[i64; 64]; 33], b: usize) -> [i64; 33]
+    requires { b < 64 }
+    ensures length { length result ≡ 33 }
+    ensures value { (r : ℕ) → r < 33 → signed_at result r ≡ signed_at (slice_index_or sums.now r []) b }
+{
+    let mut column = [0i64; 33];
+    'distances: for r in 0..33usize {
+        column[r] = sums[r][b];
+    }
+    column
+}
