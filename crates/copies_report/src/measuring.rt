@@ -49,24 +49,22 @@ impl CopiesRoom {
 
     /// Measures each two copies of each slot. Takes no memory.
     pub(crate) fn measure(&mut self, first: &Stand, second: &Stand, lattice: Lattice, slots: u32)
+        requires few { slots ≤ 32 }
         requires first { HasSlots lattice slots first.now }
         requires second { HasSlots lattice slots second.now }
         requires room { 6 * slots ≤ length self.old }
         ensures held { HoldCopies lattice first.now.slots second.now.slots self.new slots }
         ensures long { length self.new ≡ length self.old }
     {
-        'slots: for t in 0..slots as usize {
-            let copies = SlotCopies {
-                first: first.slots.at(t),
-                second: second.slots.at(t),
-            };
-            measure_slot(&mut self.sums, copies, lattice, t, &mut self.field);
-        }
+        let sums = &mut self.sums;
+        measure_slots(sums, first, second, lattice, slots, &mut self.field);
     }
 
     /// The sums of two copies of a slot.
     pub(crate) fn sums_at(&self, slot: usize, pair: usize) -> &FieldSums
-        requires { 6 * slot + pair < length self.now }
+        requires slot { slot < 32 }
+        requires pair { pair < PAIRS }
+        requires within { 6 * slot + pair < length self.now }
         ensures { result.now ≡ held_at self.now slot pair }
     {
         self.sums.at(PAIRS * slot + pair)
@@ -83,6 +81,31 @@ fn empty_sums(alloc: Global, count: usize) -> Result<Items<FieldSums>, NoMemory>
         sums.push(FieldSums::none())?;
     }
     Ok(Items::of(sums))
+}
+
+// Measures each two copies of each slot.
+fn measure_slots(
+    sums: &mut Items<FieldSums>,
+    first: &Stand,
+    second: &Stand,
+    lattice: Lattice,
+    slots: u32,
+    room: &mut FieldRoom,
+)
+    requires few { slots ≤ 32 }
+    requires first { HasSlots lattice slots first.now }
+    requires second { HasSlots lattice slots second.now }
+    requires room { 6 * slots ≤ length sums.old }
+    ensures held { HoldCopies lattice first.now.slots second.now.slots sums.new slots }
+    ensures long { length sums.new ≡ length sums.old }
+{
+    'slots: for t in 0..slots as usize {
+        let copies = SlotCopies {
+            first: first.slots.at(t),
+            second: second.slots.at(t),
+        };
+        measure_slot(sums, copies, lattice, t, room);
+    }
 }
 
 // A slot of the first state and of the second.
@@ -104,7 +127,7 @@ fn measure_slot(
     requires second { FitsDuo lattice copies.second.now }
     requires slot { slot < 32 }
     requires room { 6 * slot + 6 ≤ length sums.old }
-    ensures held { HoldSlot lattice copies.first.now copies.second.now sums.new slot 6 }
+    ensures held { HoldSlot lattice copies.entry.first.now copies.entry.second.now sums.new slot 6 }
     ensures before { (k : ℕ) (p : ℕ) → k < slot → p < 6 → held_at sums.new k p ≡ held_at sums.old k p }
     ensures long { length sums.new ≡ length sums.old }
 {
