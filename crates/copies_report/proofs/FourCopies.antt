@@ -1,13 +1,13 @@
 -- The copies that are measured are those of the definitions, and what a slot's sums hold.
-use Rattle.std.proofs.Common.{inl, inr, ◌≡◌, ℕ, ◌+◌, ◌*◌, ◌/◌, ◌%◌, ◌-◌, ◌<◌, ◌≤◌, Bool, true, false, cond, nat_lt, ◌==◌, List, [], length, get_or, set, refl, ap, ap₂, subst, sym, ◌∙◌, arith}
+use Rattle.std.proofs.Common.{inl, inr, ◌≡◌, ℕ, ◌+◌, ◌*◌, ◌-◌, ◌<◌, Bool, true, false, cond, nat_lt, ◌==◌, List, [], length, get_or, set, refl, ap, ap₂, subst, sym, ◌∙◌, arith}
 use Rattle.std.proofs.lemmas.Bool.{cases_lt}
-use Rattle.std.proofs.lemmas.List.{get_or-set_same, get_or-set_other, get_or_default}
+use Rattle.std.proofs.lemmas.List.{get_or-set_same, get_or-set_other}
 use Rattle.plane_sweep.specs.Packed.{part_copy, part_slot, spins_of}
 use Rattle.plane_sweep.specs.declared.replica.Duo.{Duo}
 use Rattle.plane_sweep.specs.declared.replica.Replica.{Replica}
 use Rattle.measured_sums.specs.OverlapField.{Field, site_overlap, total_overlap, link_overlap}
 use Rattle.measured_sums.specs.PlaneCorrelations.{axis_correlation, face_correlation}
-use Rattle.quenched_states.specs.Copies.{CopyPair, copy_of, copy_among, pair_field}
+use Rattle.quenched_states.specs.Copies.{copy_of, copy_among}
 use Rattle.plane_sums.specs.Fields.{TellsField}
 use Rattle.plane_sums.specs.declared.fields.FieldSums.{FieldSums}
 use Rattle.copies_report.specs.Held.{duo_field, held_at, HoldSlot}

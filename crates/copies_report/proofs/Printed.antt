@@ -1,6 +1,6 @@
 -- The lines of the sums that are held are those of the fields.
-use Rattle.std.proofs.Common.{◌≡◌, ℕ, ◌+◌, ◌*◌, ◌/◌, ◌%◌, ◌<◌, ◌≤◌, List, [], ◌∷◌, ◌++◌, ℤ, pos, take, length, get_or, refl, ap, ap₂, sym, ◌∙◌, arith}
-use Rattle.std.proofs.lemmas.List.{get_or-take, length-take, get_or-map, get_or_default}
+use Rattle.std.proofs.Common.{◌≡◌, ℕ, ◌/◌, ◌%◌, ◌<◌, ◌≤◌, List, [], ℤ, pos, take, length, get_or, refl, ap₂, sym, ◌∙◌, arith}
+use Rattle.std.proofs.lemmas.List.{get_or-take, length-take, get_or-map}
 use Rattle.std.specs.Prelude.{flat_map}
 use Rattle.spin_model.specs.Steps.{table}
 use Rattle.spin_model.proofs.Joined.{joined-same}
@@ -9,13 +9,11 @@ use Rattle.scalar_rule.specs.Epoch.{slot_at}
 use Rattle.scalar_rule.specs.declared.plain_copy.PlainCopy.{PlainCopy}
 use Rattle.scalar_rule.specs.declared.sample.PlainSlot.{PlainSlot}
 use Rattle.plane_sweep.specs.Packed.{part, part_slot}
-use Rattle.plane_sweep.specs.declared.replica.Duo.{Duo}
 use Rattle.plane_sweep.specs.declared.stand.Stand.{Stand}
-use Rattle.measured_sums.specs.OverlapField.{Field}
 use Rattle.quenched_states.specs.Copies.{CopyPair, copy_pairs, pair_field}
-use Rattle.quenched_states.specs.CrossText.{CrossHeading, pair_lines, copies_lines, slots_lines}
+use Rattle.quenched_states.specs.CrossText.{CrossHeading, pair_lines, slots_lines}
 use Rattle.copies_report.specs.Held.{bank_fields}
-use Rattle.copies_report.specs.States.{bank_at, pair_at, sample_among, slot_among, states_fields}
+use Rattle.copies_report.specs.States.{bank_at, pair_at, slot_among, states_fields, AreStates, HasSlots}
 
 -- the numbers at the first distances
 pub column-shown : (number : ℕ → ℤ) (column : List ℤ) (count n : ℕ) → length column ≡ 33 → ((r : ℕ) → r < count → get_or column r (pos 0) ≡ number r)
@@ -37,6 +35,10 @@ slot-read l b stand t below =
     let copy : PlainCopy = record { spins = []; wheels = []; replica = 0 } in
     let slot : PlainSlot = record { first = copy; second = copy } in
     get_or-map (part_slot l b) stand.slots t _ slot below
+
+-- a sample's bank is one of a state's
+pub bank-slots : (h : CrossHeading) (stands : List Stand) (b : ℕ) → AreStates h stands → b < h.samples → HasSlots h.size h.slots (bank_at stands (b / 64))
+bank-slots h stands b are below = are.slots (b / 64) _ (omega (arith, are.samples, below))
 
 -- so the lines of a sample are those of its bank's fields
 pub sample-shown : (h : CrossHeading) (first second : List Stand) (b : ℕ) → length (bank_at first (b / 64)).slots ≡ h.slots → length (bank_at second (b / 64)).slots ≡ h.slots

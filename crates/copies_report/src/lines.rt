@@ -9,7 +9,7 @@ ghost use Rattle.measured_sums.specs.OverlapField.{Field};
 ghost use Rattle.plane_sums.specs.Fields.{TellsField};
 ghost use Rattle.quenched_states.specs.CrossText.{copies_line, pair_lines};
 
-use crate::numbers::column_of;
+use crate::numbers::{column_of, totals_of};
 use crate::pairs::Pair;
 use glass_edges::{Fault, Line, Sink};
 use lattice_geometry::Lattice;
@@ -55,8 +55,7 @@ fn fill_pair(line: &mut Line, sums: &FieldSums, lattice: Lattice, place: CopiesP
 {
     let b = (place.sample % 64) as usize;
     let count = (lattice.size() / 2 + 1) as usize;
-    let totals = [sums.overlaps[b] as i64, sums.links[b] as i64];
-    fill_numbers(line, b"pair", place, &totals);
+    fill_numbers(line, b"pair", place, &totals_of(sums, b));
     fill_numbers(line, b"axis", place, &column_of(&sums.axis, b)[..count]);
     fill_numbers(line, b"face", place, &column_of(&sums.face, b)[..count]);
 }

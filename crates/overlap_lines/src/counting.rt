@@ -84,13 +84,7 @@ struct Pairs<'a> {
 }
 
 // Adds the sites with q q' = +1, where q' is at the site so far on.
-fn add_line(
-    tally: &mut Tally,
-    first: &Replica,
-    second: &Replica,
-    lattice: &Lattice,
-    shift: Shift,
-)
+fn add_line(tally: &mut Tally, first: &Replica, second: &Replica, lattice: &Lattice, shift: Shift)
     requires first { FitsReplica lattice.now first.now }
     requires second { FitsReplica lattice.now second.now }
     requires direction { shift.direction < 3 }
