@@ -1,7 +1,7 @@
 -- The samples below b are written.
 use Rattle.std.proofs.Common.{◌≡◌, ℕ, ◌*◌, ◌<◌, pos, ◌-ℤ◌, length, get_or}
 use Rattle.plane_sums.specs.Correlations.{signed_at}
-use Rattle.plane_sums.proofs.measuring.write_excesses.Given as goal
+use Rattle.plane_sums.proofs.fields.write_excesses.Given as goal
 
 abbrev pub invariant-samples : goal.invariant-samples
 invariant-samples l = record {

@@ -5,21 +5,21 @@ use Rattle.spin_model.proofs.Sites.{volume-bound}
 use Rattle.bit_totals.specs.Tallies.{tallied}
 use Rattle.overlap_lines.specs.Overlaps.{agreeing_line}
 use Rattle.overlap_lines.proofs.LineCounts.{bonds-are-lines, sites-le}
-use Rattle.overlap_lines.proofs.counting.agreeing_bonds.Goals as goal
+use Rattle.overlap_lines.proofs.counting.agreeing_bonds_between.Goals as goal
 
 pub add_line-requires-2-clause-room : goal.add_line-requires-2-clause-room
 add_line-requires-2-clause-room c = λ b h.
     let l = c.args.lattice in
-    let f = spins_of l b c.args.duo.now.first.planes in
-    let s = spins_of l b c.args.duo.now.second.planes in
+    let f = spins_of l b c.args.first.now.planes in
+    let s = spins_of l b c.args.second.now.planes in
     let x = sites-le l f s c.along.result.direction c.along.result.distance in
     omega (arith, c.none-tally.ensures b, c.add_line.ensures b h, x, volume-bound l c.sites.ensures.lawful)
 
 pub add_line-requires-3-clause-room : goal.add_line-requires-3-clause-room
 add_line-requires-3-clause-room c = λ b h.
     let l = c.args.lattice in
-    let f = spins_of l b c.args.duo.now.first.planes in
-    let s = spins_of l b c.args.duo.now.second.planes in
+    let f = spins_of l b c.args.first.now.planes in
+    let s = spins_of l b c.args.second.now.planes in
     let x = sites-le l f s c.along.result.direction c.along.result.distance in
     let y = sites-le l f s c.along-2.result.direction c.along-2.result.distance in
     omega (arith, c.none-tally.ensures b, c.add_line.ensures b h, c.add_line-2.ensures b h, x, y, volume-bound l c.sites.ensures.lawful)
@@ -27,8 +27,8 @@ add_line-requires-3-clause-room c = λ b h.
 pub total-requires : goal.total-requires
 total-requires c = λ b h.
     let l = c.args.lattice in
-    let f = spins_of l b c.args.duo.now.first.planes in
-    let s = spins_of l b c.args.duo.now.second.planes in
+    let f = spins_of l b c.args.first.now.planes in
+    let s = spins_of l b c.args.second.now.planes in
     let x = sites-le l f s c.along.result.direction c.along.result.distance in
     let y = sites-le l f s c.along-2.result.direction c.along-2.result.distance in
     let z = sites-le l f s c.along-3.result.direction c.along-3.result.distance in
@@ -37,8 +37,8 @@ total-requires c = λ b h.
 pub returns-clause-value : goal.returns-clause-value
 returns-clause-value c = λ b h.
     let l = c.args.lattice in
-    let f = spins_of l b c.args.duo.now.first.planes in
-    let s = spins_of l b c.args.duo.now.second.planes in
+    let f = spins_of l b c.args.first.now.planes in
+    let s = spins_of l b c.args.second.now.planes in
     let x : tallied c.add_line.new.tally.rows b ≡ tallied c.none-tally.result.rows b + agreeing_line l f s 0 1
     = rw (c.along.ensures.direction, c.along.ensures.distance) at (c.add_line.ensures b h) in
     let y : tallied c.add_line-2.new.tally.rows b ≡ tallied c.add_line.new.tally.rows b + agreeing_line l f s 1 1
@@ -50,8 +50,8 @@ returns-clause-value c = λ b h.
 pub returns-clause-within : goal.returns-clause-within
 returns-clause-within c = λ b h.
     let l = c.args.lattice in
-    let f = spins_of l b c.args.duo.now.first.planes in
-    let s = spins_of l b c.args.duo.now.second.planes in
+    let f = spins_of l b c.args.first.now.planes in
+    let s = spins_of l b c.args.second.now.planes in
     let x = sites-le l f s c.along.result.direction c.along.result.distance in
     let y = sites-le l f s c.along-2.result.direction c.along-2.result.distance in
     let z = sites-le l f s c.along-3.result.direction c.along-3.result.distance in
