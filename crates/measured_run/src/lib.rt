@@ -1,0 +1,7 @@
+//! A run that sums up what is measured of each slot behind the sweeps of the measured epochs: banks of 64
+//! disorder samples, from their states at one epoch to another, by the serial dynamics.
+#![tactic(auto)]
+
+mod cell;
+mod exchanging;
+mod step;
