@@ -89,3 +89,11 @@ pub record AreExchanged (plan : Plan) (epoch : ℕ) (pairs pairs_after : List Pa
   pub fits : FitCells plan cells_after
   pub wheels_fit : All ArePairGenerators pairs_after
   pub sums : sums_in cells_after ≡ sums_in cells
+
+-- ---- both
+
+-- an epoch: the slots are swept, and those of the sweeps' end are exchanged
+pub record RunsEpoch (plan : Plan) (every epoch : ℕ) (pairs pairs_after : List PairWheels) (cells cells_after : List Cell) : Type 0 where
+  pub between : List Cell
+  pub swept : AreSwept plan every epoch 0 cells between
+  pub exchanged : AreExchanged plan epoch pairs pairs_after between cells_after

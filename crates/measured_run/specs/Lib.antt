@@ -1,1 +1,3 @@
+pub mod Banks
 pub mod Cells
+pub mod Keeps

@@ -2,6 +2,8 @@
 //! disorder samples, from their states at one epoch to another, by the serial dynamics.
 #![tactic(auto)]
 
+mod bank;
 mod cell;
 mod exchanging;
 mod step;
+mod sweeping;
