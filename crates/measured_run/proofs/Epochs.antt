@@ -26,8 +26,9 @@ use Rattle.measured_sums.proofs.Growth.{sums-grow}
 use Rattle.plane_sums.specs.Bins.{SumsView, bin_at}
 use Rattle.plane_sums.specs.Slots.{HaveSums}
 use Rattle.plane_sums.proofs.SlotGrowth.{runs-have-room}
+use Rattle.measured_run.specs.Banks.{start_of}
 use Rattle.measured_run.specs.Cells.{slots_in, pairs_in, sums_in, CanSweep, IsSweptCell, AreSwept, RunsEpoch}
-use Rattle.measured_run.specs.Keeps.{sample_in, start_of, HaveBins, KeepsCells}
+use Rattle.measured_run.specs.Keeps.{sample_in, HaveBins, KeepsCells}
 use Rattle.measured_run.specs.declared.cell.Cell.{Cell}
 use Rattle.measured_run.proofs.Pairs.{slots-long, pairs-long, same-count}
 
@@ -54,7 +55,7 @@ unfolding part
 start-epoch plan base b = refl
 
 -- a slot that isn't there
-abbrev no_cell : Cell
+abbrev pub no_cell : Cell
 no_cell = record {
   duo = record { first = record { planes = []; labels = [] }; second = record { planes = []; labels = [] } };
   sums = record { first = 0; bins = [] };

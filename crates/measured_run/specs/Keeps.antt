@@ -5,14 +5,13 @@ use Rattle.spin_model.specs.Limits.{last_epoch}
 use Rattle.scalar_rule.specs.Plan.{Plan, slots_of, pairs_of}
 use Rattle.scalar_rule.specs.Serial.{serial}
 use Rattle.scalar_rule.specs.declared.sample.Sample.{Sample}
-use Rattle.plane_sweep.specs.Packed.{part, ArePairGenerators, StandFits}
+use Rattle.plane_sweep.specs.Packed.{ArePairGenerators, StandFits}
 use Rattle.plane_sweep.specs.declared.stand.PairWheels.{PairWheels}
-use Rattle.plane_sweep.specs.declared.stand.Stand.{Stand}
 use Rattle.measured_sums.specs.EpochBins.{bin_of}
 use Rattle.measured_sums.specs.RunningSums.{sums_below}
 use Rattle.plane_sums.specs.Bins.{SumsView}
 use Rattle.plane_sums.specs.Slots.{HaveSums}
-use Rattle.measured_run.specs.Banks.{BankView}
+use Rattle.measured_run.specs.Banks.{BankAt, start_of}
 use Rattle.measured_run.specs.Cells.{slots_in, pairs_in, FitCells}
 use Rattle.measured_run.specs.declared.bank.Bank.TheInside as bank
 use Rattle.measured_run.specs.declared.cell.Cell.{Cell}
@@ -36,12 +35,8 @@ pub record KeepsCells (plan : Plan) (start : ℕ → Sample) (every until e : �
   pub sums : (t : ℕ) (d : Cell) → t < length cells → HaveSums plan.size (λ b. sums_below plan (start b) every t e) (slice_index_or cells t d).sums
   pub bins : All (λ (cell : Cell). HaveBins (start 0).epoch until cell.sums) cells
 
--- sample b of the packed state from which a bank starts
-abbrev pub start_of : Plan → Stand → ℕ → Sample
-start_of plan base b = part plan.size b base
-
-abbrev pub bank_view : bank.Inside → BankView
-bank_view b = record { plan = arc_value b.plan; base = b.base.value; every = b.every; until = b.until; epoch = b.epoch }
+abbrev pub bank_at : bank.Inside → BankAt
+bank_at b = record { bank = record { plan = arc_value b.plan; base = b.base.value; every = b.every; until = b.until }; epoch = b.epoch }
 
 -- it started in a state that fits, and has what the serial dynamics gives at its epoch
 pub record KeepsBank (b : bank.Inside) : Type 0 where

@@ -34,19 +34,24 @@ pub(crate) struct Bank {
 }
 
 impl Model for Bank {
-    ghost use Rattle.measured_run.specs.Banks.{BankView};
+    ghost use Rattle.measured_run.specs.Banks.{BankAt};
 
-    ghost Value = { BankView };
+    ghost Value = { BankAt };
 
-    ghost use Rattle.measured_run.specs.Keeps.{bank_view, KeepsBank};
+    ghost use Rattle.measured_run.specs.Keeps.{bank_at, KeepsBank};
 
-    ghost view = { bank_view };
+    ghost view = { bank_at };
 
     ghost invariant = { KeepsBank };
 }
 
 impl Bank {
-    ghost use Rattle.measured_run.specs.Banks.{at_epoch};
+    /// The epochs that are left.
+    pub(crate) fn left(&self) -> u64
+        ensures { result + self.now.epoch ≡ self.now.bank.until }
+    {
+        self.until - self.epoch
+    }
 
     /// Takes a bank an epoch on: the sweeps of each slot, what is measured of it behind them, and the exchange.
     /// Takes no memory.
@@ -57,10 +62,10 @@ impl Bank {
         room: &mut MeasuringRoom,
         pieces: u32,
     )
-        requires left { self.old.epoch < self.old.until }
+        requires left { self.old.epoch < self.old.bank.until }
         requires some_pieces { 1 ≤ pieces }
         requires few_pieces { pieces ≤ 16 }
-        ensures { self.new ≡ at_epoch (self.old.epoch + 1) self.old }
+        ensures { self.new ≡ record { bank = self.old.bank; epoch = self.old.epoch + 1 } }
     {
         let step = Step {
             plan: &self.plan,

@@ -4,6 +4,9 @@
 
 mod bank;
 mod cell;
+mod driven;
 mod exchanging;
+mod opening_bank;
+mod room;
 mod step;
 mod sweeping;

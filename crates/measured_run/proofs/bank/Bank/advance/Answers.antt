@@ -4,9 +4,9 @@ use Rattle.std.proofs.Common.{◌≡◌, ◌+◌, ◌<◌, ℕ, List, ◌++◌, 
 use Rattle.scalar_rule.specs.Plan.{Plan}
 use Rattle.scalar_rule.proofs.PlaneSweeps.{written_over}
 use Rattle.plane_sweep.specs.declared.stand.PairWheels.{PairWheels}
-use Rattle.measured_run.specs.Banks.{BankView}
+use Rattle.measured_run.specs.Banks.{BankAt, start_of}
 use Rattle.measured_run.specs.Cells.{CanSweep, RunsEpoch}
-use Rattle.measured_run.specs.Keeps.{start_of, KeepsCells}
+use Rattle.measured_run.specs.Keeps.{KeepsCells}
 use Rattle.measured_run.specs.declared.cell.Cell.{Cell}
 use Rattle.measured_run.proofs.Epochs.{start-epoch, can-sweep, keeps-next}
 use Rattle.measured_run.proofs.bank.Bank.advance.Goals as goal
@@ -15,7 +15,7 @@ pub run_epoch-requires-clause-can : goal.run_epoch-requires-clause-can
 run_epoch-requires-clause-can g c κs within =
     let b = c.self.inside in
     let plan = arc_value b.plan in
-    let left = subst (λ (v : BankView). v.epoch < v.until) (sym c.self.view_is) c.requires.left in
+    let left = subst (λ (v : BankAt). v.epoch < v.bank.until) (sym c.self.view_is) c.requires.left in
     let can = can-sweep plan (start_of plan b.base.value) b.every b.until b.epoch b.cells b.pairs c.self.invariant.cells (omega (arith, start-epoch plan b.base.value 0, c.self.invariant.from)) left c.self.invariant.until in
     subst (λ (p : Plan). All (CanSweep p b.epoch) c.as_mut_slice.result.now) (sym c.deref.ensures)
     (subst (λ (cells : List Cell). All (CanSweep plan b.epoch) cells) (sym c.as_mut_slice.ensures.value) can)
@@ -26,7 +26,7 @@ invariant_of-self g c =
     let plan = arc_value b.plan in
     let kept = c.self.invariant in
     let start = start_of plan b.base.value in
-    let left = subst (λ (v : BankView). v.epoch < v.until) (sym c.self.view_is) c.requires.left in
+    let left = subst (λ (v : BankAt). v.epoch < v.bank.until) (sym c.self.view_is) c.requires.left in
     let runs =
     subst (λ (p : Plan). RunsEpoch p b.every b.epoch b.pairs c.run_epoch.new.pairs b.cells c.run_epoch.new.cells) c.deref.ensures
     (subst (λ (ps : List PairWheels). RunsEpoch c.deref.result.now b.every b.epoch ps c.run_epoch.new.pairs b.cells c.run_epoch.new.cells) c.as_mut_slice-2.ensures.value
