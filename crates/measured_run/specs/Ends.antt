@@ -32,6 +32,11 @@ pub record IsEnd (bank : BankView) (stand : RaggedStand) : Type 0 where
   pub epoch : (flattened stand).epoch ≡ bank.until
   pub states : (b : ℕ) → b < 64 → part bank.plan.size b (flattened stand) ≡ serial bank.plan (start_of bank.plan bank.base b) bank.until
 
+-- there is such a state
+pub record HasEnded (bank : BankView) : Type 0 where
+  pub stand : RaggedStand
+  pub end : IsEnd bank stand
+
 -- and the sums of slot t are those of the run
 pub record HoldsSums (bank : BankView) (t : ℕ) (sums : SumsView) : Type 0 where
   pub bins : HaveBins bank.base.epoch bank.until sums

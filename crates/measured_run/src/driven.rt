@@ -3,7 +3,7 @@
 ghost use Rattle.std.specs.Prelude.{◌≡◌, ◌≤◌, [], length, vec_capacity};
 ghost use Rattle.measured_run.specs.Banks.{BankView};
 ghost use Rattle.measured_run.specs.Cells.{sums_in};
-ghost use Rattle.measured_run.specs.Ends.{HasEndRoom, HoldsSlots, IsEnd};
+ghost use Rattle.measured_run.specs.Ends.{HasEnded, HasEndRoom, HoldsSlots, IsEnd};
 ghost use Rattle.measured_run.specs.Opens.{duos_in};
 
 use crate::bank::Bank;
@@ -91,6 +91,7 @@ impl BankRun {
         requires some_pieces { 1 ≤ pieces }
         requires few_pieces { pieces ≤ 16 }
         ensures bank { result.0 ≡ self }
+        ensures end { HasEnded self }
         ensures sums { HoldsSlots self result.1 }
     {
         let BankRun {
@@ -125,8 +126,11 @@ fn take_apart(bank: Bank, room: EndRoom) -> (BankDone, Items<SlotSums>)
     requires ended { bank.epoch ≡ bank.bank.until }
     requires room { HasEndRoom bank.bank room }
     ensures bank { result.0 ≡ bank.bank }
+    ensures end { HasEnded bank.bank }
     ensures sums { HoldsSlots bank.bank result.1 }
 {
+    // A plan has a slot.
+    let _ = bank.plan.slots();
     let Bank {
         plan,
         base,
