@@ -1,6 +1,6 @@
 -- Banks of a run one by one.
 use Rattle.std.specs.Prelude.{All}
-use Rattle.std.proofs.Common.{◌≡◌, ℕ, zero, suc, ◌+◌, ◌*◌, ◌<◌, ◌≤◌, List, [], ◌∷◌, ◌++◌, length, map, drop, get_or, ap, ap₂, refl, sym, subst, ◌∙◌, arith, add-one}
+use Rattle.std.proofs.Common.{◌≡◌, ℕ, zero, suc, ◌+◌, ◌*◌, ◌<◌, ◌≤◌, List, [], ◌∷◌, ◌++◌, length, map, drop, get_or, ap, ap₂, refl, sym, ◌∙◌, arith, add-one}
 use Rattle.std.proofs.Math.Seq.{drop-cons}
 use Rattle.std.proofs.lemmas.List.{length-map}
 use Rattle.std.proofs.lemmas.List.Elements.{All-head, All-tail}
@@ -80,9 +80,10 @@ end-state : (bank : BankView) (start : ℕ → Sample) (until : ℕ) → HasEnde
 end-state bank start until ended last stands =
     let plan = bank.plan in
     let flat = flattened ended.stand in
-    let own = λ (b : ℕ) (small : b < 64). ended.end.states b small ∙ ap₂ (λ (s : Sample) (e : ℕ). serial plan s e) (stands b small) last in
-    (record { stand = flat; fits = ended.end.fits; stands = own },
-    ap (λ (s : Sample). s.epoch) (sym (own 0 (omega arith))) ∙ start-epoch plan flat 0 ∙ ended.end.epoch ∙ last)
+    let own = λ (b : ℕ) (small : b < 64). ended.end.states b small ∙ ap₂ (λ (s : Sample) (e : ℕ). serial plan s e) (stands b small) last in (
+      record { stand = flat; fits = ended.end.fits; stands = own },
+      ap (λ (s : Sample). s.epoch) (sym (own 0 (omega arith))) ∙ start-epoch plan flat 0 ∙ ended.end.epoch ∙ last,
+    )
 
 pub are-banks : (banks : List BankView) (starts : List (ℕ → Sample)) (until : ℕ) → All HasEnded banks → All (λ (bank : BankView). bank.until ≡ until) banks
     → BanksStand (plans_in banks) starts (bases_in banks) → AreBanks until (plans_in banks) (states_at (plans_in banks) starts until)
@@ -95,6 +96,13 @@ are-banks (b ∷ bs) (s ∷ ss) until ended last stand =
     (own.0, own.1, are-banks bs ss until (All-tail HasEnded b bs ended) (All-tail (λ (bank : BankView). bank.until ≡ until) b bs last) stand.1)
 
 -- ---- the states before the first epoch
+
+pub fit-before : (epoch : ℕ) (plans : List Plan) (before rest : List Stand) (base : Stand) → BanksFit epoch plans (before ++ base ∷ rest) → length before < length plans
+unfolding BanksFit
+fit-before epoch [] [] rest base fit = absurd fit
+fit-before epoch [] (x ∷ xs) rest base fit = absurd fit
+fit-before epoch (plan ∷ plans) [] rest base fit = omega arith
+fit-before epoch (plan ∷ plans) (x ∷ xs) rest base fit = let more = fit-before epoch plans xs rest base fit.2 in omega (arith, more)
 
 pub fit-at : (epoch : ℕ) (plans : List Plan) (before rest : List Stand) (base : Stand) (d : Plan) → BanksFit epoch plans (before ++ base ∷ rest)
     → (length before < length plans) × StandFits (get_or plans (length before) d) base × (base.epoch ≡ epoch)

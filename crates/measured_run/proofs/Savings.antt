@@ -1,5 +1,5 @@
 -- The checkpoint of banks at their end.
-use Rattle.std.specs.Prelude.{All, flat_map}
+use Rattle.std.specs.Prelude.{All, flat_map, OnOk, Result, Ok, Err}
 use Rattle.std.proofs.Common.{◌≡◌, ℕ, ◌+◌, ◌*◌, ◌<◌, ◌≤◌, List, [], ◌∷◌, ◌++◌, length, drop, get_or, append_assoc, append-nil, ap, ap₂, refl, sym, subst, ◌∙◌, arith}
 use Rattle.std.proofs.lemmas.List.{length-map, drop_all}
 use Rattle.std.proofs.lemmas.List.Elements.{All-head, All-tail}
@@ -99,3 +99,9 @@ checkpoint-serial (b ∷ []) (s ∷ ss) until last stand = own-bytes b s until (
 checkpoint-serial (b ∷ next ∷ bs) starts until last stand =
     let banks = b ∷ next ∷ bs in
     ap₂ (λ (n : ℕ) (xs : List ℕ). sealed (banks_header n ++ xs)) (sym (length-map banks (λ (bank : BankView). bank.plan))) (many-bytes banks starts until last stand)
+
+-- ---- an outcome
+
+pub on-ok : {T E : Type 0} (r : Result T E) (P Q : Type 0) → (P → Q) → OnOk r P → OnOk r Q
+on-ok (Ok x) P Q then p = then p
+on-ok (Err e) P Q then p = tt

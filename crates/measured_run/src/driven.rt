@@ -164,11 +164,7 @@ fn take_apart(bank: Bank, room: EndRoom) -> (BankDone, Items<SlotSums>)
 }
 
 // The replicas of slots, and what was summed up of them, into lists that have room for them.
-fn part_cells(
-    cells: Vec<Cell>,
-    duos: Vec<Duo>,
-    sums: Vec<SlotSums>,
-) -> (Vec<Duo>, Vec<SlotSums>)
+fn part_cells(cells: Vec<Cell>, duos: Vec<Duo>, sums: Vec<SlotSums>) -> (Vec<Duo>, Vec<SlotSums>)
     requires duos { duos.items ≡ [] }
     requires sums { sums.items ≡ [] }
     requires duos_room { length cells.items ≤ vec_capacity duos }

@@ -80,12 +80,7 @@ pub(crate) fn open_bank(
 }
 
 // The slots with nothing summed up, and with room for the epochs from one on and below another.
-fn open_cells(
-    alloc: Global,
-    duos: Vec<Duo>,
-    from: u64,
-    until: u64,
-) -> Result<Vec<Cell>, NoMemory>
+fn open_cells(alloc: Global, duos: Vec<Duo>, from: u64, until: u64) -> Result<Vec<Cell>, NoMemory>
     requires from { from ≤ last_epoch }
     requires until { until ≤ last_epoch }
     ensures duos { IfOk result (λ cells. duos_in cells.items ≡ duos.items) }
