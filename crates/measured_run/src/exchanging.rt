@@ -16,12 +16,7 @@ use scalar_rule::{Plan, has_turn};
 use slot_steps::PlanPair;
 
 /// The exchange of the pairs that have their turn at an epoch.
-pub(crate) fn exchange_pairs(
-    cells: &mut [Cell],
-    pairs: &mut [PairWheels],
-    plan: &Plan,
-    epoch: u64,
-)
+pub(crate) fn exchange_pairs(cells: &mut [Cell], pairs: &mut [PairWheels], plan: &Plan, epoch: u64)
     requires cells { length cells.old ≡ slots_of plan.now }
     requires pairs { length pairs.old ≡ pairs_of plan.now }
     requires fits { FitCells plan.now cells.old }

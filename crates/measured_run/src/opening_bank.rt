@@ -10,6 +10,7 @@ ghost use Rattle.spin_model.specs.Limits.{last_epoch};
 
 use crate::bank::Bank;
 use crate::cell::Cell;
+use crate::course::Course;
 use crate::driven::BankRun;
 use crate::room::EndRoom;
 use glass_edges::NoMemory;
@@ -22,13 +23,6 @@ use slot_steps::Totals;
 use std::alloc::Global;
 use std::snapshot::Snapshot;
 use std::sync::Arc;
-
-/// Of how many epochs the last is measured, and the epoch to which a run goes.
-#[derive(Clone, Copy)]
-pub(crate) struct Course {
-    pub(crate) every: u64,
-    pub(crate) until: u64,
-}
 
 /// Opens a bank at its state: the sums of its slots, and room for what is left of it at its end.
 pub(crate) fn open_bank(
@@ -86,12 +80,7 @@ pub(crate) fn open_bank(
 }
 
 // The slots with nothing summed up, and with room for the epochs from one on and below another.
-fn open_cells(
-    alloc: Global,
-    duos: Vec<Duo>,
-    from: u64,
-    until: u64,
-) -> Result<Vec<Cell>, NoMemory>
+fn open_cells(alloc: Global, duos: Vec<Duo>, from: u64, until: u64) -> Result<Vec<Cell>, NoMemory>
     requires from { from ≤ last_epoch }
     requires until { until ≤ last_epoch }
     ensures duos { IfOk result (λ cells. duos_in cells.items ≡ duos.items) }
