@@ -34,7 +34,7 @@ use Rattle.glass_main.proofs.OneOfBanks.{stepped, same-ok}
 use Rattle.glass_main.proofs.ReadBytes.{held-is}
 use Rattle.glass_main.proofs.ReadRuns.{accepted-banks}
 use Rattle.glass_main.proofs.ReadStops.{accepted}
-use Rattle.command_words.proofs.SaidRuns.{command_of-run}
+use Rattle.command_words.proofs.SaidCommands.{command_of-run}
 
 -- ---- the last epoch
 

@@ -5,7 +5,7 @@ use Rattle.glass_main.proofs.Completing.{completes}
 use Rattle.glass_main.proofs.EncodedStarts.{request-starts}
 use Rattle.glass_main.proofs.LawfulRequests.{request-lawful}
 use Rattle.glass_main.proofs.ReadBytes.{done-of}
-use Rattle.command_words.proofs.SaidRuns.{command_of-run}
+use Rattle.command_words.proofs.SaidCommands.{command_of-run}
 use Rattle.glass_main.proofs.top.glass.Goals as goal
 
 pub returns-clause-complete : goal.returns-clause-complete
