@@ -6,7 +6,7 @@ use Rattle.std.proofs.lemmas.Option.{none-some, same_Some}
 use Rattle.std.proofs.lemmas.Slice.Eq.{bytes_eq-Decides}
 use Rattle.command_words.specs.Words.{given, word_at}
 use Rattle.command_words.specs.RunWords.{RunOrder, SaysRun}
-use Rattle.command_words.specs.RunReading.{run_order}
+use Rattle.command_words.specs.RunReading.{said_by, run_order}
 use Rattle.command_words.specs.PottsWords.{potts_order}
 use Rattle.command_words.specs.MeasureWords.{MeasureOrder, SaysMeasure, run_to_measure, unless_stopped, measure_order}
 use Rattle.command_words.specs.CommandLine.{Command, Plain, Check, Run, Average, Demo, Lines, Potts, Age, Measure, plain_order, check_name, average_order, demo_number, lines_order, age_order, command_of}
@@ -101,7 +101,7 @@ is-unstopped None run order stops h =
 
 measure_order-said : (words : List (List ℕ)) (order : MeasureOrder) → word_at words 0 ≡ codes "measure" → measure_order words ≡ Some order
     → SaysMeasure words order
-unfolding measure_order run_order
+unfolding measure_order run_order said_by
 measure_order-said [] order first h = absurd (none-some order h)
 measure_order-said (word ∷ options) order first h =
     let read = given-some (run_order (codes "run" ∷ options)) (λ (r : RunOrder). unless_stopped r.stop_after r) order h in
