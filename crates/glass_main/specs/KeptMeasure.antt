@@ -10,7 +10,9 @@ use Rattle.run_plan.specs.RunFile.{AreOrdersOfBanks}
 use Rattle.scalar_rule.specs.Plan.{Plan}
 use Rattle.glass_main.specs.ManyBanks.{PlannedBanks}
 use Rattle.glass_main.specs.MeasureRun.{level_banks_refusal, level_banks_in}
+use Rattle.glass_main.specs.Resumes.{AreResumable}
 use Rattle.glass_main.specs.declared.banked.Banked.TheInside.{Inside}
+use Rattle.glass_main.specs.declared.measure.Measured.{Measured}
 
 abbrev pub banked_view : Inside → PlannedBanks
 banked_view p = record { plans = map arc_value p.plans.items; orders = p.orders }
@@ -33,6 +35,13 @@ is_named None = false
 is_named (Some name) = true
 
 -- the run over which the sums are, from these packed states
-abbrev pub measured_run : PlannedBanks → List Stand → ℕ → Option (List ℕ) → RunView
-measured_run planned bases until name =
+abbrev pub run_of : PlannedBanks → List Stand → ℕ → Option (List ℕ) → RunView
+run_of planned bases until name =
     record { plans = planned.plans; bases = bases; every = planned.orders.every; until = until; saves = is_named name }
+
+-- a run that can be driven, printed and saved, with its plans
+pub record IsReady (name : Option (List ℕ)) (measured : Measured) : Type 0 where
+  pub plans : measured.run.plans ≡ measured.planned.plans
+  pub every : measured.run.every ≡ measured.planned.orders.every
+  pub saves : measured.run.saves ≡ is_named name
+  pub stands : AreResumable measured.planned.plans measured.run.until measured.run.bases

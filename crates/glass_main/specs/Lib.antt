@@ -22,6 +22,6 @@ pub mod NamedStarts
 pub mod KeptPlans
 pub mod Gathers
 pub mod BankTables
-pub mod KeptMeasure
 pub mod Resumes
+pub mod KeptMeasure
 pub mod Opened

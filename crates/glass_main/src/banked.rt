@@ -34,7 +34,7 @@ impl Model for Banked {
 }
 
 /// The same plans as a list.
-pub(crate) fn banked(alloc: Global, plans: Plans) -> Result<Banked, NoMemory>
+pub(crate) fn list_banks(alloc: Global, plans: Plans) -> Result<Banked, NoMemory>
     requires { HasLawfulOrders plans }
     ensures { IfOk result (λ banked. banked ≡ banks_of plans) }
 {

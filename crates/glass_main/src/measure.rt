@@ -8,20 +8,20 @@ ghost use Rattle.glass_edges.specs.Writes.{Writes};
 ghost use Rattle.glass_main.specs.CheckpointBytes.{ResumesBytes};
 ghost use Rattle.glass_main.specs.Endings.{IsOfBanked, IsOfLevel, IsReached};
 ghost use Rattle.glass_main.specs.Gathers.{Gathers};
-ghost use Rattle.glass_main.specs.KeptMeasure.{is_named, measured_run};
+ghost use Rattle.glass_main.specs.KeptMeasure.{is_named, run_of, IsReady};
 ghost use Rattle.glass_main.specs.MeasureRun.{measured_text};
 ghost use Rattle.glass_main.specs.Opened.{IsOfOpenRun};
 ghost use Rattle.glass_main.specs.Outside.{output, store};
 ghost use Rattle.glass_main.specs.Request as model;
 ghost use Rattle.glass_main.specs.Resumes.{AreResumable};
 ghost use Rattle.glass_main.specs.Statuses.{Ends, IfRefused, Kept, Printed, Saved, Unsought, Unplaced, Wrote};
-ghost use Rattle.measured_run.specs.Runs.{RunView, checkpoint_at};
+ghost use Rattle.measured_run.specs.Runs.{checkpoint_at};
 ghost use Rattle.run_checkpoint.specs.BankEncoding.{BanksStand};
 ghost use Rattle.scalar_rule.specs.declared.sample.Sample.{Sample};
 ghost use Rattle.spin_model.specs.Limits.{last_epoch};
 
 use crate::bank_gathering::gather_plans;
-use crate::banked::{Banked, banked};
+use crate::banked::{Banked, list_banks};
 use crate::digest_lines::digits;
 use crate::ending::Ending;
 use crate::level_resuming::gather_level;
@@ -85,7 +85,7 @@ fn gather_banked<H: Shelf>(alloc: Global, shelf: &mut H, name: &str) -> Result<B
     ensures banks { IfErr result (λ ending. IfRefused ending (IsOfBanked true)) }
 {
     let plans = gather_plans(alloc, shelf, name, true)?;
-    match banked(alloc, plans) {
+    match list_banks(alloc, plans) {
         Ok(planned) => Ok(planned),
         Err(NoMemory) => Err(Ending::NoMemory),
     }
@@ -103,7 +103,8 @@ fn open_run(
     requires until { until ≤ last_epoch }
     requires order { IsLawfulMeasure order.now }
     ensures planned { IfOk result (λ measured. measured.planned ≡ planned) }
-    ensures run { IfOk result (λ measured. measured.run ≡ measured_run planned stands until (name_bytes order.now.save)) }
+    ensures run { IfOk result (λ measured. measured.run ≡ run_of planned stands until (name_bytes order.now.save)) }
+    ensures ready { IfOk result (IsReady (name_bytes order.now.save)) }
 {
     let run = open(
         alloc,
@@ -127,6 +128,18 @@ fn finish<R: Threads + Wait + Sync, H: Shelf, O: Sink, G: Gate + Sync>(
     measured: Measured,
     order: &MeasureOrder<'_>,
 ) -> Ending
+    requires order { IsLawfulMeasure order.now }
+    requires ready { IsReady (name_bytes order.now.save) measured }
+    ensures ending { IsOfOpenRun (name_bytes order.now.save) result }
+    ensures out { Printed result (output O.Sink out.old) (output O.Sink out.new) }
+    ensures files { Kept (name_bytes order.now.save) result
+        (store H.Shelf shelf.old) (store H.Shelf shelf.new) }
+    ensures wrote { (starts : List (ℕ → Sample)) → BanksStand measured.planned.plans starts measured.run.bases
+        → Wrote (name_bytes order.now.save) (Some (Ok (model.MeasureWork measured.planned starts measured.run.until))) result
+        (store H.Shelf shelf.old) (store H.Shelf shelf.new)
+        (output O.Sink out.old) (output O.Sink out.new) }
+    ensures later { O.faults out.old ≤ O.faults out.new }
+    ensures later_store { H.faults shelf.old ≤ H.faults shelf.new }
 {
     let Measured { planned, run } = measured;
     let mut done = drive(rt, run, order.pieces, gate);
@@ -142,6 +155,12 @@ fn finish<R: Threads + Wait + Sync, H: Shelf, O: Sink, G: Gate + Sync>(
 
 // Prints the sums of a run at its end.
 fn put_sums<O: Sink>(out: &mut O, done: &Done, planned: &Banked) -> Result<(), Fault>
+    requires plans { done.now.plans ≡ planned.now.plans }
+    requires every { done.now.every ≡ planned.now.orders.every }
+    requires stands { AreResumable planned.now.plans done.now.until done.now.bases }
+    ensures text { (starts : List (ℕ → Sample)) → BanksStand planned.now.plans starts done.now.bases
+        → Writes O.Sink out.old out.new (measured_text planned.now starts done.now.until) result }
+    ensures cause { HasCause (O.faults out.old) (O.faults out.new) result }
 {
     let digest = digits(&digest_banks(&planned.plans));
     let title = Title {
@@ -154,6 +173,16 @@ fn put_sums<O: Sink>(out: &mut O, done: &Done, planned: &Banked) -> Result<(), F
 
 // Places the checkpoint of a run at its end, where a name is given.
 fn save_run<H: Shelf>(done: &mut Done, shelf: &mut H, name: Option<&str>) -> Result<(), Fault>
+    requires { done.old.saves ≡ is_named (name_bytes name.entry) }
+    ensures placed { OnOk result ((starts : List (ℕ → Sample)) → BanksStand done.old.plans starts done.old.bases
+        → Saved (name_bytes name.entry) (checkpoint_at done.old.plans starts done.old.until)
+        (store H.Shelf shelf.old) (store H.Shelf shelf.new)) }
+    ensures unsought { OnOk result (Unsought (name_bytes name.entry)
+        (store H.Shelf shelf.old) (store H.Shelf shelf.new)) }
+    ensures others { OnErr result (Unplaced (name_bytes name.entry)
+        (store H.Shelf shelf.old) (store H.Shelf shelf.new)) }
+    ensures named { OnErr result (name_bytes name.entry ≢ None) }
+    ensures cause { HasCause (H.faults shelf.old) (H.faults shelf.new) result }
 {
     match name {
         None => Ok(()),
