@@ -9,6 +9,7 @@ pub mod Resumed
 pub mod Amounts
 pub mod RunEndings
 pub mod MeasureEndings
+pub mod MeasuredRuns
 pub mod Finished
 pub mod OneBank
 pub mod AddingUp

@@ -173,7 +173,7 @@ fn put_sums<O: Sink>(out: &mut O, done: &Done, planned: &Banked) -> Result<(), F
 
 // Places the checkpoint of a run at its end, where a name is given.
 fn save_run<H: Shelf>(done: &mut Done, shelf: &mut H, name: Option<&str>) -> Result<(), Fault>
-    requires { done.old.saves ≡ is_named (name_bytes name.entry) }
+    requires { done.old.saves ≡ is_named (name_bytes name) }
     ensures placed { OnOk result ((starts : List (ℕ → Sample)) → BanksStand done.old.plans starts done.old.bases
         → Saved (name_bytes name.entry) (checkpoint_at done.old.plans starts done.old.until)
         (store H.Shelf shelf.old) (store H.Shelf shelf.new)) }
