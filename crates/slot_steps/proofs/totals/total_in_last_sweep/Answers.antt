@@ -8,7 +8,7 @@ use Rattle.scalar_rule.specs.declared.plain_copy.PlainCopy.{PlainCopy}
 use Rattle.scalar_rule.specs.declared.sample.PlainSlot.{PlainSlot}
 use Rattle.plane_sweep.specs.Packed.{part_copy}
 use Rattle.plane_sweep.proofs.ColourSweeps.{sweeps-more}
-use Rattle.exchange_board.proofs.totals.total_in_last_sweep.Goals as goal
+use Rattle.slot_steps.proofs.totals.total_in_last_sweep.Goals as goal
 
 pub returns-clause-swept : goal.returns-clause-swept
 unfolding swept_slot

@@ -1,16 +1,15 @@
 //! The sweeps of an epoch in all 64 samples, and the sums after them.
 
-ghost use Rattle.std.specs.Prelude.{◌≡◌, ℕ, ◌<◌, ◌≤◌, slice_index};
-ghost use Rattle.exchange_board.specs.Totals.{AreTotals, Measures};
-ghost use Rattle.multispin_word.specs.Planes.{number};
+ghost use Rattle.std.specs.Prelude.{◌≡◌, ℕ, ◌<◌, ◌≤◌};
 ghost use Rattle.plane_sweep.specs.Packed.{part_slot, FitsDuo};
 ghost use Rattle.scalar_rule.specs.Epoch as model;
 ghost use Rattle.scalar_rule.specs.Plan.{slots_of};
+ghost use Rattle.slot_steps.specs.Totals.{AreTotals};
 
-use bit_totals::{agreeing, sweep_duo_and_count, unsatisfied_duo};
+use bit_totals::{sweep_duo_and_count, unsatisfied_duo};
 use multispin_word::Planes;
 use plane_sweep::{Duo, is_forked, sweep_duo_often};
-use scalar_rule::{Plan, Record, excess};
+use scalar_rule::Plan;
 use std::thread::Threads;
 
 /// The unsatisfied bonds of both replicas of a slot in 64 samples, as twenty bit planes: 0 to 3V for V
@@ -22,7 +21,7 @@ pub struct Totals {
 }
 
 /// The totals of a slot, counted now.
-pub(crate) fn count_totals(duo: &Duo, plan: &Plan) -> Totals
+pub fn count_totals(duo: &Duo, plan: &Plan) -> Totals
     requires { FitsDuo plan.now.size duo.now }
     ensures { AreTotals plan.now duo.now result }
 {
@@ -31,7 +30,7 @@ pub(crate) fn count_totals(duo: &Duo, plan: &Plan) -> Totals
 }
 
 /// The sweeps of an epoch of both replicas of a slot, and its totals after them.
-pub(crate) fn sweep_and_total<R: Threads + Sync>(
+pub fn sweep_and_total<R: Threads + Sync>(
     rt: &R,
     duo: &mut Duo,
     plan: &Plan,
@@ -76,13 +75,7 @@ fn total_in_last_sweep<R: Threads + Sync>(rt: &R, duo: &mut Duo, plan: &Plan, sl
 
 /// The sweeps of an epoch of both replicas of a slot.
 #[tactic(auto, unfolding(scalar_rule::specs::Epoch::swept_slot))]
-pub(crate) fn sweep_slot<R: Threads + Sync>(
-    rt: &R,
-    duo: &mut Duo,
-    plan: &Plan,
-    slot: u32,
-    pieces: u32,
-)
+pub fn sweep_slot<R: Threads + Sync>(rt: &R, duo: &mut Duo, plan: &Plan, slot: u32, pieces: u32)
     requires duo { FitsDuo plan.now.size duo.old }
     requires slot { slot < slots_of plan.now }
     requires some_pieces { 1 ≤ pieces }
@@ -93,54 +86,4 @@ pub(crate) fn sweep_slot<R: Threads + Sync>(
 {
     let count = plan.sweeps();
     sweep_duo_often(rt, duo, plan, slot, pieces, count);
-}
-
-/// The sums of a slot as numbers, sample by sample, for its records: the unsatisfied bonds of both
-/// replicas, and the sites at which they agree.
-#[derive(Drop)]
-pub struct Measured {
-    pub first: [u32; 64],
-    pub second: [u32; 64],
-    pub agreeing: [u32; 64],
-}
-
-/// The sums of a slot as numbers.
-pub(crate) fn measure(duo: &Duo, totals: &Totals, plan: &Plan) -> Measured
-    requires duo { FitsDuo plan.now.size duo.now }
-    requires totals { AreTotals plan.now duo.now totals.now }
-    ensures { Measures plan.now duo.now result }
-{
-    let _ = plan.lattice();
-    Measured {
-        first: numbers(&totals.first),
-        second: numbers(&totals.second),
-        agreeing: numbers(&agreeing(&duo.first, &duo.second)),
-    }
-}
-
-// The numbers of 64 samples.
-fn numbers(planes: &Planes<20>) -> [u32; 64]
-    ensures { (b : ℕ) → b < 64 → slice_index result b ≡ number planes.now.words b }
-{
-    let mut all = [0u32; 64];
-    planes.to_numbers(&mut all);
-    all
-}
-
-/// What is measured of a slot in one sample.
-pub(crate) fn record_of(duo: &Duo, measured: &Measured, plan: &Plan, sample: u32) -> Record
-    requires duo { FitsDuo plan.now.size duo.now }
-    requires measured { Measures plan.now duo.now measured.now }
-    requires sample { sample < 64 }
-    ensures { result ≡ model.record_of plan.now sample (part_slot plan.now.size sample duo.now) }
-{
-    let sites = plan.lattice().sites();
-    let sample = sample as usize;
-    Record {
-        first_energy: excess(measured.first[sample], 3 * sites),
-        second_energy: excess(measured.second[sample], 3 * sites),
-        overlap: excess(measured.agreeing[sample], sites),
-        first_replica: duo.first.labels[sample],
-        second_replica: duo.second.labels[sample],
-    }
 }
