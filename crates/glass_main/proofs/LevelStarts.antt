@@ -1,20 +1,22 @@
 -- What a run starts from whose states are at one epoch, of one bank or of several: its plans are lawful, and the bytes of its
 -- checkpoint are the encoding of what they are read as.
-use Rattle.std.proofs.Common.{arith, inr, ◌≡◌, ℕ, ◌<◌, ◌≤◌, List, [], ◌∷◌, length, Option, Some, None, Result, Ok, Err, refl, sym, ap, ◌∙◌, subst}
+use Rattle.std.proofs.Common.{arith, inr, ◌≡◌, ℕ, ◌<◌, ◌≤◌, List, [], ◌∷◌, length, map, get_or, Global, Option, Some, None, Result, Ok, Err, refl, sym, ap, ◌∙◌, subst}
 use Rattle.std.specs.Prelude.{All}
 use Rattle.std.proofs.lemmas.List.Elements.{All-nil, All-cons, All-head}
-use Rattle.glass_edges.specs.Refusals.{unless}
+use Rattle.std.specs.declared.vec.Vec.{Vec}
+use Rattle.glass_edges.specs.Refusals.{unless, GivesAfterTests}
 use Rattle.glass_edges.proofs.FirstRefusals.{unless-ok}
 use Rattle.glass_edges.proofs.NumberBytes.{IsBytes}
 use Rattle.plane_sweep.specs.Packed.{part}
 use Rattle.plane_sweep.specs.declared.stand.Stand.{Stand}
-use Rattle.run_checkpoint.specs.BankDecoding.{banks_refusal}
-use Rattle.run_checkpoint.specs.BankEncoding.{banks_parts, AreBanks, BanksStand, HaveShape}
-use Rattle.run_checkpoint.specs.Decoding.{level_refusal}
+use Rattle.run_checkpoint.specs.BankDecoding.{banks_refusal, banks_decoded}
+use Rattle.run_checkpoint.specs.BankEncoding.{banks_parts, AreBanks, BanksFit, BanksStand, HaveShape, HaveOneShape}
+use Rattle.run_checkpoint.specs.Decoding.{level_refusal, decoded, IsEncoded}
 use Rattle.run_checkpoint.specs.Reading.{stand_in}
 use Rattle.run_checkpoint.specs.declared.refused.CheckpointRefused.{CheckpointRefused}
 use Rattle.run_checkpoint.specs.declared.refused.CheckpointRefused.TheVariants as checkpoint
 use Rattle.run_checkpoint.proofs.LevelClauses.{none-is}
+use Rattle.run_plan.specs.RunFile.{AreLawfulOrders, AreOrdersOfBanks}
 use Rattle.run_plan.specs.declared.run_file.Orders.{Orders}
 use Rattle.scalar_rule.specs.Plan.{Plan, slots_of, IsLawfulPlan}
 use Rattle.scalar_rule.specs.declared.sample.Sample.{Sample}
@@ -39,21 +41,25 @@ use Rattle.glass_main.proofs.SavedStates.{level-cause}
 
 -- ---- plans as a list
 
-one-shape : (plan : Plan) → HaveShape plan.size (slots_of plan) (plan ∷ [])
+pub one-shape : (plan : Plan) → HaveOneShape (plan ∷ [])
 unfolding HaveShape
-one-shape plan = (refl, refl, tt)
+one-shape plan = record { size = plan.size; slots = slots_of plan; shape = (refl, refl, tt) }
+
+-- the orders of one bank are those of up to four
+pub of-one-bank : (orders : Orders) → AreLawfulOrders orders → AreOrdersOfBanks orders
+of-one-bank orders o =
+    let few = o.few_samples in
+    record { some_samples = o.some_samples; few_samples = omega arith; epochs = o.epochs; some_every = o.some_every; every = o.every }
 
 one-lawful : (planned : Planned) → IsLawfulPlanned planned → AreLawfulBanked (banks_of (One planned))
 one-lawful planned lawful =
-    let plan = planned.plan in
-    let o = lawful.orders in
-    let some = o.some_samples in
-    let few = o.few_samples in
+    let some = lawful.orders.some_samples in
+    let few = lawful.orders.few_samples in
     record {
-      plans = All-cons IsLawfulPlan plan [] lawful.plan (All-nil IsLawfulPlan);
-      shape = record { size = plan.size; slots = slots_of plan; shape = one-shape plan };
+      plans = All-cons IsLawfulPlan planned.plan [] lawful.plan (All-nil IsLawfulPlan);
+      shape = one-shape planned.plan;
       count = omega arith;
-      orders = record { some_samples = some; few_samples = omega arith; epochs = o.epochs; some_every = o.some_every; every = o.every };
+      orders = of-one-bank planned.orders lawful.orders;
     }
 
 banks-lawful : (planned : PlannedBanks) → AreLawfulBanks planned → AreLawfulBanked planned
@@ -152,3 +158,44 @@ unresumed-level planned until bytes (Unread role) is = absurd is
 unresumed-level planned until bytes Unwritten is = absurd is
 unresumed-level planned until bytes Unsaved is = absurd is
 unresumed-level planned until bytes NoMemory is = tt
+
+-- ---- one bank, as the only one of a list
+
+pub only-one : {X Y : Type 0} (f : X → Y) (xs : List X) (x : X) → length xs ≡ 1 → x ≡ get_or xs 0 x → f x ∷ [] ≡ map f xs
+only-one f [] x one is = absurd (omega (arith, one))
+only-one f (y ∷ []) x one is = ap (λ z. f z ∷ []) is
+only-one f (y ∷ z ∷ zs) x one is = absurd (omega (arith, one))
+
+listed : (refusal : Option CheckpointRefused) (x : Stand) (e : CheckpointRefused) → GivesAfterTests {A = Stand} {B = Stand} checkpoint.NoMemory (λ s. s) (Err e) (unless refusal x)
+    → GivesAfterTests {A = Vec Stand Global} {B = List Stand} checkpoint.NoMemory (λ (v : Vec Stand Global). v.items) (Err e) (unless refusal (x ∷ []))
+listed None x e given = ((λ memory. (x ∷ [], refl)), λ not. absurd (let z = given.1 not in cc))
+listed (Some due) x e given = ((λ memory. absurd (let z = (given.0 memory).1 in cc)), λ not. let z = given.1 not in let same : due ≡ e = cc in ap Err same)
+
+-- it is refused as that of one plan
+pub one-refused : (plan : Plan) (until : ℕ) (bytes : List ℕ) (e : CheckpointRefused) → GivesAfterTests {A = Stand} {B = Stand} checkpoint.NoMemory (λ s. s) (Err e) (decoded plan until bytes)
+    → GivesAfterTests {A = Vec Stand Global} {B = List Stand} checkpoint.NoMemory (λ (v : Vec Stand Global). v.items) (Err e) (level_banks_decoded (plan ∷ []) until bytes)
+unfolding decoded level_banks_decoded level_banks_refusal level_banks_in
+one-refused plan until bytes e given = listed (level_refusal plan until bytes) (stand_in plan bytes) e given
+
+read-one : (refusal : Option CheckpointRefused) (x y : Stand) → unless refusal x ≡ Ok y → unless refusal (x ∷ []) ≡ Ok (y ∷ [])
+read-one None x y is = let same : x ≡ y = same-stand x y is in ap (λ s. Ok (s ∷ [])) same
+  where
+    same-stand : (a b : Stand) → ◌≡◌ {A = Result Stand CheckpointRefused} (Ok a) (Ok b) → a ≡ b
+    same-stand a b e = cc
+read-one (Some due) x y is = absurd cc
+
+-- and read as its state
+pub one-read : (plan : Plan) (until : ℕ) (bytes : List ℕ) (stand : Stand) → decoded plan until bytes ≡ Ok stand → level_banks_decoded (plan ∷ []) until bytes ≡ Ok (stand ∷ [])
+unfolding decoded level_banks_decoded level_banks_refusal level_banks_in
+one-read plan until bytes stand is = read-one (level_refusal plan until bytes) (stand_in plan bytes) stand is
+
+pub one-resumable : (plan : Plan) (until : ℕ) (bytes : List ℕ) (stand : Stand) → IsEncoded plan until bytes stand → AreResumable (plan ∷ []) until (stand ∷ [])
+unfolding BanksFit
+one-resumable plan until bytes stand e = record { epoch = stand.epoch; fit = (e.fits, refl, tt); in_time = e.in_time }
+
+-- several banks
+pub several-read : (plans : List Plan) (until : ℕ) (bytes : List ℕ) → ¬ (length plans ≡ 1) → banks_decoded plans until bytes ≡ level_banks_decoded plans until bytes
+unfolding level_banks_decoded level_banks_refusal level_banks_in banks_decoded
+several-read [] until bytes not = refl
+several-read (plan ∷ []) until bytes not = absurd (not refl)
+several-read (plan ∷ next ∷ plans) until bytes not = refl

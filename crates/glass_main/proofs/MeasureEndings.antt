@@ -73,8 +73,11 @@ module _ (order : MeasureOrder) where
 
   module _ (planned : PlannedBanks) where
     -- the plans are those that are asked for
-    pub HasBanked : Option Files → Type 0
+    abbrev pub HasBanked : Option Files → Type 0
     HasBanked held = IfSome (option_map (banked_at order.run) held) (λ a. a ≡ Ok planned)
+
+    pub same-banked : (held mid : Store) → Gathers {A = PlannedBanks} (option_map (banked_at order.run) held.holds) (IsReached true order.run held.holds) (Ok planned) held mid → (mid ≡ held) × HasBanked mid.holds
+    same-banked held mid g = (same-store mid held g.same g.passed g.lengths, subst HasBanked (sym g.same) g.found)
 
     accepted-plans : (held : Option Files) → HasBanked held → IfSome (option_map (plans_at true order.run) held) IsAccepted
     unfolding banked_at

@@ -1,5 +1,5 @@
 -- What the plans of a run that is measured keep, of one bank or of several, and the run as it is opened.
-use Rattle.std.specs.Prelude.{◌≡◌, ◌*◌, ◌≤◌, ℕ, List, length, map, Option, Some, None, Bool, true, false, Result}
+use Rattle.std.specs.Prelude.{◌≡◌, ◌*◌, ◌<◌, ◌≤◌, ℕ, List, length, map, Option, Some, None, Bool, true, false, Result}
 use Rattle.std.specs.Arc.{arc_value}
 use Rattle.glass_edges.specs.Refusals.{unless}
 use Rattle.measured_run.specs.Runs.{RunView}
@@ -41,6 +41,7 @@ run_of planned bases until name =
 
 -- a run that can be driven, printed and saved, with its plans
 pub record IsReady (name : Option (List ℕ)) (measured : Measured) : Type 0 where
+  pub some : 0 < length measured.planned.plans
   pub plans : measured.run.plans ≡ measured.planned.plans
   pub every : measured.run.every ≡ measured.planned.orders.every
   pub saves : measured.run.saves ≡ is_named name

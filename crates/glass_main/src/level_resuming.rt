@@ -119,14 +119,34 @@ fn stands_in(
     ensures resumable { IfOk result (λ stands. AreResumable (map arc_value plans.now) until stands.items) }
 {
     if plans.len() == 1 {
-        let stand = decode(alloc, &plans[0], until, bytes)?;
-        Ok(alone(alloc, stand)?)
+        only_stand(alloc, &plans[0], until, bytes)
     } else {
         decode_banks(alloc, plans, until, bytes)
     }
 }
 
-// The state of the only bank.
+// That of the only bank.
+#[tactic(auto, unfolding(crate::specs::KeptMeasure::level_banks_decoded))]
+fn only_stand(
+    alloc: Global,
+    plan: &Plan,
+    until: u64,
+    bytes: &[u8],
+) -> Result<Vec<Stand>, CheckpointRefused>
+    ensures exact { GivesAfterTests CheckpointRefused.NoMemory (λ stands. stands.items) result
+        (level_banks_decoded (plan.now ∷ []) until bytes.now) }
+    ensures resumable { IfOk result (λ stands. AreResumable (plan.now ∷ []) until stands.items) }
+{
+    match decode(alloc, plan, until, bytes) {
+        Ok(stand) => match alone(alloc, stand) {
+            Ok(stands) => Ok(stands),
+            Err(NoMemory) => Err(CheckpointRefused::NoMemory),
+        },
+        Err(refused) => Err(refused),
+    }
+}
+
+// A list of one state.
 fn alone(alloc: Global, stand: Stand) -> Result<Vec<Stand>, NoMemory>
     ensures { IfOk result (λ stands. stands.items ≡ stand ∷ []) }
 {

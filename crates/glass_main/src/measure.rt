@@ -1,6 +1,7 @@
 //! The command `measure`: a run that prints sums over its epochs in place of rows, and places the checkpoint that the run would.
 
-ghost use Rattle.std.specs.Prelude.{◌≡◌, ◌≢◌, ◌≤◌, List, ℕ, true, None, Some, Ok, option_map, IfOk, IfErr, OnOk, OnErr};
+ghost use Rattle.std.specs.Arc.{arc_value};
+ghost use Rattle.std.specs.Prelude.{◌≡◌, ◌≢◌, ◌≤◌, List, ℕ, true, None, Some, Ok, length, map, option_map, IfOk, IfErr, OnOk, OnErr};
 ghost use Rattle.command_words.specs.CommandLine as commands;
 ghost use Rattle.command_words.specs.ReadCommand.{name_bytes, read_measure_order, IsLawfulMeasure};
 ghost use Rattle.glass_edges.specs.Causes.{HasCause};
@@ -9,7 +10,7 @@ ghost use Rattle.glass_main.specs.CheckpointBytes.{ResumesBytes};
 ghost use Rattle.glass_main.specs.Endings.{IsOfBanked, IsOfLevel, IsReached};
 ghost use Rattle.glass_main.specs.Gathers.{Gathers};
 ghost use Rattle.glass_main.specs.KeptMeasure.{is_named, run_of, IsReady};
-ghost use Rattle.glass_main.specs.MeasureRun.{measured_text};
+ghost use Rattle.glass_main.specs.MeasureRun.{measured_text, rule_word};
 ghost use Rattle.glass_main.specs.Opened.{IsOfOpenRun};
 ghost use Rattle.glass_main.specs.Outside.{output, store};
 ghost use Rattle.glass_main.specs.Request as model;
@@ -33,8 +34,9 @@ use plain_list::Items;
 use plane_sweep::Stand;
 use report_text::kind_word;
 use run_plan::digest_banks;
+use scalar_rule::Plan;
 use std::alloc::Global;
-use std::sync::Wait;
+use std::sync::{Arc, Wait};
 use std::thread::Threads;
 
 /// A run that is measured, as it is opened, and its plans.
@@ -142,12 +144,12 @@ fn finish<R: Threads + Wait + Sync, H: Shelf, O: Sink, G: Gate + Sync>(
     ensures later_store { H.faults shelf.old ≤ H.faults shelf.new }
 {
     let Measured { planned, run } = measured;
-    let mut done = drive(rt, run, order.pieces, gate);
+    let done = drive(rt, run, order.pieces, gate);
     match put_sums(out, &done, &planned) {
         Ok(()) => {}
         Err(_) => return Ending::Unwritten,
     }
-    match save_run(&mut done, shelf, order.save) {
+    match save_run(done, shelf, order.save) {
         Ok(()) => Ending::Done,
         Err(_) => Ending::Unsaved,
     }
@@ -165,17 +167,27 @@ fn put_sums<O: Sink>(out: &mut O, done: &Done, planned: &Banked) -> Result<(), F
     let digest = digits(&digest_banks(&planned.plans));
     let title = Title {
         samples: planned.orders.samples,
-        rule: kind_word(planned.plans[0].rules().kind()),
+        rule: rule_of(&planned.plans),
         digest: &digest,
     };
     write_text(out, done, &title)
 }
 
+// The word of the rule, which all plans share.
+#[tactic(auto, unfolding(crate::specs::MeasureRun::rule_word))]
+fn rule_of(plans: &[Arc<Plan, Global>]) -> &'static [u8]
+    requires { 1 ≤ length plans.now }
+    ensures word { result.now ≡ rule_word (map arc_value plans.now) }
+    ensures short { length result.now ≤ 10 }
+{
+    kind_word(plans[0].rules().kind())
+}
+
 // Places the checkpoint of a run at its end, where a name is given.
-fn save_run<H: Shelf>(done: &mut Done, shelf: &mut H, name: Option<&str>) -> Result<(), Fault>
-    requires { done.old.saves ≡ is_named (name_bytes name) }
-    ensures placed { OnOk result ((starts : List (ℕ → Sample)) → BanksStand done.old.plans starts done.old.bases
-        → Saved (name_bytes name.entry) (checkpoint_at done.old.plans starts done.old.until)
+fn save_run<H: Shelf>(done: Done, shelf: &mut H, name: Option<&str>) -> Result<(), Fault>
+    requires { done.saves ≡ is_named (name_bytes name) }
+    ensures placed { OnOk result ((starts : List (ℕ → Sample)) → BanksStand done.plans starts done.bases
+        → Saved (name_bytes name.entry) (checkpoint_at done.plans starts done.until)
         (store H.Shelf shelf.old) (store H.Shelf shelf.new)) }
     ensures unsought { OnOk result (Unsought (name_bytes name.entry)
         (store H.Shelf shelf.old) (store H.Shelf shelf.new)) }

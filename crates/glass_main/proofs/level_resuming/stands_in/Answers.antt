@@ -1,35 +1,33 @@
-use Rattle.std.proofs.Common.{rules, ◌≡◌, ◌≤◌, [], ◌∷◌, length, map, option_map, Some, IfOk, IfErr, ℕ, ◌+◌, ◌-◌, ◌*◌, ◌<◌, ◌/◌, ◌%◌, Bool, true, false, nat_eq, nat_lt, List, ◌++◌, slice_index_or, slice_set, bit_and, bit_or, Fits, w8, w32, w64, Bor, MutBor}
+use Rattle.std.proofs.Common.{arith, Global, ◌≡◌, length, List, map, [], ◌∷◌, sym, subst, ap, Result, ◌∙◌}
+use Rattle.std.specs.Prelude.{IfOk}
 use Rattle.std.specs.Arc.{arc_value}
-use Rattle.command_words.specs.ReadCommand.{name_bytes}
+use Rattle.std.specs.declared.vec.Vec.{Vec}
+use Rattle.std.proofs.lemmas.List.{length-map}
+use Rattle.std.proofs.lemmas.Bool.{eqb-true, eqb-false}
 use Rattle.glass_edges.specs.Refusals.{GivesAfterTests}
-use Rattle.glass_main.specs.CheckpointBytes.{HasBytes, ResumesBytes}
-use Rattle.glass_main.specs.Endings.{IsOfLevel}
+use Rattle.plane_sweep.specs.declared.stand.Stand.{Stand}
+use Rattle.run_checkpoint.specs.declared.refused.CheckpointRefused.{CheckpointRefused}
+use Rattle.run_checkpoint.specs.declared.refused.CheckpointRefused.TheVariants as checkpoint
+use Rattle.scalar_rule.specs.Plan.{Plan}
 use Rattle.glass_main.specs.KeptMeasure.{level_banks_decoded}
-use Rattle.glass_main.specs.ManyBanks.{banks_opened_by}
-use Rattle.glass_main.specs.MeasureRun.{level_resumed_by}
-use Rattle.glass_main.specs.Outside.{store}
-use Rattle.glass_main.specs.Request as model
-use Rattle.glass_main.specs.Resumes.{AreResumable, Begins, Resumes}
-use Rattle.glass_main.specs.Statuses.{IfRefused}
-use Rattle.run_checkpoint.specs.BankEncoding.{BanksFit, BanksStand, HaveOneShape}
+use Rattle.glass_main.specs.Resumes.{AreResumable}
+use Rattle.glass_main.proofs.LevelStarts.{only-one, several-read}
 use Rattle.glass_main.proofs.level_resuming.stands_in.Goals as goal
 
--- src/level_resuming.rt:122:21
-pub returns-in_err-stand-clause-exact : goal.returns-in_err-stand-clause-exact
-returns-in_err-stand-clause-exact c = ?
+pub returns-then-plans-eq1-clause-exact : goal.returns-then-plans-eq1-clause-exact
+returns-then-plans-eq1-clause-exact c =
+    let alone = ap (λ p. p ∷ []) c.deref.ensures ∙ only-one arc_value c.args.plans.now c.index-plans-0.result c.if-plans-eq1.true c.index-plans-0.is in
+    let G : List Plan → Type 0 = λ ps. GivesAfterTests {A = Vec Stand Global} {B = List Stand} checkpoint.NoMemory (λ (v : Vec Stand Global). v.items) c.only_stand.result (level_banks_decoded ps c.args.until c.args.bytes.now) in
+    subst G alone c.only_stand.ensures.exact
 
--- src/level_resuming.rt:123:12
-pub returns-in_err-alone-clause-exact : goal.returns-in_err-alone-clause-exact
-returns-in_err-alone-clause-exact c = ?
+pub returns-then-plans-eq1-clause-resumable : goal.returns-then-plans-eq1-clause-resumable
+returns-then-plans-eq1-clause-resumable c =
+    let alone = ap (λ p. p ∷ []) c.deref.ensures ∙ only-one arc_value c.args.plans.now c.index-plans-0.result c.if-plans-eq1.true c.index-plans-0.is in
+    let R : List Plan → Type 0 = λ ps. IfOk c.only_stand.result (λ (stands : Vec Stand Global). AreResumable ps c.args.until stands.items) in
+    subst R alone c.only_stand.ensures.resumable
 
--- src/level_resuming.rt:108:1
-pub returns-in_ok-alone-clause-exact : goal.returns-in_ok-alone-clause-exact
-returns-in_ok-alone-clause-exact c = ?
-
--- src/level_resuming.rt:108:1
-pub returns-in_ok-alone-clause-resumable : goal.returns-in_ok-alone-clause-resumable
-returns-in_ok-alone-clause-resumable c = ?
-
--- src/level_resuming.rt:108:1
 pub returns-else-plans-eq1-clause-exact : goal.returns-else-plans-eq1-clause-exact
-returns-else-plans-eq1-clause-exact c = ?
+returns-else-plans-eq1-clause-exact c =
+    let G : Result (List Stand) CheckpointRefused → Type 0 = λ r. GivesAfterTests {A = Vec Stand Global} {B = List Stand} checkpoint.NoMemory (λ (v : Vec Stand Global). v.items) c.decode_banks.result r in
+    let not : ¬ (length (map arc_value c.args.plans.now) ≡ 1) = λ one. c.if-plans-eq1.false (sym (length-map c.args.plans.now arc_value) ∙ one) in
+    subst G (several-read (map arc_value c.args.plans.now) c.args.until c.args.bytes.now not) c.decode_banks.ensures.exact

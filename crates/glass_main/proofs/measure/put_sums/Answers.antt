@@ -1,32 +1,36 @@
-use Rattle.std.proofs.Common.{rules, ◌≡◌, ◌≢◌, ◌≤◌, List, ℕ, true, None, Some, Ok, option_map, IfOk, IfErr, OnOk, OnErr, ◌+◌, ◌-◌, ◌*◌, ◌<◌, length, ◌/◌, ◌%◌, Bool, false, nat_eq, nat_lt, [], ◌∷◌, ◌++◌, slice_index_or, slice_set, bit_and, bit_or, Fits, w8, w32, w64, Bor, MutBor}
-use Rattle.command_words.specs.CommandLine as commands
-use Rattle.command_words.specs.ReadCommand.{name_bytes, read_measure_order, IsLawfulMeasure}
+use Rattle.std.proofs.Common.{◌≡◌, List, map, sym, ap, ◌∙◌, subst}
+use Rattle.std.specs.Arc.{arc_value}
 use Rattle.glass_edges.specs.Causes.{HasCause}
 use Rattle.glass_edges.specs.Writes.{Writes}
-use Rattle.glass_main.specs.CheckpointBytes.{ResumesBytes}
-use Rattle.glass_main.specs.Endings.{IsOfBanked, IsOfLevel, IsReached}
-use Rattle.glass_main.specs.Gathers.{Gathers}
-use Rattle.glass_main.specs.KeptMeasure.{is_named, run_of, IsReady}
-use Rattle.glass_main.specs.MeasureRun.{measured_text}
-use Rattle.glass_main.specs.Opened.{IsOfOpenRun}
-use Rattle.glass_main.specs.Outside.{output, store}
-use Rattle.glass_main.specs.Request as model
-use Rattle.glass_main.specs.Resumes.{AreResumable}
-use Rattle.glass_main.specs.Statuses.{Ends, IfRefused, Kept, Printed, Saved, Unsought, Unplaced, Wrote}
-use Rattle.measured_run.specs.Runs.{checkpoint_at}
-use Rattle.run_checkpoint.specs.BankEncoding.{BanksStand}
-use Rattle.scalar_rule.specs.declared.sample.Sample.{Sample}
-use Rattle.spin_model.specs.Limits.{last_epoch}
+use Rattle.hex.specs.Hex.{encode_lower}
+use Rattle.measured_run.specs.Text.{measure_text}
+use Rattle.run_checkpoint.specs.BankEncoding.{banks_parts, BanksStand}
+use Rattle.run_plan.specs.CanonicalPlan.{banks_digest}
+use Rattle.scalar_rule.specs.Plan.{Plan}
+use Rattle.glass_main.specs.ManyBanks.{PlannedBanks}
+use Rattle.glass_main.specs.MeasureRun.{measured_text, rule_word}
+use Rattle.glass_main.proofs.MeasuredRuns.{some-starts}
 use Rattle.glass_main.proofs.measure.put_sums.Goals as goal
 
--- src/measure.rt:171:5
-pub write_text-requires-clause-stub : goal.write_text-requires-clause-stub
-write_text-requires-clause-stub g c = ?
-
--- src/measure.rt:157:1
 pub returns-clause-text : goal.returns-clause-text
-returns-clause-text g c = ?
+returns-clause-text g c = λ starts packed.
+    let planned = c.args.planned.now in
+    let done = c.args.done.now in
+    let plans = ap (λ (p : PlannedBanks). p.plans) c.planned.view_is in
+    let samples = ap (λ (p : PlannedBanks). p.orders.samples) c.planned.view_is in
+    let rule = c.rule_of.ensures.word ∙ ap rule_word (ap (map arc_value) c.deref-2.ensures.value ∙ plans) in
+    let digest = c.digits-digest.ensures ∙ ap encode_lower (c.digest_banks.ensures ∙ ap banks_digest (ap (map arc_value) c.deref.ensures.value ∙ plans)) in
+    let B : List Plan → Type 0 = λ ps. BanksStand ps starts done.bases in
+    let W = Writes g.O.Sink c.args.out.now c.write_text.new.out in
+    subst (λ text. W text c.write_text.result)
+    (λ i. measure_text (c.requires.plans i) starts (samples i) (rule i) (digest i) (c.requires.every i) done.until)
+    (c.write_text.ensures starts (subst B (sym c.requires.plans) packed))
 
--- src/measure.rt:157:1
 pub returns-clause-cause : goal.returns-clause-cause
-returns-clause-cause g c = ?
+returns-clause-cause g c =
+    let planned = c.args.planned.now in
+    let done = c.args.done.now in
+    let starts = banks_parts planned.plans done.bases in
+    let packed = some-starts planned.plans done.until done.bases c.requires.stands in
+    let B : List Plan → Type 0 = λ ps. BanksStand ps starts done.bases in
+    (c.write_text.ensures starts (subst B (sym c.requires.plans) packed)).cause
