@@ -1,5 +1,5 @@
 #!/usr/bin/env python3
-"""Writes beside a report of `glass run` what it was made of: REPORT.toml, the report's manifest.
+"""Writes beside a report of `glass run`, or sums of `glass measure`, what it was made of: REPORT.toml, its manifest.
 
     glass run run.toml > report.txt
     python3 tools/manifest.py run.toml report.txt       writes report.txt.toml
@@ -38,7 +38,9 @@ TABLES = ("rules", "swaps")
 # What reports that are averaged have in common, beside their tables and the kind of their couplings.
 COMMON = ("size", "rule", "sweeps", "samples", "start")
 FILE = "file:"
-HEADER = re.compile(rb"glass 1 size=([0-9]+) slots=([0-9]+) samples=([0-9]+) rule=([a-z]+) from=[0-9]+ to=[0-9]+\n")
+# Of a report, and of sums over a run, which tell the plan.
+HEADER = re.compile(rb"(?:glass|measure) 1 size=([0-9]+) slots=([0-9]+) samples=([0-9]+) rule=([a-z]+)(?: every=[0-9]+)? from=[0-9]+ "
+                    rb"to=[0-9]+(?: digest=([0-9a-f]{64}))?\n")
 DIGEST = re.compile("[0-9a-f]{64}")
 
 
@@ -160,6 +162,8 @@ def check_header(report: str, plan: Plan, rule: Value, run_file: Path) -> None:
     wanted = (plan.size, plan.slots, plan.samples, str(rule))
     if found is None or (int(found[1]), int(found[2]), int(found[3]), found[4].decode()) != wanted:
         raise Refusal(f"{report} is no report of {run_file}: its first line is another")
+    if found[5] and found[5].decode() != plan.digest:
+        raise Refusal(f"{report} is of another plan than {run_file}")
 
 
 def of_report(run_file: Path, report: str, program: str) -> Manifest:
