@@ -35,7 +35,7 @@ returns-in-Ok-save_run-clause-wrote g c = λ starts packed.
     let T : RunView → Type 0 = λ r. g.O.Sink.taken c.put_sums.new.out ≡ appended (g.O.Sink.taken c.args.out.now) (measured_text planned starts r.until) in
     let saved = measured-saved planned run c.drive-done.result starts (name_bytes c.args.order.now.save) (store g.H.Shelf c.args.shelf.now) (store g.H.Shelf c.save_run.new.shelf)
     c.requires.ready.some c.requires.ready.plans is packed (c.in-Ok-save_run.ensures.placed starts) in
-    (fit, subst T is text.whole, saved)
+    (fit, (subst T is text.whole, saved))
 
 pub returns-clause-wrote : goal.returns-clause-wrote
 returns-clause-wrote g c = λ starts packed.
