@@ -4,11 +4,16 @@ _glass() {
     local word=$2 before=$3 words=''
     COMPREPLY=()
     if [ "$COMP_CWORD" -eq 1 ]; then
-        words='age average check demo lines plain potts run'
+        words='age average check demo lines measure plain potts run'
     elif [ "${COMP_WORDS[1]}" = run ]; then
         case $before in
             --from | --save | --workers | --pieces | --until | --stop-after) ;;
             *) case $word in -*) words='--from --pieces --save --stop-after --until --workers' ;; esac ;;
+        esac
+    elif [ "${COMP_WORDS[1]}" = measure ]; then
+        case $before in
+            --from | --save | --workers | --pieces | --until) ;;
+            *) case $word in -*) words='--from --pieces --save --until --workers' ;; esac ;;
         esac
     elif [ "${COMP_WORDS[1]}" = potts ]; then
         case $COMP_CWORD in

@@ -2,7 +2,7 @@
 """Reads reports of `glass run` and prints mean values for each temperature slot.
 
     glass run run.toml | python3 tools/analyse.py --betas 0.3 0.22165463 0.2 0.1
-    python3 tools/analyse.py report.txt --plot report.svg
+    python3 tools/analyse.py report.txt --run run.toml --plot report.svg
     python3 tools/analyse.py seed_1.txt seed_2.txt seed_3.txt --exact -2.515 -1.293 -0.933 -0.317
 
 For each slot, the coldest first:
@@ -32,7 +32,7 @@ from collections import namedtuple
 sys.dont_write_bytecode = True
 from exit_status import status_of  # noqa: E402
 from make_tables import OneLineParser, Refusal, add_temperatures, inverse_temperatures  # noqa: E402
-from manifest import add_run, study_of  # noqa: E402
+from manifest import add_run, slots_of, study_by_header, study_of  # noqa: E402
 from report_errors import deviation, errors_of, print_few  # noqa: E402
 from report_plot import plot_text  # noqa: E402
 from text_lines import LONGEST_LINE, TextLines  # noqa: E402
@@ -305,40 +305,45 @@ def decimals(texts, slots):
     return values
 
 
+def study_of_reports(names, run_files, header):
+    """The study of reports; of a pipe its first line alone is asked."""
+    if names in ([], ["-"]):
+        return study_by_header(["-"], run_files, size=header.size, samples=header.samples, rule=header.rule)
+    return study_of(tuple(names), tuple(run_files))
+
+
 def analyse(options):
-    betas = inverse_temperatures(options)
+    typed = inverse_temperatures(options)
     reports = list(read_each(options.reports, lambda name, stream: read_any(name, stream, options.skip)))
-    slots = reports[0].header.slots
-    if betas and len(betas) != slots:
-        raise Refusal(f"{len(betas)} temperatures, and the report has {slots} slots")
-    head = "beta" if options.betas else "T" if options.temperatures else ""
-    names = options.betas or options.temperatures or [""] * slots
+    header = reports[0].header
     kinds = {type(report) for report in reports}
     if kinds == {Report}:
-        analyse_reports(options, betas, same_runs(reports), names, head)
+        study = study_of_reports(options.reports, options.run, header)
+        analyse_reports(options, same_runs(reports), study, slots_of(options, typed, header.slots, study))
     elif Report in kinds:
         raise Refusal("reports and what glass lines prints can't be taken together")
     elif options.skip or options.exact or options.plot:
         raise Refusal("--skip, --exact and --plot are for reports")
     else:
         from lines_report import print_estimates
-        print_estimates(reports, names, head)
+        study = study_by_header([report.name for report in reports], options.run, size=header.size, samples=header.samples)
+        slots = slots_of(options, typed, header.slots, study)
+        print_estimates(reports, slots.names, slots.head)
 
 
-def analyse_reports(options, betas, reports, names, head):
-    slots = reports[0].header.slots
-    exact = decimals(options.exact, slots) if options.exact else None
+def analyse_reports(options, reports, study, slots):
+    count = reports[0].header.slots
+    exact = decimals(options.exact, count) if options.exact else None
     if not reports[0].counted:
         raise Refusal(f"{reports[0].name} has no row" + (f" from epoch {options.skip} on" if options.skip else ""))
-    blocks = study_of(tuple(options.reports), tuple(options.run)).blocks
-    print_means(reports, names, head)
+    print_means(reports, slots.names, slots.head)
     if exact or len(reports) > 1:
-        print_comparison(reports, names, head, exact, blocks)
+        print_comparison(reports, slots.names, slots.head, exact, study.blocks)
     if len(reports) == 1:
         print(NOTE)
     if options.plot:
-        temperatures = [float(1 / beta) for beta in betas] if betas else None
-        text = plot_text(reports[0], [slot_means(reports, slot) for slot in range(slots)], temperatures, exact)
+        temperatures = [1 / beta for beta in slots.betas] if slots.betas and all(slots.betas) else None
+        text = plot_text(reports[0], [slot_means(reports, slot) for slot in range(count)], temperatures, exact)
         try:
             with open(options.plot, "w", encoding="ascii", newline="\n") as out:
                 out.write(text)
@@ -351,8 +356,7 @@ def main(words=None):
     parser = OneLineParser(prog="analyse", description=__doc__, allow_abbrev=False,
                            formatter_class=argparse.RawDescriptionHelpFormatter)
     parser.add_argument("reports", nargs="*", metavar="REPORT", help="reports, or files of glass lines, or - for standard input (the default)")
-    add_temperatures(parser)
-    add_run(parser)
+    add_run(add_temperatures(parser))
     parser.add_argument("--skip", type=int, default=0, metavar="EPOCH",
                         help="leave the epochs before this one out of all means")
     parser.add_argument("--exact", nargs="+", metavar="E",

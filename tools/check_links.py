@@ -1,7 +1,8 @@
 #!/usr/bin/env python3
 """Holds the links of all pages to what they lead to: a file or folder that is there, and a heading of that page.
 
-A source that is named as code, as `top.rt` or `glass_main/src/top.rt`, is to be there too.
+A source that is named as code, as `top.rt` or `glass_main/src/top.rt`, is to be there too. README.md links each page that
+docs/proofs.md has a question for, so that two clicks lead from a promise to its clause.
 
     python3 tools/check_links.py
 
@@ -19,7 +20,8 @@ from typing import Iterator, List, Set
 
 import source_check
 
-LINK = re.compile(r"\]\(([^)\s]+)\)")
+# Beside its text, or under its number.
+LINK = re.compile(r"\]\(([^)\s]+)\)|^\[\d+\]: (\S+)$", re.MULTILINE)
 # A source as pages name it, by the end of its path.
 SOURCE = re.compile(r"`([\w/-]+\.(?:rt|antt))`")
 
@@ -53,11 +55,23 @@ def sources(root: Path) -> Set[str]:
     return {"/".join(parts[at:]) for parts in paths if parts[2] != "out" for at in range(len(parts))}
 
 
+def links_of(text: str) -> List[str]:
+    return [beside or numbered for beside, numbered in LINK.findall(without_code(text))]
+
+
+def layers_left_out(root: Path) -> Iterator[str]:
+    """The pages of layers that README.md doesn't link."""
+    overview = (root / "docs/proofs.md").read_text(encoding="utf-8")
+    linked = links_of((root / "README.md").read_text(encoding="utf-8"))
+    rows = "\n".join(line for line in overview.splitlines() if line.startswith("|"))
+    yield from (f"README.md: there is no link to docs/{layer}" for layer in links_of(rows) if f"docs/{layer}" not in linked)
+
+
 def faults(root: Path, page: Path, known: Set[str]) -> Iterator[str]:
     """The links of a page that lead nowhere, and the sources that it names and that aren't there."""
     text = page.read_text(encoding="utf-8")
     yield from (f"{page.relative_to(root)}: there is no source {name}" for name in SOURCE.findall(text) if name not in known)
-    for link in LINK.findall(without_code(text)):
+    for link in links_of(text):
         name, _, part = link.partition("#")
         if re.match(r"[a-z]+:", link):
             continue
@@ -77,14 +91,14 @@ def pages(root: Path) -> List[Path]:
 
 def differences(root: Path) -> List[str]:
     known = sources(root)
-    return [fault for page in pages(root) for fault in faults(root, page, known)]
+    return [*layers_left_out(root), *(fault for page in pages(root) for fault in faults(root, page, known))]
 
 
 def self_test() -> int:
     """Tests the tool on two small pages, with links that lead somewhere and links that don't."""
     links = {"other.md": 0, "other.md#a-heading-of-code": 0, "other.md#twice-1": 0, "folder": 0, "#here": 0,
              "https://example.org/x": 0, "none.md": 1, "other.md#no-heading": 1, "#there": 1,
-             "other.md#in-code": 1, "other.md#twice-2": 1}
+             "other.md#in-code": 1, "other.md#twice-2": 1, "other.md)\n\n[1]: none.md\n\n(": 1, "other.md)\n\n[1]: other.md\n\n(": 0}
     named = {"top.rt": 0, "a/src/top.rt": 0, "src/top.rt": 0, "op.rt": 1, "other.rt": 1, "Lib.antt": 1}
     with tempfile.TemporaryDirectory() as name:
         root = Path(name).resolve()
@@ -105,7 +119,13 @@ def self_test() -> int:
             if len(found) != wanted:
                 print(f"check_links: self-test: {source}: {found}", file=sys.stderr)
                 return 1
-    print(f"check_links: {len(links) + len(named)} tests passed")
+        (root / "docs").mkdir()
+        (root / "docs/proofs.md").write_text("[a](b.md)\n\n| [1](proofs/x.md) | `y` |\n| [2](proofs/y.md) | |\n", encoding="utf-8")
+        (root / "README.md").write_text("[x][1]\n\n[1]: docs/proofs/x.md\n", encoding="utf-8")
+        if list(layers_left_out(root)) != ["README.md: there is no link to docs/proofs/y.md"]:
+            print("check_links: self-test: a layer that is left out", file=sys.stderr)
+            return 1
+    print(f"check_links: {len(links) + len(named) + 1} tests passed")
     return 0
 
 

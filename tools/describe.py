@@ -3,7 +3,7 @@
 
     python3 tools/describe.py checkpoint report.txt disorder.couplings run.toml seed-0001
 
-It knows checkpoints of all three kinds, couplings files, reports and their manifests, what `glass average` prints,
+It knows checkpoints of all three kinds, couplings files, reports, sums over runs and their manifests, what `glass average` prints,
 run files, and the folders of tools/long_run.py. Of a run file it tells how near the tables beside it are to
 temperatures. Lengths and digests are computed, each line of a report is looked at, and of a folder each part is
 compared with its record and the report with the one that the parts make.
@@ -34,6 +34,7 @@ from long_run_folder import KEYS, Fault, RunFolder, digest_of, read_keys  # noqa
 from long_run_report import check_reports, write_joined  # noqa: E402
 from make_tables import Checks, OneLineParser, Refusal, outcome  # noqa: E402
 from manifest import Manifest, file_of, read_manifest, write_manifest  # noqa: E402
+from measured_text import read_measured  # noqa: E402
 from table_rounding import tables_of, told  # noqa: E402
 
 DIGEST_BYTES = 32
@@ -138,6 +139,13 @@ def report(path: Path) -> List[str]:
             f"{read.epochs} recorded", f"SHA-256 {digest_of(path)}"]
 
 
+def measured(path: Path) -> List[str]:
+    read = read_measured(str(path))
+    h = read.heading
+    return ["sums over a run", f"size {h.size}, slots {h.slots}, samples {h.samples}, {h.rule}, epochs {h.first} to {h.to}, every {h.every}, "
+            f"{len(read.bins)} bins", f"plan {h.digest}", f"SHA-256 {digest_of(path)}"]
+
+
 def averages(path: Path) -> List[str]:
     with open(path, "rb") as stream:
         read = SumsFile("the file", stream).read()
@@ -189,11 +197,12 @@ def run_folder(path: Path) -> List[str]:
         joined = write_joined(folder, chain, nowhere)
     if folder.report.exists() and chain[-1].until == keys["epochs"] and digest_of(folder.report) != joined:
         raise Damaged(f"{folder.report} is not what the parts make: remove it, and run or join again", facts)
-    return facts + [f"joined report: SHA-256 {joined}"]
+    return facts + [f"joined {'sums' if chain[-1].command == 'measure' else 'report'}: SHA-256 {joined}"]
 
 
 KINDS = ((b"GLASSCK1", level_checkpoint), (b"GLASSCK2", uneven_checkpoint), (b"GLASSCK3", banks_checkpoint),
-         (b"GLASSCJ1", couplings_file), (b"glass 1 ", report), (b"average ", averages), (b"kind = \"", manifest_file))
+         (b"GLASSCJ1", couplings_file), (b"glass 1 ", report), (b"measure ", measured), (b"average ", averages),
+         (b"kind = \"", manifest_file))
 
 
 def facts_of(path: Path) -> List[str]:
@@ -278,13 +287,15 @@ def self_test() -> int:
     banks = checkpoint_bytes(b"GLASSCK3", struct.pack(">I", 2) + one + one, 0)
     checks.same("lengths", [len(stored) for stored in (level, uneven, banks)], [10688, 10728, 10332])
     text = b"glass 1 size=4 slots=1 samples=1 rule=heat from=0 to=0\nend,0\n"
+    sums = b"measure 1 size=4 slots=1 samples=1 rule=heat every=1 from=0 to=0 digest=%b\nend,0\n" % (b"0" * 64)
     with tempfile.TemporaryDirectory() as name:
         path = Path(name) / "file"
         for stored, first in ((level, "size 4, slots 2, epoch 9"),
                               (uneven, "size 4, slots 2, epochs 3 to 4, 1 waiting for a partner"),
                               (banks, "size 4, slots 1, epoch 7"),
                               (file_bytes(4, [bytes(192)] * 3), "size 4, 3 samples"),
-                              (text, "size 4, slots 1, samples 1, heat, epochs 0 to 0, 0 recorded")):
+                              (text, "size 4, slots 1, samples 1, heat, epochs 0 to 0, 0 recorded"),
+                              (sums, "size 4, slots 1, samples 1, heat, epochs 0 to 0, every 1, 0 bins")):
             path.write_bytes(stored)
             status, out, _ = outcome([str(path)], main)
             checks.same(first, (status, out.splitlines()[1].strip(), out.splitlines()[-1]), (0, first, "  whole"))

@@ -13,9 +13,10 @@ from glass_analysis.scaling import COLLAPSE_DEGREE, CROSSING_DEGREE, Curve, coll
 from glass_analysis.sums import (FIGURES, Function, Means, Study, by_bins, figure, heat, length_over_side, overlap_density, r_12,
                                  read_texts, study_of_texts, u_4)
 from make_tables import Refusal
+from manifest import study_of
 from measured_text import CLASSES, Measured
 from report_errors import few_blocks
-from run_temperatures import check_run, keys_of, run_betas
+from run_temperatures import check_run, keys_of, run_betas, temperature_names
 
 # Figures that cross, and whether they rise with order.
 CROSSING = {"xi/L": (length_over_side, True), "R12": (r_12, True), "U4": (u_4, False)}
@@ -46,8 +47,16 @@ def betas_of(runs: Dict[int, str], texts: Sequence[Measured]) -> Optional[List[f
     return betas
 
 
+def by_size_of(names: Sequence[str]) -> Dict[int, List[Measured]]:
+    """Texts by size; the manifests beside those of one size may not tell that they are of other tables, sweeps, starts or couplings."""
+    by_size = read_texts(names)
+    for texts in by_size.values():
+        study_of(tuple(text.name for text in texts))
+    return by_size
+
+
 def only_size(options: argparse.Namespace) -> Tuple[List[Measured], Optional[List[float]]]:
-    by_size = read_texts(options.reports)
+    by_size = by_size_of(options.reports)
     if len(by_size) > 1:
         raise Refusal("the texts are of several sizes: scaling takes them together")
     texts = next(iter(by_size.values()))
@@ -72,7 +81,7 @@ def end(texts: int, plot: Optional[str], drawn: object) -> None:
 
 
 def titles(betas: Optional[Sequence[float]], slots: int) -> List[str]:
-    return [f"{1 / beta:.6g}" if beta else "inf" for beta in betas] if betas else [""] * slots
+    return temperature_names(betas) if betas else [""] * slots
 
 
 def sums(options: argparse.Namespace) -> None:
@@ -142,7 +151,7 @@ def told(found: Interval) -> str:
 
 def scaling(options: argparse.Namespace) -> None:
     """Dimensionless figures of several sizes: where their curves cross, and how they collapse."""
-    by_size, runs = read_texts(options.reports), runs_by_size(options.run)
+    by_size, runs = by_size_of(options.reports), runs_by_size(options.run)
     if options.collapse and min(options.collapse) <= 0:
         raise Refusal("--collapse wants T_c and nu to begin with, both above 0")
     if len(by_size) < 2:

@@ -8,22 +8,14 @@ from typing import Callable, List, NamedTuple, Optional, TypeVar, Union
 from glass_analysis import of_each_report
 from glass_analysis.errors import uncertainty
 from glass_analysis.reports import Records
-from long_run_folder import digest_of
 from make_tables import Refusal
-from manifest import Study, study_of
+from manifest import check_table, study_of
 from report_errors import few_blocks
-from run_temperatures import check_run, rule_table, run_betas
+from run_temperatures import check_run, run_betas, temperature_names
 
 Taken = TypeVar("Taken")
 NOTE = """note: the error is over the disorder: the samples of one run share each random number.
       Several reports, of other seeds, have the whole error."""
-
-
-def check_table(run_file: str, study: Study) -> None:
-    """Refuses temperatures of another rule table than that of the reports, where a manifest tells it."""
-    for manifest in study.manifests[:1]:
-        if digest_of(rule_table(run_file)) != manifest.digests["rules"]:
-            raise Refusal(f"{run_file} has another rule table than {manifest.source}")
 
 
 class Slots:
@@ -38,7 +30,7 @@ class Slots:
         if self.betas and len(self.betas) != slots:
             raise Refusal(f"{len(self.betas)} temperatures, and there are {slots} slots")
         self.head, self.axis = ("T", "temperature") if self.betas else ("", "slot")
-        self.names = [f"{1 / beta:.6g}" if beta else "inf" for beta in self.betas or []] or [""] * slots
+        self.names = temperature_names(self.betas) if self.betas else [""] * slots
         self.across = [float(name) for name in self.names] if self.betas else [float(slot) for slot in range(slots)]
 
     def slot(self, number: int) -> int:

@@ -2,9 +2,9 @@
 """Prints means with jackknife errors for each temperature slot, from the sums that `glass average`
 prints or from a report.
 
-    glass average report.txt 16 | python3 tools/jackknife.py --temperatures 1.2 1.5
+    glass average report.txt 16 | python3 tools/jackknife.py --run run.toml
     python3 tools/jackknife.py report.txt --blocks 16 --temperatures 1.2 1.5
-    python3 tools/jackknife.py seed-*/report --skip 1000 --temperatures 1.2 1.5
+    python3 tools/jackknife.py seed-*/report --skip 1000 --run seed-0001/run.toml
 
 The first two print the same. For each slot, the coldest first, each with its error:
   energy    mean energy per site of one replica, in units of the coupling
@@ -34,10 +34,10 @@ from fractions import Fraction
 from functools import reduce
 
 sys.dont_write_bytecode = True
-from analyse import Report, read_each, spelled  # noqa: E402
+from analyse import Report, read_each, spelled, study_of_reports  # noqa: E402
 from exit_status import status_of  # noqa: E402
 from make_tables import OneLineParser, Refusal, add_temperatures, inverse_temperatures  # noqa: E402
-from manifest import add_run, study_of  # noqa: E402
+from manifest import add_run, slots_of, study_by_header  # noqa: E402
 from report_errors import few_blocks  # noqa: E402
 from text_lines import TextLines  # noqa: E402
 
@@ -238,22 +238,28 @@ def print_averages(averages, names, head):
 # ---------------------------------------------------------------- the program
 
 
+def study_of_parts(options, parts):
+    """Sums of `glass average` have no manifest."""
+    header = next((part.run[0] for part in parts if part.run), None)
+    if header:
+        return study_of_reports(options.files, options.run, header)
+    return study_by_header(options.files, options.run, size=parts[0].size, samples=parts[0].samples)
+
+
 def jackknife(options):
-    betas = inverse_temperatures(options)
+    typed = inverse_temperatures(options)
     if options.blocks is not None and not 1 <= options.blocks <= MOST_BLOCKS:
         raise Refusal(f"{options.blocks} blocks, and there are 1 to {MOST_BLOCKS}")
     if options.blocks is not None and len(options.files) > 1:
         raise Refusal("of several files each is a block: --blocks is for one")
     options.files = options.files or ["-"]
     parts = list(read_each(options.files, lambda name, stream: read(name, stream, options)))
-    numbers = study_of(tuple(options.files), tuple(options.run)).blocks
-    averages = joined(options.files, parts, numbers) if len(parts) > 1 else parts[0]
-    if betas and len(betas) != averages.slots:
-        raise Refusal(f"{len(betas)} temperatures, and there are {averages.slots} slots")
+    study = study_of_parts(options, parts)
+    averages = joined(options.files, parts, study.blocks) if len(parts) > 1 else parts[0]
+    slots = slots_of(options, typed, averages.slots, study)
     if not averages.rows:
         raise Refusal("there is no row" + (f" from epoch {options.skip} on" if options.skip else ""))
-    head = "beta" if options.betas else "T" if options.temperatures else ""
-    print_averages(averages, options.betas or options.temperatures or [""] * averages.slots, head)
+    print_averages(averages, slots.names, slots.head)
 
 
 def main(words=None):
@@ -261,8 +267,7 @@ def main(words=None):
                            formatter_class=argparse.RawDescriptionHelpFormatter)
     parser.add_argument("files", nargs="*", metavar="FILE",
                         help="what glass average printed, or a report; - for standard input (the default); or several")
-    add_temperatures(parser)
-    add_run(parser)
+    add_run(add_temperatures(parser))
     parser.add_argument("--blocks", type=int, metavar="K", help="of a report: the number of blocks of its samples")
     parser.add_argument("--skip", type=int, default=0, metavar="EPOCH",
                         help="of a report: leave out the epochs before this one")

@@ -1,15 +1,16 @@
 #!/usr/bin/env python3
-"""Runs `glass run` in parts in a folder that has run.toml and its tables, so that a run of months survives
-kills, full disks, time limits and reboots.
+"""Runs `glass run` or `glass measure` in parts in a folder that has run.toml and its tables, so that a run of months
+survives kills, full disks, time limits and reboots.
 
     python3 tools/long_run.py run seed-0001 --workers 4      go on until the run is done
+    python3 tools/long_run.py run seed-0001 --command measure    the same, with sums over the run in place of rows
     python3 tools/long_run.py join seed-0001 > report.txt    the report of what is done
     python3 tools/long_run.py status seed-*                  where each folder stands
     python3 tools/long_run.py status --array seed-*          the numbers of those to be started
 
 Each part ends with a checkpoint, and is placed in the folder parts/ whole or not at all. The joined report is,
-byte for byte, that of one run without a stop. A run is made longer by a greater `epochs` in run.toml; every
-other key, and the tables, must stay as they are.
+byte for byte, that of one run without a stop, and so are the joined sums. A run is made longer by a greater `epochs` in
+run.toml; every other key, the tables and the command must stay as they are.
 
 A run stops after its part, with status 75, at SIGUSR1, at Ctrl-C, or where the folder has a file `stop`; at
 once, with its part lost, at SIGTERM or a second Ctrl-C. Start it again, there or on another machine.
@@ -74,7 +75,8 @@ def run(options: argparse.Namespace) -> int:
     progress = Progress()
     driver = Driver(folder, Options(
         find_program(options.program), options.workers, options.pieces, seconds_of(options.part_time),
-        options.part_epochs, limit, float(options.lock_wait), not options.no_lock, options.job), STOP, progress)
+        options.part_epochs, limit, float(options.lock_wait), not options.no_lock, options.job, options.program_command),
+        STOP, progress)
     try:
         status = driver.run()
     finally:
@@ -120,6 +122,8 @@ def parser_of_words() -> argparse.ArgumentParser:
     commands = parser.add_subparsers(dest="command", metavar="COMMAND", parser_class=OneLineParser)
     words = commands.add_parser("run", allow_abbrev=False, help="go on until the run is done")
     words.add_argument("folder", metavar="FOLDER")
+    words.add_argument("--command", dest="program_command", choices=("run", "measure"),
+                       help="what the program does in each part (that of the parts that are there, else run)")
     words.add_argument("--workers", type=number(1, 64), default=1, metavar="N", help="threads (1)")
     words.add_argument("--pieces", type=number(1, 16), default=1, metavar="P", help="pieces of a sweep (1)")
     words.add_argument("--program", metavar="FILE", help="else $GLASS, the program beside tools/, that of PATH")

@@ -1,4 +1,4 @@
-"""Drives `glass run` in parts in a folder that it holds, until the run is done or something stops it."""
+"""Drives `glass run` or `glass measure` in parts in a folder that it holds, until the run is done or something stops it."""
 from __future__ import annotations
 
 import contextlib
@@ -42,6 +42,8 @@ class Options:
     lock_wait: float = 10.0
     use_lock: bool = True
     job: str = ""
+    # None: that of the parts that are there, and `run` of a new folder.
+    command: Optional[str] = None
 
 
 @dataclass(frozen=True)
@@ -137,7 +139,8 @@ class Driver:
             self.folder.clear_rooms()
             self.set_aside_unreadable()
             self.read_chain()
-            self.folder.check_same_run(self.chain, self.keys, self.plan.digest)
+            self.command = self.options.command or (self.chain[-1].command if self.chain else "run")
+            self.folder.check_same_run(self.chain, self.keys, self.plan.digest, self.command)
             if not int(self.keys["epochs"]):
                 raise Fault(REFUSED, f"{self.folder.run_file}: epochs is 0, so there is nothing to do")
             if is_joined(self.folder, int(self.keys["epochs"])) and self.epoch() == self.keys["epochs"]:
@@ -185,8 +188,9 @@ class Driver:
             if not length:
                 return self.stopped(no_time=True)
             first, every = self.epoch(), int(self.keys["every"])
-            until = min(first + length, int(self.keys["epochs"]),
-                        most_until(first, every, self.plan.slots * self.plan.samples))
+            until = min(first + length, int(self.keys["epochs"]))
+            if self.command == "run":
+                until = min(until, most_until(first, every, self.plan.slots * self.plan.samples))
             if not self.make_part(first, until):
                 return self.stopped()
         return 0
@@ -230,7 +234,8 @@ class Driver:
             raise Fault(UNREADABLE, f"{room} lacks its report or its checkpoint")
         record = Record(secrets.token_hex(16), first, until, report, checkpoint, began.checkpoint if began else None,
                         self.plan.digest, self.keys, self.program, self.options.workers, self.options.pieces,
-                        round(seconds, 3), socket.gethostname(), self.options.job, start.strftime("%Y-%m-%dT%H:%M:%SZ"))
+                        round(seconds, 3), socket.gethostname(), self.options.job, start.strftime("%Y-%m-%dT%H:%M:%SZ"),
+                        self.command)
         if not self.folder.commit(room, record):
             self.read_chain()
             return True
@@ -244,7 +249,7 @@ class Driver:
     def run_program(self, room: Path, first: int, until: int, began: Optional[Record]) -> tuple:
         """The program's status, negative for a signal, and its line on the error output."""
         save = os.path.relpath(room / "checkpoint", self.folder.path)
-        words = [self.options.program, "run", "run.toml", "--until", str(until), "--save", save,
+        words = [self.options.program, self.command, "run.toml", "--until", str(until), "--save", save,
                  "--workers", str(self.options.workers), "--pieces", str(self.options.pieces)]
         if began:
             words += ["--from", os.path.relpath(self.folder.checkpoint(began), self.folder.path)]

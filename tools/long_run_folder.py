@@ -1,7 +1,7 @@
 """The folder of a long run: its run file, its parts and what is recorded of them.
 
     run.toml, tables     the run, as `glass run` takes it in this folder
-    parts/0000000000/    a finished part, named by its first epoch: report, checkpoint, record.json
+    parts/0000000000/    a finished part, named by its first epoch: report (of `measure` its sums), checkpoint, record.json
     parts/tmp-..         one in work
     parts/damaged-..     one that was set aside
     lock, stop, report   who drives; asks a driver to stop; the joined report, once the run is done
@@ -71,6 +71,7 @@ class Record:
     host: str
     job: str
     started: str
+    command: str = "run"
 
 
 # ---------------------------------------------------------------- files
@@ -279,11 +280,13 @@ class RunFolder:
 
     # ------------------------------------------------------------ the same run
 
-    def check_same_run(self, chain: List[Record], keys: Dict[str, Value], plan: str) -> None:
-        """Refuses a run file that would put other rows behind those of the parts."""
+    def check_same_run(self, chain: List[Record], keys: Dict[str, Value], plan: str, command: str) -> None:
+        """Refuses a run file that would put other rows or sums behind those of the parts, and another command."""
         if not chain:
             return
         last = chain[-1]
+        if last.command != command:
+            raise Fault(REFUSED, f"{self.path}: the command is {command}, and the parts were made by {last.command}")
         for key, value in last.keys.items():
             if key != "epochs" and keys.get(key) != value:
                 raise Fault(REFUSED, f"{self.run_file}: {key} is {keys.get(key)}, and the parts were made with {value}")

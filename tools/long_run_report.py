@@ -1,19 +1,22 @@
-"""The report of a run in parts: made of the parts' reports each time, never appended to."""
+"""The report of a run in parts, or its sums: made of the parts' each time, never appended to."""
 from __future__ import annotations
 
 import hashlib
 import os
 import re
 from pathlib import Path
-from typing import BinaryIO, List, Optional, Sequence
+from typing import BinaryIO, Callable, List, Optional, Sequence
 
 from long_run_folder import DAMAGED, NOT_PLACED, Fault, Record, RunFolder, digest_of, in_work, remove, sync
+from make_tables import Refusal
+from measured_text import joined, read_measured, text_of
 
-HEADER = re.compile(rb"(glass 1 size=[0-9]+ slots=[0-9]+ samples=[0-9]+ rule=[a-z]+) from=([0-9]+) to=([0-9]+)\n")
+HEADER = re.compile(rb"((?:glass|measure) 1 size=[0-9]+ slots=[0-9]+ samples=[0-9]+ rule=[a-z]+)(?: every=[0-9]+)? from=([0-9]+) "
+                    rb"to=([0-9]+)(?: digest=[0-9a-f]{64})?\n")
 
 
 def header_of(path: Path) -> Optional[tuple]:
-    """What a report's first line says: the text before the epochs, and both epochs."""
+    """What the first line of a report or of sums says: the text before the epochs, and both epochs."""
     try:
         with open(path, "rb") as stream:
             found = HEADER.fullmatch(stream.readline(256))
@@ -23,14 +26,29 @@ def header_of(path: Path) -> Optional[tuple]:
 
 
 def write_joined(folder: RunFolder, chain: Sequence[Record], out: BinaryIO) -> str:
-    """Writes the report of one run over all parts: a header, the rows of each part, and the last part's end and
-    spins. Returns its SHA-256."""
+    """Writes the report of one run over all parts, or the sums. Returns its SHA-256."""
     digest = hashlib.sha256()
 
     def put(line: bytes) -> None:
         digest.update(line)
         out.write(line)
 
+    (put_sums if chain[-1].command == "measure" else put_rows)(folder, chain, put)
+    return digest.hexdigest()
+
+
+def put_sums(folder: RunFolder, chain: Sequence[Record], put: Callable[[bytes], None]) -> None:
+    """The sums of one run over all parts, of which one is held at a time."""
+    try:
+        whole = joined(read_measured(str(folder.part(record.first) / "report")) for record in chain)
+    except Refusal as refusal:
+        raise Fault(DAMAGED, str(refusal)) from None
+    for line in text_of(whole):
+        put(line.encode("ascii"))
+
+
+def put_rows(folder: RunFolder, chain: Sequence[Record], put: Callable[[bytes], None]) -> None:
+    """A header, the rows of each part, and the last part's end and spins."""
     for record in chain:
         path = folder.part(record.first) / "report"
         header = header_of(path)
@@ -48,7 +66,6 @@ def write_joined(folder: RunFolder, chain: Sequence[Record], out: BinaryIO) -> s
                 put(line)
                 for line in stream:
                     put(line)
-    return digest.hexdigest()
 
 
 def check_reports(folder: RunFolder, chain: List[Record]) -> None:

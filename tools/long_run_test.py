@@ -17,6 +17,7 @@ from long_run_folder import Fault, digest_of, plain_keys, read_keys
 from long_run_states import duration, index_of, print_states, ranges
 from make_tables import Checks
 from manifest import read_manifest
+from measured_text import read_measured
 
 TOOLS = Path(__file__).resolve().parent
 STAND_IN = TOOLS / "long_run_stand_in.py"
@@ -52,9 +53,9 @@ class Case:
     def trouble(self, text: str) -> None:
         (self.path / "trouble").write_text(text)
 
-    def one_run(self) -> Tuple[bytes, bytes]:
+    def one_run(self, command: str) -> Tuple[bytes, bytes]:
         (self.path / "trouble").unlink(missing_ok=True)
-        ran = subprocess.run([str(STAND_IN), "run", "run.toml", "--save", "whole"], cwd=self.path,
+        ran = subprocess.run([str(STAND_IN), command, "run.toml", "--save", "whole"], cwd=self.path,
                              stdout=subprocess.PIPE, check=True)
         return ran.stdout, (self.path / "whole").read_bytes()
 
@@ -70,9 +71,9 @@ class Case:
         """Those of the chain, by their first epochs."""
         return sorted(path.name for path in self.path.glob("parts/[0-9]*"))
 
-    def is_one_run(self) -> bool:
-        """Whether report and last checkpoint are those of one run, and two checkpoints are kept."""
-        report, checkpoint = self.one_run()
+    def is_one_run(self, command: str = "run") -> bool:
+        """Whether report or sums and last checkpoint are those of one run, and two checkpoints are kept."""
+        report, checkpoint = self.one_run(command)
         kept = sorted((self.path / "parts").glob("[0-9]*/checkpoint"))
         return ((self.path / "report").read_bytes() == report and kept[-1].read_bytes() == checkpoint and len(kept) <= 2
                 and not list(self.path.glob("parts/tmp-*")))
@@ -151,6 +152,36 @@ def check_end(checks: Checks, case: Case) -> None:
     checks.same("a longer run", (case.call(), case.is_one_run()), ((0, ""), True))
     left = read_manifest(str(case.path / "report"))
     checks.same("and its manifest", left and left.keys["epochs"], 50)
+
+
+def check_sums(checks: Checks, case: Case) -> None:
+    """Parts of `measure` are joined to the sums of one run, with a manifest, and go on; those of `run` aren't put behind them."""
+    case.trouble("status 11 30")
+    checks.same("no memory", case.call("--command", "measure"), (11, "glass: no memory\n"))
+    (case.path / "trouble").unlink()
+    status, said = case.call("--command", "run")
+    checks.same("another command", (status, said.count("\n"), "the parts were made by measure" in said), (3, 1, True))
+    checks.same("the command of the parts", (case.call(), case.is_one_run("measure")), ((0, ""), True))
+    left = read_manifest(str(case.path / "report"))
+    checks.same("its manifest", left and (left.keys, left.plan), (read_keys(case.path / "run.toml"), read_measured(str(case.path / "report")).heading.digest))
+    case.write(RUN_FILE.replace("epochs = 40", "epochs = 70"))
+    checks.same("longer sums", (case.call("--command", "measure"), case.is_one_run("measure")), ((0, ""), True))
+    with contextlib.redirect_stdout(io.StringIO()) as out:
+        checks.same("done", print_states([str(case.path)]), True)
+    checks.same("its state", " 70 " in out.getvalue() and "done" in out.getvalue(), True)
+    part = case.path / "parts" / "0000000010" / "report"
+    part.write_bytes(part.read_bytes().replace(b"from=10", b"from=11"))
+    (case.path / "report").unlink()
+    status, said = case.call()
+    checks.same("a damaged part", (status, said.count("\n"), str(part) in said), (65, 1, True))
+
+
+def check_sums_behind_rows(checks: Checks, case: Case) -> None:
+    checks.same("a run", case.call(), (0, ""))
+    case.write(RUN_FILE.replace("epochs = 40", "epochs = 50"))
+    status, said = case.call("--command", "measure")
+    checks.same("sums behind rows", (status, said.count("\n"), "the parts were made by run" in said), (3, 1, True))
+    checks.same("rows behind rows", (case.call()[0], case.is_one_run()), (0, True))
 
 
 def check_states(checks: Checks, case: Case) -> None:
@@ -236,6 +267,6 @@ def self_test() -> int:
     with tempfile.TemporaryDirectory() as name:
         folder = Path(name)
         check_run_file(checks, folder)
-        for number, check in enumerate((check_end, check_states, check_output, check_other_run, check_troubles, check_damage)):
+        for number, check in enumerate((check_end, check_sums, check_sums_behind_rows, check_states, check_output, check_other_run, check_troubles, check_damage)):
             check(checks, Case(folder / f"case-{number}"))
     return checks.end()

@@ -1,5 +1,5 @@
 #!/usr/bin/env python3
-"""Writes beside a report of `glass run` what it was made of: REPORT.toml, the report's manifest.
+"""Writes beside a report of `glass run`, or sums of `glass measure`, what it was made of: REPORT.toml, its manifest.
 
     glass run run.toml > report.txt
     python3 tools/manifest.py run.toml report.txt       writes report.txt.toml
@@ -22,6 +22,7 @@ import json
 import os
 import re
 import sys
+from fractions import Fraction
 from pathlib import Path
 from typing import Dict, List, NamedTuple, Optional, Sequence, Tuple
 
@@ -30,13 +31,16 @@ from exit_status import status_of  # noqa: E402
 from glass_program import Plan, find_program, plan_of  # noqa: E402
 from long_run_folder import KEYS, Fault, Value, digest_of, in_work, plain_keys, read_keys, read_text, sync, tomllib  # noqa: E402
 from make_tables import OneLineParser, Refusal  # noqa: E402
+from run_temperatures import check_run, rule_table, run_betas, temperature_names  # noqa: E402
 
 KIND = "glass manifest 1"
 TABLES = ("rules", "swaps")
 # What reports that are averaged have in common, beside their tables and the kind of their couplings.
 COMMON = ("size", "rule", "sweeps", "samples", "start")
 FILE = "file:"
-HEADER = re.compile(rb"glass 1 size=([0-9]+) slots=([0-9]+) samples=([0-9]+) rule=([a-z]+) from=[0-9]+ to=[0-9]+\n")
+# Of a report, and of sums over a run, which tell the plan.
+HEADER = re.compile(rb"(?:glass|measure) 1 size=([0-9]+) slots=([0-9]+) samples=([0-9]+) rule=([a-z]+)(?: every=[0-9]+)? from=[0-9]+ "
+                    rb"to=[0-9]+(?: digest=([0-9a-f]{64}))?\n")
 DIGEST = re.compile("[0-9a-f]{64}")
 
 
@@ -158,6 +162,8 @@ def check_header(report: str, plan: Plan, rule: Value, run_file: Path) -> None:
     wanted = (plan.size, plan.slots, plan.samples, str(rule))
     if found is None or (int(found[1]), int(found[2]), int(found[3]), found[4].decode()) != wanted:
         raise Refusal(f"{report} is no report of {run_file}: its first line is another")
+    if found[5] and found[5].decode() != plan.digest:
+        raise Refusal(f"{report} is of another plan than {run_file}")
 
 
 def of_report(run_file: Path, report: str, program: str) -> Manifest:
@@ -236,9 +242,50 @@ def with_run_files(names: Sequence[str], found: Sequence[Optional[Manifest]], ru
         raise Refusal(str(fault)) from None
 
 
-def add_run(parser: argparse.ArgumentParser) -> None:
-    parser.add_argument("--run", nargs="+", default=[], metavar="FILE",
-                        help="of reports without a manifest: their run files, one for all that differ in their seeds alone, or one for each")
+# ---------------------------------------------------------------- temperatures of slots
+
+
+class Slots(NamedTuple):
+    """What the slots of files are called: the head of their column and a name each; `betas` are the inverse temperatures,
+    where they are known."""
+    head: str
+    names: List[str]
+    betas: Optional[List[float]]
+
+
+def add_run(group: argparse._ActionsContainer) -> None:
+    group.add_argument("--run", nargs="+", default=[], metavar="FILE",
+                       help="run files, whose rule table tells the temperatures. Of reports without a manifest it tells what they "
+                            "were made of: one for all that differ in their seeds alone, or one for each")
+
+
+def check_table(run_file: str, study: Study) -> None:
+    """Refuses temperatures of another rule table than that of the reports, where a manifest tells it."""
+    for manifest in study.manifests[:1]:
+        if digest_of(rule_table(run_file)) != manifest.digests["rules"]:
+            raise Refusal(f"{run_file} has another rule table than {manifest.source}")
+
+
+def slots_of(options: argparse.Namespace, typed: Optional[Sequence[Fraction]], slots: int, study: Study) -> Slots:
+    """By the words --run, --betas or --temperatures, of which one is given at most; `typed` are the inverse temperatures of
+    the last two."""
+    betas, names = [float(beta) for beta in typed or []], options.betas or options.temperatures or []
+    if options.run:
+        check_table(options.run[0], study)
+        betas = run_betas(options.run[0])
+        names = temperature_names(betas)
+    if betas and len(betas) != slots:
+        raise Refusal(f"{len(betas)} temperatures, and there are {slots} slots")
+    return Slots("beta" if options.betas else "T" if betas else "", names or [""] * slots, betas or None)
+
+
+def study_by_header(names: Sequence[str], run_files: Sequence[str], **found: Value) -> Study:
+    """Of what has no manifest ever, as sums, lines and what comes through a pipe: each run file must be of their first line."""
+    if len(run_files) not in (0, 1, len(names)):
+        raise Refusal(f"{len(run_files)} run files for {len(names)} files: one for all, or one for each is wanted")
+    for number, run_file in enumerate(run_files):
+        check_run(run_file, "standard input" if names[number] == "-" else names[number], **found)
+    return Study([], None)
 
 
 # ---------------------------------------------------------------- the command

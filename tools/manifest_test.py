@@ -14,6 +14,7 @@ import long_run_folder
 import manifest
 from jackknife_test import glass_report
 from make_tables import Checks, Refusal, outcome
+from run_temperatures import thresholds_at
 
 STAND_IN = Path(__file__).resolve().parent / "long_run_stand_in.py"
 RUN_FILE = """size = 4
@@ -172,6 +173,53 @@ def check_run_words(checks: Checks, folder: Path) -> None:
             os.environ["GLASS"] = kept
 
 
+def write_heat_run(folder: Path, *betas: float, size: int = 4) -> str:
+    """The name of a run file with one sample, whose table has these inverse temperatures."""
+    rows = [",".join(str(round(threshold)) for threshold in thresholds_at("heat", beta)) for beta in betas]
+    (folder / "rules.csv").write_text("".join(f"{row}\n" for row in rows))
+    (folder / "swaps.csv").write_text("")
+    changed = RUN_FILE.replace("metropolis", "heat").replace("file:a b.couplings", "random").replace("samples = 5", "samples = 1")
+    (folder / "run.toml").write_text(changed.replace("size = 4", f"size = {size}"))
+    return str(folder / "run.toml")
+
+
+SMALL_REPORT = "glass 1 size=4 slots=2 samples=1 rule=heat from=0 to=1\nrow,0,0,0,0,0,2,0,0\nrow,0,0,1,4,0,2,1,1\nend,1\n"
+SMALL_SUMS = "average 1 size=4 slots=2 samples=1 blocks=1 rows=2\n" + "".join(
+    f"sum,{slot},1,4,4,16\nwithout,{slot},0,0,0,0,0\n" for slot in range(2)) + "end\n"
+SMALL_LINES = "lines 1 size=4 slots=2 samples=1 epoch=1\n" + "".join(
+    f"link,0,{slot},0\n" + "".join(f"line,0,{slot},{d},{r},0\n" for d in range(3) for r in (1, 2)) for slot in range(2)) + "end\n"
+
+
+def check_temperatures(checks: Checks, folder: Path) -> None:
+    """A run file tells the temperatures of a report with a manifest and without, and of sums and lines."""
+    cases = (("report", SMALL_REPORT, jackknife.main, ["--blocks", "1"]), ("known", SMALL_REPORT, analyse.main, []),
+             ("sums", SMALL_SUMS, jackknife.main, []), ("lines", SMALL_LINES, analyse.main, []))
+    kept, os.environ["GLASS"] = os.environ.get("GLASS"), str(STAND_IN)
+
+    def told(betas: Sequence[float], size: int = 4) -> Tuple[int, List[str], int]:
+        """Status, the names of both slots, and how many lines a refusal has."""
+        manifest.study_of.cache_clear()
+        run = write_heat_run(folder, *betas, size=size)
+        status, out, err = outcome([str(folder / name), *words, "--run", run], main)
+        return status, [line.split()[1] for line in out.splitlines()[2:4]], err.count("\n")
+
+    try:
+        for name, text, main, words in cases:
+            (folder / name).write_text(text)
+            if name == "known":
+                checks.same("a manifest", outcome([write_heat_run(folder, 0.25, 0), str(folder / name)], manifest.main)[0], 0)
+            checks.same(f"{name}: temperatures", told([0.25, 0]), (0, ["4", "inf"], 0))
+            other = told([0.2, 0]) if name == "known" else told([0.25, 0], 6)
+            checks.same(f"{name}: of another run", other, (2, [], 1))
+            checks.same(f"{name}: of other slots", told([0.25, 0.2, 0]), (2, [], 1))
+            typed = outcome([str(folder / name), "--run", "run.toml", "--betas", "1", "2"], main)
+            checks.same(f"{name}: typed ones too", (typed[0], typed[1], typed[2].count("\n")), (2, "", 1))
+    finally:
+        os.environ.pop("GLASS")
+        if kept is not None:
+            os.environ["GLASS"] = kept
+
+
 # ---------------------------------------------------------------- errors with a known answer
 
 
@@ -241,7 +289,7 @@ def check_printed(checks: Checks, folder: Path) -> None:
 
 def self_test() -> int:
     checks = Checks("manifest")
-    for check in (check_writing, check_same_study, check_run_words, check_printed):
+    for check in (check_writing, check_same_study, check_run_words, check_temperatures, check_printed):
         with tempfile.TemporaryDirectory() as name:
             check(checks, Path(name))
     check_errors(checks)

@@ -6,7 +6,7 @@ three or six times the squares, the classes to the number of epochs, and sums ob
 from __future__ import annotations
 
 import re
-from typing import BinaryIO, Dict, Iterator, List, NamedTuple, Sequence, Tuple
+from typing import BinaryIO, Dict, Iterable, Iterator, List, NamedTuple, Sequence, Tuple
 
 from make_tables import Refusal
 from text_lines import TextLines
@@ -143,14 +143,15 @@ def added(one: Lines, other: Lines) -> Lines:
     return tuple(tuple(map(sum, zip(*pair))) for pair in zip(one, other))
 
 
-def joined(parts: Sequence[Measured]) -> Measured:
+def joined(parts: Iterable[Measured]) -> Measured:
     """The sums of a run from those of its parts, each of which begins where the one before ends: lines of one sample, slot
-    and bin are added."""
-    whole = parts[0]
-    for part in parts[1:]:
+    and bin are added. Of the parts one is held at a time, where they are read as they are wanted."""
+    others = iter(parts)
+    whole = next(others)
+    for part in others:
         before, heading = whole.heading, part.heading
         if heading._replace(first=0, to=0) != before._replace(first=0, to=0):
-            raise Refusal(f"{part.name} is of another run than {parts[0].name}: the first lines differ")
+            raise Refusal(f"{part.name} is of another run than {whole.name}: the first lines differ")
         if heading.first != before.to:
             raise Refusal(f"{part.name} begins at epoch {heading.first}, and what comes before ends at {before.to}")
         lines = dict(whole.lines)

@@ -84,6 +84,11 @@ def check_run(name: str, report: str, **found: Value) -> None:
             raise Refusal(f"{report} is no report of {name}: {key} is {value} there, and {keys[key]} in the run file")
 
 
+def temperature_names(betas: Sequence[float]) -> List[str]:
+    """As tables print them."""
+    return [f"{1 / beta:.6g}" if beta else "inf" for beta in betas]
+
+
 def run_betas(name: str) -> List[float]:
     """The inverse temperatures of a run file's slots, the coldest first."""
     rule, path = str(keys_of(name)["rule"]), rule_table(name)

@@ -16,7 +16,7 @@ trap '[ -z "$driver" ] || kill -USR1 "$driver"' USR1
 trap 'cancelled=yes; [ -z "$driver" ] || kill -TERM "$driver"' TERM
 # A part is shorter than the time between the warning and the end of the job.
 "${LONG_RUN:?is set by start}" run "$folder" --job "$self" --lock-wait 300 --part-time "${PART_TIME:-15}" \
-    --workers "${SLURM_CPUS_PER_TASK:-1}" &
+    --workers "${SLURM_CPUS_PER_TASK:-1}" ${GLASS_COMMAND:+--command "$GLASS_COMMAND"} &
 driver=$!
 # Bash runs a trap only between commands, and a signal ends `wait`; the last one gives the driver's status.
 while kill -0 "$driver" 2>/dev/null; do wait "$driver"; done

@@ -113,13 +113,6 @@ def chi_square(found: Sequence[Tuple[float, int]]) -> Tuple[float, int, float]:
     return total, degrees, float(stats.chi2.sf(total, degrees))
 
 
-def beside_one(ours: Sequence[Estimate], known: Known) -> Tuple[float, int]:
-    """The probability that several values are as far from one number, whose error they have in common, and how many they are."""
-    apart = np.array([float(one.value) - known.value for one in ours])
-    covariance = np.diag([float(one.error) ** 2 for one in ours]) + known.error ** 2
-    return float(stats.chi2.sf(apart @ np.linalg.solve(covariance, apart), len(apart))), len(apart)
-
-
 def halves(runs: Runs) -> float:
     """The probability that first and second halves differ as much as they do by chance: a run that was equilibrated
     before its first half has none of it left."""
@@ -240,7 +233,6 @@ def print_published(folder: Path) -> List[Tuple[float, int]]:
     head("what", "published", "measured", "error", "runs", "in errors", "probability")
     chances: List[float] = []
     numbers: List[Tuple[float, int]] = []
-    ratios: List[Estimate] = []
     sizes = {size: read_runs(folder, f"critical_{size}") for size in (8, 12, 16, 24)}
     energies = {size: deviation(runs.whole[:, 0]) for size, runs in sizes.items() if runs is not None}
     for size, energy in energies.items():
@@ -254,13 +246,14 @@ def print_published(folder: Path) -> List[Tuple[float, int]]:
         chances.append(published("the same of the infinite lattice, from these", CRITICAL_ENERGY, limit, fewest, 7))
         numbers.append((chances[-1], 1))
         print(f"| chi-square of that fit, with {len(are_known) - 3} degrees of freedom | | {square:.2f} | | | | |")
+    ratios: List[float] = []
     for size in (4, 6, 8, 12):
         found = read_runs(folder, f"binder_{size}")
         if found is not None:
-            ratios.append(jackknife(found.whole, binder))
-            chances.append(published(f"Binder ratio at T = 1.1019, size {size}", BINDER, ratios[-1], len(found.whole)))
-    if ratios:
-        numbers.append(beside_one(ratios, BINDER))
+            ratios.append(published(f"Binder ratio at T = 1.1019, size {size}", BINDER, jackknife(found.whole, binder), len(found.whole)))
+    # The published number is that of large sizes, and our errors are below the corrections of small ones.
+    chances += ratios[-1:]
+    numbers += [(ratio, 1) for ratio in ratios[-1:]]
     for size, known in GROUND.items():
         found = read_runs(folder, f"ground_{size}")
         if found is not None:

@@ -167,6 +167,30 @@ def test_temperatures_of_another_table_are_refused(tmp_path):
     assert status == 2 and "another rule table" in err
 
 
+@pytest.mark.parametrize("what, old, new", [("rules", 'rules = "', 'rules = "f'), ("swaps", 'swaps = "', 'swaps = "f'), ("sweeps", "sweeps = 1", "sweeps = 2"),
+                                            ("rule", '"heat"', '"metropolis"'), ("start", 'start = "random"', 'start = "up"'),
+                                            ("couplings", 'couplings = "random"', 'couplings = "plus"'), ("seed", "seed = 2", "seed = 1"),
+                                            ("has no manifest", "", "")])
+def test_each_command_refuses_a_mix_of_reports(tmp_path, what, old, new):
+    given = [report_of_bonds(tmp_path, seed, [0.25, 0.2]) for seed in (1, 2)]
+    write_manifests(given, write_run(tmp_path, [4, 5]))
+    second = manifest.file_of(given[1])
+    text = second.read_text()
+    if what in manifest.TABLES:
+        # The digest, which is the last line of that key; one of 64 digits begins with an f more and lacks its end.
+        head, tail = text.rsplit(old, 1)
+        second.write_text(f"{head}{new}{tail[:63]}{tail[64:]}")
+    elif old:
+        second.write_text(text.replace(old, new))
+    else:
+        second.unlink()
+    for command, *words in (["means"], ["reweight", "--at", "4.5", "--run", tmp_path / "run.toml"], ["overlaps"], ["equilibration"],
+                            ["bracket", "--random", *given], ["times"], ["walks"], ["export", "--hdf5", tmp_path / "x.h5"]):
+        manifest.study_of.cache_clear()
+        status, out, err = call(command, *given, *words)
+        assert (status, out, err.count("\n"), what in err) == (2, "", 1, True), command
+
+
 @pytest.mark.parametrize("other, told", [({"rule": "metropolis"}, "rule is heat there, and metropolis"), ({"size": 6}, "size is 4 there, and 6"),
                                          ({"samples": 5}, "samples is 4 there, and 5")])
 def test_temperatures_of_another_run_are_refused_without_a_manifest(tmp_path, other, told):

@@ -79,30 +79,6 @@ def test_a_distance_has_both_errors():
     assert compare.distance(Estimate(np.array(1.5), np.array(0.3)), compare.Known(1.0, 0.4)) == pytest.approx(1)
 
 
-def test_values_beside_one_number_have_its_error_in_common():
-    random, errors = np.random.default_rng(6), np.array([0.5, 0.5, 1.0])
-    chances, apart = [], []
-    for _ in range(2000):
-        known = compare.Known(float(random.normal(0, 1.5)), 1.5)
-        ours = [Estimate(np.array(random.normal(0, error)), np.array(error)) for error in errors]
-        chances.append(compare.beside_one(ours, known)[0])
-        apart.append(stats.chi2.sf(sum(compare.distance(one, known) ** 2 for one in ours), 3))
-    assert stats.kstest(chances, "uniform").pvalue > CHANCE and stats.kstest(apart, "uniform").pvalue < 1e-4
-    one = Estimate(np.array(2.0), np.array(0.5))
-    assert compare.beside_one([one], compare.Known(1.0, 1.2)) == (pytest.approx(2 * stats.norm.sf(1 / 1.3)), 1)
-
-
-@pytest.mark.parametrize("sizes", [(8, 12, 16), (8, 12, 16, 24)])
-def test_the_energy_of_the_infinite_lattice(sizes):
-    lengths = np.array(sizes, float)
-    energies = -0.99 - 2.1 * lengths ** (1 / compare.NU - 3) * (1 + 0.3 * lengths ** -compare.OMEGA)
-    limit, square = compare.at_infinity(sizes, [Estimate(energy, np.array(1e-4)) for energy in energies])
-    assert limit.value == pytest.approx(-0.99) and square == pytest.approx(0, abs=1e-6)
-    moved = [compare.at_infinity(sizes, [Estimate(energy + 1e-4 * (k == n), np.array(1e-4)) for k, energy in enumerate(energies)])[0].value
-             for n in range(len(sizes))]
-    assert limit.error == pytest.approx(np.sqrt(np.sum((np.array(moved) + 0.99) ** 2)))
-
-
 def test_halves_that_drift_are_seen():
     random = np.random.default_rng(8)
     first, last = random.normal(0, 1, (40, 2)), random.normal(0, 1, (40, 2))

@@ -1,6 +1,6 @@
 #!/usr/bin/env python3
 """Runs the built program and holds every byte of it to the definitions: text, digest, report, checkpoints of all kinds,
-correlation lines and two-time overlaps.
+sums over a run, correlation lines and two-time overlaps.
 
     python3 tools/reference/against_program.py ./glass
 
@@ -16,6 +16,7 @@ sys.path.insert(0, str(Path(__file__).resolve().parents[1]))
 sys.dont_write_bytecode = True
 import couplings as couplings_files  # noqa: E402
 import reference.definitions as rule  # noqa: E402
+from reference.measured import followed_text  # noqa: E402
 from reference.overlaps import age_text, lines_text  # noqa: E402
 
 DONE = []
@@ -141,6 +142,24 @@ def stopped_run(program, folder, case, takes):
     same(f"{case.name}: resumed checkpoint", (folder / "end").read_bytes(), rule.encoding(plan, lambda b: case.at(b, case.epochs)))
 
 
+def measured_run(program, folder, case, epoch):
+    """The sums of a run, in one and in two parts, and what it saves."""
+    digest = rule.banks_digest(case.plans).hex()
+
+    def text(first, last):
+        return followed_text(case.plans, lambda b: case.at(b % 64, first, b // 64), case.samples, case.every, last,
+                             case.plan.rule, digest)[0].encode()
+
+    same(f"{case.name}: sums", ran(program, folder, "measure", "run.toml", "--workers", "2", "--save", "end"),
+         text(0, case.epochs))
+    same(f"{case.name}: checkpoint of sums", (folder / "end").read_bytes(), case.checkpoint(case.epochs))
+    same(f"{case.name}: sums to {epoch}", ran(program, folder, "measure", "run.toml", "--until", str(epoch), "--save", "half"),
+         text(0, epoch))
+    same(f"{case.name}: checkpoint of sums to {epoch}", (folder / "half").read_bytes(), case.checkpoint(epoch))
+    same(f"{case.name}: sums from {epoch}", ran(program, folder, "measure", "run.toml", "--from", "half", "--pieces", "3"),
+         text(epoch, case.epochs))
+
+
 def overlaps(program, folder, case, wait, times):
     """The lines of the state that a whole run saved, and the overlaps of an aging run."""
     text = lines_text(case.plan, lambda b: case.at(b, case.epochs), case.samples, case.epochs)
@@ -181,6 +200,8 @@ def main(words):
         for takes in (1, 2, 4, 5):
             stopped_run(program, Path(name) / "Metropolis", cases[1], takes)
         resumed_run(program, Path(name) / "two banks", cases[5], 1)
+        for case in cases:
+            measured_run(program, Path(name) / case.name, case, 1)
         for case in cases[3:5]:
             overlaps(program, Path(name) / case.name, case, 2, (0, 3))
     print(f"against_program: {len(DONE)} comparisons, each of every byte, agree")

@@ -5,3 +5,4 @@ pub mod SaidOnce
 pub mod SaidOptions
 pub mod SaidItems
 pub mod SaidRuns
+pub mod SaidCommands

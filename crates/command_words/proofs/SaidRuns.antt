@@ -1,18 +1,14 @@
--- The order of a run, as its words say it and as they are read from the left, and the command that it is.
-use Rattle.std.proofs.Common.{◌≡◌, ◌↔◌, ℕ, Bool, true, if◌then◌else◌, List, [], ◌∷◌, codes, Option, Some, None, refl, sym, ap, subst, ◌∙◌}
+-- The order of a run, as its words say it and as they are read from the left.
+use Rattle.std.proofs.Common.{◌≡◌, ℕ, Bool, true, if◌then◌else◌, List, [], ◌∷◌, codes, Option, Some, None, refl, sym, ap, subst, ◌∙◌}
 use Rattle.std.specs.Prelude.{option_map, unwrap_or, IsSome}
 use Rattle.std.specs.List.{fold, flat_map}
-use Rattle.std.specs.Str.{bytes_eq}
 use Rattle.std.proofs.lemmas.Bool.{true≢false}
 use Rattle.std.proofs.lemmas.Option.{none-some, same_Some}
-use Rattle.std.proofs.lemmas.Slice.Eq.{bytes_eq-Decides}
 use Rattle.spin_model.specs.Limits.{every_take, last_epoch}
 use Rattle.command_words.specs.Words.{given, number_word, word_at, file_word, name_word}
 use Rattle.command_words.specs.RunWords.{RunOrder, Workers, Pieces, Until, From, Save, StopAfter, words_of, names_in, values_in, SaysRun}
 use Rattle.command_words.specs.RunReading.{RunWords, nothing_said, with_word, said_by, is_kept, order_in, run_order}
-use Rattle.command_words.specs.PottsWords.{potts_order}
-use Rattle.command_words.specs.CommandLine.{Command, Plain, Check, Run, Average, Demo, Lines, Potts, Age, plain_order, check_name, average_order, demo_number, lines_order, age_order, command_of}
-use Rattle.command_words.proofs.SaidOnce.{map-some, given-some, if-some, Adds, said-once, may-be-said, once-adds, may-adds, one-name, by-test}
+use Rattle.command_words.proofs.SaidOnce.{given-some, if-some, Adds, said-once, may-be-said, once-adds, may-adds, one-name}
 use Rattle.command_words.proofs.SaidItems.{split-words, read-items}
 
 -- ---- the order
@@ -54,7 +50,7 @@ is-order (Some run) None said order h =
     record { name = run; run_is = refl; rests = refl; kept = parts.0; order_is = same_Some (order_from run said) order parts.1 }
 
 -- what is read from the left is what the words say
-run_order-said : (words : List (List ℕ)) (order : RunOrder) → word_at words 0 ≡ codes "run" → run_order words ≡ Some order → SaysRun words order
+pub run_order-said : (words : List (List ℕ)) (order : RunOrder) → word_at words 0 ≡ codes "run" → run_order words ≡ Some order → SaysRun words order
 unfolding run_order said_by
 run_order-said [] order first h = absurd (none-some order h)
 run_order-said (word ∷ words) order first h =
@@ -80,7 +76,7 @@ run_order-said (word ∷ words) order first h =
     })
 
 -- what the words say is read from the left
-said-run_order : (words : List (List ℕ)) (order : RunOrder) → SaysRun words order → run_order words ≡ Some order
+pub said-run_order : (words : List (List ℕ)) (order : RunOrder) → SaysRun words order → run_order words ≡ Some order
 unfolding run_order said_by
 said-run_order words order s =
     let workers = once-adds (number_word 1 64) 1 (values_in Workers s.items) order.workers s.workers in
@@ -122,55 +118,3 @@ said-run_order words order s =
     ∙ ap (λ (r : Option RunWords). given r (λ (l : RunWords). order_in l.run l.waiting l)) read
     ∙ ap (λ (b : Bool). if b then Some (order_from order.run later) else None) (kept-from order.stop_after order.save s.saved)
     ∙ ap Some same
-
--- ---- the command
-
--- the order of a command that is a run
-abbrev run_in : Option Command → Option RunOrder
-run_in None = None
-run_in (Some (Plain order)) = None
-run_in (Some (Check name)) = None
-run_in (Some (Run order)) = Some order
-run_in (Some (Average order)) = None
-run_in (Some (Demo n)) = None
-run_in (Some (Lines order)) = None
-run_in (Some (Potts order)) = None
-run_in (Some (Age order)) = None
-
--- what another command makes of its words is no run
-other : {A : Type 0} (make : A → Command) (asked : Option A) (command : Option Command) (order : RunOrder)
-    → ((x : A) → run_in (Some (make x)) ≡ None) → command ≡ option_map make asked → command ≡ Some (Run order) → ⊥
-other make None command order apart is h = none-some (Run order) (sym is ∙ h)
-other make (Some x) command order apart is h = none-some order (sym (apart x) ∙ ap run_in (sym is ∙ h))
-
--- a run's order is that of its command
-same-run : (asked : Option RunOrder) (found order : RunOrder) → asked ≡ Some found → Run found ≡ Run order → asked ≡ Some order
-same-run asked found order is same = is ∙ ap (λ (c : Command). run_in (Some c)) same
-
-run-command : (words : List (List ℕ)) (order : RunOrder) → command_of words ≡ Some (Run order) → (word_at words 0 ≡ codes "run") × (run_order words ≡ Some order)
-unfolding command_of
-run-command words order h =
-    let name = word_at words 0 in
-    by-test (bytes_eq name (codes "plain")) (λ t. absurd (other Plain (plain_order words) (command_of words) order (λ x. refl) (rw t refl) h)) (λ a.
-    by-test (bytes_eq name (codes "check")) (λ t. absurd (other Check (check_name words) (command_of words) order (λ x. refl) (rw (a, t) refl) h)) (λ b.
-    by-test (bytes_eq name (codes "run")) (λ t.
-    let is : command_of words ≡ option_map Run (run_order words) = rw (a, b, t) refl in
-    let read = map-some Run (run_order words) (Run order) (sym is ∙ h) in
-    ((bytes_eq-Decides name (codes "run")).0 t, same-run (run_order words) read.0 order read.1 read.2)) (λ c.
-    by-test (bytes_eq name (codes "average")) (λ t. absurd (other Average (average_order words) (command_of words) order (λ x. refl) (rw (a, b, c, t) refl) h)) (λ d.
-    by-test (bytes_eq name (codes "demo")) (λ t. absurd (other Demo (demo_number words) (command_of words) order (λ x. refl) (rw (a, b, c, d, t) refl) h)) (λ e.
-    by-test (bytes_eq name (codes "lines")) (λ t. absurd (other Lines (lines_order words) (command_of words) order (λ x. refl) (rw (a, b, c, d, e, t) refl) h)) (λ f.
-    by-test (bytes_eq name (codes "potts")) (λ t. absurd (other Potts (potts_order words) (command_of words) order (λ x. refl) (rw (a, b, c, d, e, f, t) refl) h)) (λ g.
-    by-test (bytes_eq name (codes "age")) (λ t. absurd (other Age (age_order words) (command_of words) order (λ x. refl) (rw (a, b, c, d, e, f, g, t) refl) h)) (λ k.
-    let none : command_of words ≡ None = rw (a, b, c, d, e, f, g, k) refl in
-    absurd (none-some (Run order) (sym none ∙ h))))))))))
-
-command-run : (words : List (List ℕ)) (order : RunOrder) → SaysRun words order → command_of words ≡ Some (Run order)
-unfolding command_of
-command-run words order says =
-    ap command_of says.written ∙ ap (option_map Run) (sym (ap run_order says.written) ∙ said-run_order words order says)
-
--- the words are a run's exactly where they say it
-pub command_of-run : (words : List (List ℕ)) (order : RunOrder) → (command_of words ≡ Some (Run order)) ↔ SaysRun words order
-command_of-run words order =
-    (λ h. let run = run-command words order h in run_order-said words order run.0 run.1, command-run words order)

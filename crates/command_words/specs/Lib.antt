@@ -3,6 +3,7 @@ pub mod PottsWords
 pub mod AgeWords
 pub mod RunWords
 pub mod RunReading
+pub mod MeasureWords
 pub mod CommandLine
 pub mod ReadPotts
 pub mod ReadAge

@@ -4,6 +4,7 @@ use Rattle.std.specs.Prelude.{ℕ, ◌≤◌, List, Option, option_map, IfSome}
 use Rattle.spin_model.specs.Limits.{every_take, greatest_demo, last_epoch}
 use Rattle.command_words.specs.CommandLine as model
 use Rattle.command_words.specs.RunWords as run_words
+use Rattle.command_words.specs.MeasureWords as measure_words
 use Rattle.command_words.specs.RunReading as run_reading
 use Rattle.command_words.specs.ReadPotts.{read_potts_order, IsLawfulPotts}
 use Rattle.command_words.specs.ReadAge.{read_age_order, IsLawfulAge}
@@ -11,7 +12,8 @@ use Rattle.command_words.specs.declared.average_words.AverageOrder.{AverageOrder
 use Rattle.command_words.specs.declared.correlation_words.LinesOrder.{LinesOrder}
 use Rattle.command_words.specs.declared.command_line.PlainOrder.{PlainOrder}
 use Rattle.command_words.specs.declared.command_line.Command.{Command}
-use Rattle.command_words.specs.declared.command_line.Command.TheVariants.{Plain, Check, Run, Average, Demo, Lines, Potts, Age}
+use Rattle.command_words.specs.declared.command_line.Command.TheVariants.{Plain, Check, Run, Average, Demo, Lines, Potts, Age, Measure}
+use Rattle.command_words.specs.declared.measure_words.MeasureOrder.{MeasureOrder}
 use Rattle.command_words.specs.declared.run_words.RunOrder.{RunOrder}
 use Rattle.command_words.specs.declared.run_words.RunWords.{RunWords}
 
@@ -35,6 +37,17 @@ read_run_order order = record {
   stop_after = order.stop_after;
 }
 
+-- the order of `measure`
+abbrev pub read_measure_order : MeasureOrder → measure_words.MeasureOrder
+read_measure_order order = record {
+  run = order.run.now;
+  workers = order.workers;
+  pieces = order.pieces;
+  until = order.until;
+  from = name_bytes order.from;
+  save = name_bytes order.save;
+}
+
 -- the order of `average`
 abbrev pub read_average_order : AverageOrder → model.AverageOrder
 read_average_order order = record { report = order.report.now; blocks = order.blocks }
@@ -53,6 +66,7 @@ read_command (Demo n) = model.Demo n
 read_command (Lines order) = model.Lines (read_lines_order order)
 read_command (Potts order) = model.Potts (read_potts_order order)
 read_command (Age order) = model.Age (read_age_order order)
+read_command (Measure order) = model.Measure (read_measure_order order)
 
 -- what the words of `run` have said
 abbrev pub read_said : RunWords → run_reading.RunWords
@@ -76,7 +90,15 @@ pub record IsLawfulOrder (order : RunOrder) : Type 0 where
   pub until : IfSome order.until (λ e. e ≤ last_epoch)
   pub stop_after : IfSome order.stop_after (λ n. n ≤ every_take)
 
--- the same of what the words have said
+-- the same without hand-outs
+pub record IsLawfulMeasure (order : MeasureOrder) : Type 0 where
+  pub some_workers : 1 ≤ order.workers
+  pub few_workers : order.workers ≤ 64
+  pub some_pieces : 1 ≤ order.pieces
+  pub few_pieces : order.pieces ≤ 16
+  pub until : IfSome order.until (λ e. e ≤ last_epoch)
+
+-- what holds of the order, of what the words have said
 pub record AreLawfulWords (said : RunWords) : Type 0 where
   pub workers : IfSome said.workers (λ n. (1 ≤ n) × (n ≤ 64))
   pub pieces : IfSome said.pieces (λ n. (1 ≤ n) × (n ≤ 16))
@@ -98,3 +120,4 @@ IsLawfulCommand (Demo n) = n ≤ greatest_demo
 IsLawfulCommand (Lines order) = Unit {0}
 IsLawfulCommand (Potts order) = IsLawfulPotts order
 IsLawfulCommand (Age order) = IsLawfulAge order
+IsLawfulCommand (Measure order) = IsLawfulMeasure order

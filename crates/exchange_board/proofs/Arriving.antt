@@ -15,12 +15,12 @@ use Rattle.scalar_rule.proofs.UnevenContents.{generators-idle, ready-alone, arri
 use Rattle.plane_sweep.specs.Packed.{part_slot, FitsDuo}
 use Rattle.plane_sweep.specs.declared.replica.Duo.{Duo}
 use Rattle.exchange_board.specs.declared.origin.Origin.{Origin}
-use Rattle.exchange_board.specs.declared.totals.Totals.{Totals}
+use Rattle.slot_steps.specs.declared.totals.Totals.{Totals}
 use Rattle.exchange_board.specs.declared.board.Slot.{Slot}
 use Rattle.exchange_board.specs.declared.home.Home.{Home}
 use Rattle.exchange_board.specs.declared.board.Board.TheInside as board
 use Rattle.exchange_board.specs.declared.job.Swept.TheInside as swept
-use Rattle.exchange_board.specs.Totals.{AreTotals}
+use Rattle.slot_steps.specs.Totals.{AreTotals}
 use Rattle.exchange_board.specs.Views.{Stage, BoardView, JobView, place_at, out_at, arrived_at}
 use Rattle.exchange_board.specs.Content.{plan_of, slots_in, starts, started, floor_in, record_at, rule_record}
 use Rattle.exchange_board.specs.Machine.{epochs, phases, numbers, begun, recorded, taken, met}

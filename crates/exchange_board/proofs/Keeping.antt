@@ -12,7 +12,7 @@ use Rattle.scalar_rule.specs.declared.sample.Record.{Record}
 use Rattle.scalar_rule.proofs.Extremes.{sum-one}
 use Rattle.plane_sweep.specs.Packed.{part_slot, part_pair, FitsDuo, PermutesAt}
 use Rattle.exchange_board.specs.declared.origin.Origin.{Origin}
-use Rattle.exchange_board.specs.declared.totals.Totals.{Totals}
+use Rattle.slot_steps.specs.declared.totals.Totals.{Totals}
 use Rattle.exchange_board.specs.declared.home.Home.{Home}
 use Rattle.exchange_board.specs.declared.board.Slot.{Slot}
 use Rattle.exchange_board.specs.declared.board.Board.TheInside as board

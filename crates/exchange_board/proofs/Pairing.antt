@@ -15,13 +15,13 @@ use Rattle.scalar_rule.proofs.SlotPartners.{sides, low-partner, high-partner, pa
 use Rattle.plane_sweep.specs.Packed.{part_slot, part_pair, FitsDuo, ArePairGenerators}
 use Rattle.plane_sweep.specs.declared.stand.PairWheels.{PairWheels}
 use Rattle.exchange_board.specs.declared.origin.Origin.{Origin}
-use Rattle.exchange_board.specs.declared.totals.Totals.{Totals}
+use Rattle.slot_steps.specs.declared.totals.Totals.{Totals}
 use Rattle.exchange_board.specs.declared.home.Home.{Home}
 use Rattle.exchange_board.specs.declared.board.Board.TheInside as board
 use Rattle.exchange_board.specs.declared.job.Job.TheInside as job
 use Rattle.exchange_board.specs.declared.pair.PairJob.TheInside as pair_job
 use Rattle.exchange_board.specs.declared.pair.PairSwept.TheInside as pair_swept
-use Rattle.exchange_board.specs.Totals.{AreTotals}
+use Rattle.slot_steps.specs.Totals.{AreTotals}
 use Rattle.exchange_board.specs.Views.{Stage, BoardView, JobView, place_at, ready_at, out_at, placed}
 use Rattle.exchange_board.specs.Content.{plan_of, slots_in, starts, started, taken_before}
 use Rattle.exchange_board.specs.Machine.{epochs, phases, numbers, begun, taken}

@@ -18,7 +18,7 @@ use Rattle.scalar_rule.proofs.UnevenReached.{pair-known}
 use Rattle.plane_sweep.specs.Packed.{part_slot, part_pair, FitsDuo, ArePairGenerators, PermutesAt}
 use Rattle.plane_sweep.specs.declared.stand.PairWheels.{PairWheels}
 use Rattle.exchange_board.specs.declared.origin.Origin.{Origin}
-use Rattle.exchange_board.specs.declared.totals.Totals.{Totals}
+use Rattle.slot_steps.specs.declared.totals.Totals.{Totals}
 use Rattle.exchange_board.specs.declared.home.Home.{Home}
 use Rattle.exchange_board.specs.declared.board.Slot.{Slot}
 use Rattle.exchange_board.specs.declared.board.Board.TheInside as board
@@ -27,7 +27,7 @@ use Rattle.exchange_board.specs.Views.{Stage, BoardView, JobView, place_at, read
 use Rattle.exchange_board.specs.Content.{plan_of, slots_in, starts, started, taken_before, pair_in, KeepsRows}
 use Rattle.exchange_board.specs.Machine.{Ruled, epochs, phases, numbers, begun, taken}
 use Rattle.exchange_board.specs.JobKeeps.{swept_view}
-use Rattle.exchange_board.specs.Totals.{AreTotals}
+use Rattle.slot_steps.specs.Totals.{AreTotals}
 use Rattle.exchange_board.specs.Meeting.{half, CanMeet, KeepsPage, Met}
 use Rattle.exchange_board.specs.BoardKeeps.{phase_of, place_of, places_of, board_view, rule_content, AtHome, KeepsSlot, content_at, KeepsBoard}
 use Rattle.exchange_board.proofs.Machines.{TwoMoved, settled-rule}

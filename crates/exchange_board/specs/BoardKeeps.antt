@@ -8,11 +8,11 @@ use Rattle.scalar_rule.specs.Positions.{content}
 use Rattle.scalar_rule.specs.declared.sample.PlainSlot.{PlainSlot}
 use Rattle.plane_sweep.specs.Packed.{part_slot, part_pair, PermutesAt, FitsDuo, ArePairGenerators}
 use Rattle.exchange_board.specs.declared.origin.Origin.{Origin}
-use Rattle.exchange_board.specs.declared.totals.Totals.{Totals}
+use Rattle.slot_steps.specs.declared.totals.Totals.{Totals}
 use Rattle.exchange_board.specs.declared.home.Home.{Home}
 use Rattle.exchange_board.specs.declared.board.Slot.{Slot}
 use Rattle.exchange_board.specs.declared.board.Board.TheInside as board
-use Rattle.exchange_board.specs.Totals.{AreTotals}
+use Rattle.slot_steps.specs.Totals.{AreTotals}
 use Rattle.exchange_board.specs.Views.{Stage, BoardView}
 use Rattle.exchange_board.specs.Content.{plan_of, slots_in, starts, started, taken_before, row_total, pair_in, KeepsRows, IsLawfulOrigin}
 use Rattle.exchange_board.specs.Machine.{Ruled, epochs, phases, numbers, taken}

@@ -12,7 +12,7 @@ use Rattle.exchange_board.specs.declared.job.Job.TheInside as job
 use Rattle.exchange_board.specs.declared.job.Swept.TheInside as swept
 use Rattle.exchange_board.specs.declared.origin.Origin.{Origin}
 use Rattle.exchange_board.specs.Content.{plan_of, slots_in, starts, started, record_at}
-use Rattle.exchange_board.specs.Totals.{AreTotals}
+use Rattle.slot_steps.specs.Totals.{AreTotals}
 use Rattle.exchange_board.specs.Views.{JobView}
 
 -- what contracts see of it before its sweeps, and after them

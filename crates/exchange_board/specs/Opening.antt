@@ -6,11 +6,11 @@ use Rattle.plane_sweep.specs.declared.uneven.Place.{Place}
 use Rattle.exchange_board.specs.declared.origin.Origin.{Origin}
 use Rattle.exchange_board.specs.declared.home.Home.{Home}
 use Rattle.exchange_board.specs.declared.board.Slot.{Slot}
-use Rattle.exchange_board.specs.declared.totals.Totals.{Totals}
+use Rattle.slot_steps.specs.declared.totals.Totals.{Totals}
 use Rattle.exchange_board.specs.Answers.{start_place}
 use Rattle.exchange_board.specs.BoardKeeps.{place_of, KeepsSlot}
 use Rattle.exchange_board.specs.Content.{plan_of}
-use Rattle.exchange_board.specs.Totals.{AreTotals}
+use Rattle.slot_steps.specs.Totals.{AreTotals}
 
 -- the home of a slot that begins at a place with this content
 pub record Begins (o : Origin) (place : Place) (duo : Duo) (h : Home) : Type 0 where

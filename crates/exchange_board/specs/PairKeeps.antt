@@ -12,7 +12,7 @@ use Rattle.plane_sweep.specs.declared.stand.PairWheels.{PairWheels}
 use Rattle.exchange_board.specs.declared.home.Home.{Home}
 use Rattle.exchange_board.specs.declared.pair.PairJob.TheInside as pair_job
 use Rattle.exchange_board.specs.declared.pair.PairSwept.TheInside as pair_swept
-use Rattle.exchange_board.specs.declared.totals.Totals.{Totals}
+use Rattle.slot_steps.specs.declared.totals.Totals.{Totals}
 use Rattle.exchange_board.specs.Content.{plan_of, starts, taken_before}
 use Rattle.exchange_board.specs.JobKeeps.{RestsAt, IsSweptAt}
 use Rattle.exchange_board.specs.Machine.{taken}

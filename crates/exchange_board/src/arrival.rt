@@ -12,8 +12,9 @@ use crate::home::Home;
 use crate::job::Swept;
 use crate::pair::PairSwept;
 use crate::rows::{SlotEpoch, put_records};
-use crate::trading::{PlanPair, Side, meet};
+use crate::trading::{Side, meet};
 use scalar_rule::{Plan, has_partner, has_turn};
+use slot_steps::PlanPair;
 use std::alloc::Global;
 
 /// What a hand-back has done.

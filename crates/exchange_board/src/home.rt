@@ -5,9 +5,9 @@ ghost use Rattle.std.specs.Arc.{arc_value};
 
 use crate::origin::Origin;
 use crate::rows::{SlotEpoch, fill_page};
-use crate::totals::{Totals, sweep_and_total, sweep_slot};
 use plane_sweep::{Duo, PairWheels};
 use scalar_rule::{Plan, Record, has_partner, is_recorded};
+use slot_steps::{Totals, sweep_and_total, sweep_slot};
 use std::alloc::Global;
 use std::sync::Arc;
 use std::thread::Threads;

@@ -11,12 +11,12 @@ mod home;
 mod job;
 mod kept;
 mod laws;
+mod measured;
 mod opening;
 mod origin;
 mod pair;
 mod room;
 mod rows;
-mod totals;
 mod trading;
 
 pub use arrival::Arrival;

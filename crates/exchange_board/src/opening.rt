@@ -17,7 +17,6 @@ use crate::home::Home;
 use crate::origin::{Origin, Window};
 use crate::room::Room;
 use crate::rows::{NO_RECORD, rows_of};
-use crate::totals::count_totals;
 use glass_edges::NoMemory;
 use plain_list::Items;
 use plane_sweep::{
@@ -25,6 +24,7 @@ use plane_sweep::{
 };
 use pr_generator::Wheel;
 use scalar_rule::{Plan, Record, recorded_epochs};
+use slot_steps::count_totals;
 use std::alloc::{AllocError, Global};
 use std::sync::Arc;
 

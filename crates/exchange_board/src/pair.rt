@@ -5,8 +5,9 @@ ghost use Rattle.std.specs.Arc.{arc_value};
 
 use crate::home::Home;
 use crate::rows::SlotEpoch;
-use crate::trading::{PlanPair, exchange_homes};
+use crate::trading::exchange_homes;
 use scalar_rule::Plan;
+use slot_steps::PlanPair;
 use std::alloc::Global;
 use std::marker::Model;
 use std::thread::Threads;

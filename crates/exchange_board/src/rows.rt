@@ -7,13 +7,14 @@ ghost use Rattle.scalar_rule.specs.Epoch as model;
 ghost use Rattle.scalar_rule.specs.Records as records_model;
 ghost use Rattle.exchange_board.specs.Content.{slots_in, floor_in, record_at, row_total, IsLawfulOrigin};
 ghost use Rattle.exchange_board.specs.Meeting.{AreRowsOf, RowsAfter, RecordsAfter};
-ghost use Rattle.exchange_board.specs.Totals.{AreTotals};
+ghost use Rattle.slot_steps.specs.Totals.{AreTotals};
 
+use crate::measured::{measure, record_of};
 use crate::origin::Origin;
-use crate::totals::{Totals, measure, record_of};
 use plain_list::Items;
 use plane_sweep::Duo;
 use scalar_rule::{Plan, Record, is_recorded, recorded_epochs};
+use slot_steps::Totals;
 
 /// A record of zeros.
 pub(crate) const NO_RECORD: Record = Record {

@@ -10,14 +10,16 @@ use Rattle.run_checkpoint.specs.Decoding.{decoded}
 use Rattle.run_checkpoint.specs.declared.refused.CheckpointRefused.{CheckpointRefused}
 use Rattle.run_plan.specs.Amounts.{amount_refusal}
 use Rattle.scalar_rule.specs.declared.sample.Sample.{Sample}
-use Rattle.command_words.specs.CommandLine.{LinesOrder, Command, Plain, Check, Run, Average, Demo, Lines, Potts, Age}
+use Rattle.command_words.specs.CommandLine.{LinesOrder, Command, Plain, Check, Run, Average, Demo, Lines, Potts, Age, Measure}
+use Rattle.command_words.specs.MeasureWords.{MeasureOrder}
 use Rattle.command_words.specs.RunWords.{RunOrder}
 use Rattle.glass_main.specs.Beginnings.{Beginning, opened_by, begins_at, resumed_by}
 use Rattle.glass_main.specs.CheckpointBytes.{AreBytes, HasBytes, ResumesBytes, ReadsBytes}
-use Rattle.glass_main.specs.LawfulRequests.{IsLawfulPlanned, AreLawfulBanks, AreLawfulPlans}
+use Rattle.glass_main.specs.LawfulRequests.{IsLawfulPlanned, AreLawfulBanks, AreLawfulPlans, AreLawfulBanked}
+use Rattle.glass_main.specs.MeasureRun.{level_resumed_by}
 use Rattle.glass_main.specs.ManyBanks.{PlannedBanks, banks_opened_by, banks_resumed_by, starts_at, banks_amount_refusal}
 use Rattle.glass_main.specs.NamedStarts.{StartsBy, Starts}
-use Rattle.glass_main.specs.Request.{Work, CheckWork, RunWork, BanksWork, AverageWork, LinesWork, AgeWork, and_then, told_as, bytes_at, plan_at, plans_at, read_at, beginning_at, banks_beginning_at, run_work, banks_work, until_of, run_from, banks_from, run_of, run_at, has_banks, averages_at, stand_at, saved_at}
+use Rattle.glass_main.specs.Request.{Work, CheckWork, RunWork, BanksWork, AverageWork, LinesWork, AgeWork, MeasureWork, banked_at, level_beginning_at, measured_until, measure_from, measure_at, and_then, told_as, bytes_at, plan_at, plans_at, read_at, beginning_at, banks_beginning_at, run_work, banks_work, until_of, run_from, banks_from, run_of, run_at, has_banks, averages_at, stand_at, saved_at}
 use Rattle.glass_main.specs.declared.planned.Planned.{Planned}
 use Rattle.glass_main.specs.declared.plans.Plans.{Plans}
 use Rattle.glass_main.specs.declared.plans.Plans.TheVariants.{One, Banks}
@@ -26,6 +28,8 @@ use Rattle.glass_main.specs.declared.role.Role.TheVariants as roles
 use Rattle.glass_main.specs.declared.refusal.Refusal.{Refusal}
 use Rattle.glass_main.specs.declared.refusal.Refusal.TheVariants as refused
 use Rattle.glass_main.proofs.LawfulPlans.{told-ok, one-lawful, plans-lawful}
+use Rattle.glass_main.proofs.LawfulRequests.{banked-read}
+use Rattle.glass_main.proofs.LevelStarts.{accepted-level}
 use Rattle.glass_main.proofs.OneOfBanks.{stepped, same-ok}
 use Rattle.glass_main.proofs.ReadBytes.{held-is}
 use Rattle.glass_main.proofs.ReadRuns.{accepted-banks}
@@ -83,6 +87,22 @@ by-plans : (order : RunOrder) (files : Files) (plans : Plans) (work : Work) → 
 by-plans order files (One planned) work bytes lawful is = run-starts order files planned work bytes lawful is
 by-plans order files (Banks planned) work bytes lawful is = banks-run-starts order files planned work bytes lawful is
 
+-- ---- runs that are measured
+
+level-start : (name : Option (List ℕ)) (planned : PlannedBanks) (until : ℕ) (files : Files) (starts : List (ℕ → Sample)) → ResumesBytes name (Some files) → AreLawfulBanked planned
+    → level_beginning_at name planned until files ≡ Ok starts → StartsBy name files (MeasureWork planned starts until)
+level-start None planned until files starts bytes lawful is = sym (same-ok (banks_opened_by planned) starts is)
+level-start (Some name) planned until files starts bytes lawful is =
+    let named = named-bytes (level_resumed_by planned until) name files starts bytes is in
+    (named.0, named.1, accepted-level planned until named.0 starts lawful named.2 named.3)
+
+measure-starts : (order : MeasureOrder) (files : Files) (planned : PlannedBanks) (work : Work) → ResumesBytes order.from (Some files) → AreLawfulBanked planned
+    → measure_from order planned files ≡ Ok work → StartsBy order.from files work
+measure-starts order files planned work bytes lawful is =
+    let e = measured_until order planned.orders in
+    let starts = stepped (level_beginning_at order.from planned e files) (λ starts. Ok (MeasureWork planned starts e)) work is in
+    subst (StartsBy order.from files) (same-ok (MeasureWork planned starts.0 e) work starts.2) (level-start order.from planned e files starts.0 bytes lawful starts.1)
+
 -- ---- any command
 
 lines-start : (order : LinesOrder) (files : Files) (saved : SavedState) → HasBytes (Some files) order.checkpoint → saved_at order files ≡ Ok saved
@@ -124,6 +144,10 @@ asked-starts files (Some (Age order)) bytes =
     if-done (StartsBy None files) (and_then (plan_at order.run files) (λ planned. Ok (AgeWork planned order.wait order.times)))
     (λ work made. let p = stepped (plan_at order.run files) (λ planned. Ok (AgeWork planned order.wait order.times)) work made in
     subst (StartsBy None files) (same-ok (AgeWork p.0 order.wait order.times) work p.2) tt)
+asked-starts files (Some (Measure order)) bytes =
+    if-done (StartsBy order.from files) (measure_at order files)
+    (λ work made. let p = stepped (banked_at order.run files) (λ planned. measure_from order planned files) work made in
+    measure-starts order files p.0 work bytes (banked-read order.run files p.0 p.1) p.2)
 
 -- whatever the command and the files are, where the checkpoint that is read has bytes
 pub request-starts : (command : Option Command) (held : Option Files) → ReadsBytes command held → Starts command held

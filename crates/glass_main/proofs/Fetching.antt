@@ -5,7 +5,7 @@ use Rattle.glass_edges.specs.Causes.{Rose}
 use Rattle.glass_edges.specs.Contents.{Files, HoldsFile, LacksFile, HoldsAtLeast}
 use Rattle.glass_edges.specs.declared.shelf.Fetched.{Fetched}
 use Rattle.glass_edges.specs.declared.shelf.Fetched.TheVariants as answer
-use Rattle.glass_main.specs.Endings.{IsOfFile, IsOfBanked, IsOfOneEpoch}
+use Rattle.glass_main.specs.Endings.{IsOfFile, IsOfBanked, IsOfLevel, IsOfOneEpoch}
 use Rattle.glass_main.specs.declared.role.Role.{Role}
 use Rattle.glass_main.specs.declared.role.Role.TheVariants as roles
 use Rattle.glass_main.specs.declared.refusal.Refusal.{Refusal}
@@ -100,6 +100,13 @@ fetched-level role (answer.TooLong n) result is = rw is tt
 fetched-level role answer.Failed result is = rw is tt
 fetched-level role answer.NoMemory result is = rw is tt
 
+pub fetched-levels : (role : Role) (fetched : Fetched) (result : Result (List ℕ) Ending) → result ≡ gathered role fetched → IfErr result (λ ending. IfRefused ending IsOfLevel)
+fetched-levels role (answer.Held v) result is = rw is tt
+fetched-levels role answer.Absent result is = rw is tt
+fetched-levels role (answer.TooLong n) result is = rw is tt
+fetched-levels role answer.Failed result is = rw is tt
+fetched-levels role answer.NoMemory result is = rw is tt
+
 pub fetched-banks : (many : Bool) (role : Role) (fetched : Fetched) (result : Result (List ℕ) Ending) → result ≡ gathered role fetched → IfErr result (λ ending. IfRefused ending (IsOfBanked many))
 fetched-banks many role (answer.Held v) result is = rw is tt
 fetched-banks many role answer.Absent result is = rw is tt
@@ -120,6 +127,18 @@ of-file-banked many fetches (refused.Swaps e) not h = tt
 of-file-banked many fetches (refused.Couplings e) not h = tt
 of-file-banked many fetches (refused.Checkpoint e) not h = tt
 of-file-banked many fetches (refused.Report e) not h = tt
+
+-- and those that fetch no checkpoint refuse none
+pub of-file-level : (fetches : Role → Type 0) (told : Refusal) → (fetches roles.Checkpoint → ⊥) → IsOfFile fetches told → IsOfLevel told
+of-file-level fetches refused.Words not h = tt
+of-file-level fetches (refused.Absent role) not h = tt
+of-file-level fetches (refused.TooLong role n) not h = tt
+of-file-level fetches (refused.Plan e) not h = tt
+of-file-level fetches (refused.Rules e) not h = tt
+of-file-level fetches (refused.Swaps e) not h = tt
+of-file-level fetches (refused.Couplings e) not h = tt
+of-file-level fetches (refused.Checkpoint e) not h = absurd (not h.0)
+of-file-level fetches (refused.Report e) not h = tt
 
 -- ---- steps that fetch more
 

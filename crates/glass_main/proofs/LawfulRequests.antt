@@ -12,10 +12,12 @@ use Rattle.run_plan.specs.Amounts.{amount_refusal}
 use Rattle.scalar_rule.specs.declared.sample.Sample.{Sample}
 use Rattle.glass_main.specs.Beginnings.{Beginning, Level, Uneven, opened_by, begins_at, resumed_by}
 use Rattle.glass_main.specs.CheckpointBytes.{AreBytes, ResumesBytes, ReadsBytes}
-use Rattle.command_words.specs.CommandLine.{LinesOrder, Command, Plain, Check, Run, Average, Demo, Lines, Potts, Age, command_of}
-use Rattle.glass_main.specs.LawfulRequests.{IsLawfulPlanned, AreLawfulBanks, AreLawfulPlans, IsLawfulRun, IsLawfulRunOfBanks, IsLawfulWork}
+use Rattle.command_words.specs.CommandLine.{LinesOrder, Command, Plain, Check, Run, Average, Demo, Lines, Potts, Age, Measure, command_of}
+use Rattle.command_words.specs.MeasureWords.{MeasureOrder, run_to_measure}
+use Rattle.glass_main.specs.LawfulRequests.{IsLawfulPlanned, AreLawfulBanks, AreLawfulPlans, AreLawfulBanked, IsLawfulRun, IsLawfulRunOfBanks, IsLawfulMeasuring, IsLawfulWork}
 use Rattle.glass_main.specs.ManyBanks.{PlannedBanks, banks_opened_by, banks_resumed_by, starts_at, banks_amount_refusal}
-use Rattle.glass_main.specs.Request.{Work, CheckWork, RunWork, BanksWork, AverageWork, LinesWork, AgeWork, and_then, told_as, bytes_in, bytes_at, plan_at, plans_at, read_at, beginning_at, banks_beginning_at, run_work, banks_work, until_of, run_from, banks_from, run_of, run_at, has_banks, averages_at, stand_at, saved_at, request_for, request}
+use Rattle.glass_main.specs.MeasureRun.{banks_of, level_resumed_by}
+use Rattle.glass_main.specs.Request.{Work, CheckWork, RunWork, BanksWork, AverageWork, LinesWork, AgeWork, MeasureWork, banked_at, level_beginning_at, measured_until, measure_from, measure_at, and_then, told_as, bytes_in, bytes_at, plan_at, plans_at, read_at, beginning_at, banks_beginning_at, run_work, banks_work, until_of, run_from, banks_from, run_of, run_at, has_banks, averages_at, stand_at, saved_at, request_for, request}
 use Rattle.command_words.specs.RunWords.{RunOrder, Until, MaySay, values_in}
 use Rattle.glass_main.specs.StopLaws.{IsEncodingOf, IsBeginning, reached_by}
 use Rattle.glass_main.specs.ResumeLaws.{AreBeginnings}
@@ -30,11 +32,12 @@ use Rattle.glass_main.specs.declared.refusal.Refusal.{Refusal}
 use Rattle.glass_main.specs.declared.refusal.Refusal.TheVariants as refused
 use Rattle.glass_main.proofs.BanksGoOn.{banks-at, first-at, opened-at}
 use Rattle.glass_main.proofs.LawfulPlans.{told-ok, one-lawful, plans-lawful}
+use Rattle.glass_main.proofs.LevelStarts.{banked-lawful, some-plans, accepted-level}
 use Rattle.glass_main.proofs.OneOfBanks.{stepped, same-ok}
 use Rattle.glass_main.proofs.ReadBytes.{held-is}
 use Rattle.glass_main.proofs.ReadRuns.{accepted-banks}
 use Rattle.glass_main.proofs.ReadStops.{accepted}
-use Rattle.command_words.proofs.SaidRuns.{command_of-run}
+use Rattle.command_words.proofs.SaidCommands.{command_of-run, command_of-measure}
 
 -- ---- the last epoch
 
@@ -58,6 +61,11 @@ order-short : (words : List (List ℕ)) (order : RunOrder) → command_of words 
 order-short words order is =
     let says = (command_of-run words order).0 is in
     said-short (values_in Until says.items) order.until says.until
+
+measure-short : (words : List (List ℕ)) (order : MeasureOrder) → command_of words ≡ Some (Measure order) → IfSome order.until (λ e. e ≤ 1000000000)
+measure-short words order is =
+    let says = (command_of-measure words order).0 is in
+    said-short (values_in Until says.run.items) order.until says.run.until
 
 until-short : (until : Option ℕ) (epochs : ℕ) → IfSome until (λ e. e ≤ 1000000000) → epochs ≤ 1000000000 → unwrap_or until epochs ≤ 1000000000
 until-short None epochs said file = file
@@ -99,6 +107,21 @@ banks-begin (Some name) planned until files starts lawful bytes is =
     let are = held-bytes roles.Checkpoint (finmap.get files name) read.0 bytes read.1 in
     let e = accepted-banks planned until read.0 starts lawful.plans are (told-ok refused.Checkpoint (banks_resumed_by planned until read.0) starts read.2) in
     let first = first-at e.epoch planned.plans starts (omega (arith, lawful.plans.several)) (banks-at e.epoch planned.plans starts e.states_are) in
+    (inr (e.epoch, e.states_are), omega (arith, first, e.in_time))
+
+-- one bank or several, at one epoch
+level-begin : (name : Option (List ℕ)) (planned : PlannedBanks) (until : ℕ) (files : Files) (starts : List (ℕ → Sample)) → AreLawfulBanked planned → ResumesBytes name (Some files)
+    → level_beginning_at name planned until files ≡ Ok starts → AreBeginnings planned starts × (starts_at starts ≤ until)
+unfolding read_at
+level-begin None planned until files starts lawful bytes is =
+    let same = same-ok (banks_opened_by planned) starts is in
+    let first = first-at 0 planned.plans (banks_opened_by planned) (some-plans planned lawful) (opened-at 0 planned.plans planned.orders.start) in
+    (inl (sym same), omega (arith, first, ap starts_at same))
+level-begin (Some name) planned until files starts lawful bytes is =
+    let read = stepped (bytes_at roles.Checkpoint name files) (λ bytes. told_as refused.Checkpoint (level_resumed_by planned until bytes)) starts is in
+    let are = held-bytes roles.Checkpoint (finmap.get files name) read.0 bytes read.1 in
+    let e = accepted-level planned until read.0 starts lawful are (told-ok refused.Checkpoint (level_resumed_by planned until read.0) starts read.2) in
+    let first = first-at e.epoch planned.plans starts (some-plans planned lawful) (banks-at e.epoch planned.plans starts e.states_are) in
     (inr (e.epoch, e.states_are), omega (arith, first, e.in_time))
 
 -- ---- a run
@@ -146,6 +169,27 @@ by-plans : (order : RunOrder) (files : Files) (plans : Plans) (work : Work) → 
 by-plans order files (One planned) work said bytes lawful is = run-lawful order files planned work said bytes lawful is
 by-plans order files (Banks planned) work said bytes lawful is = banks-run-lawful order files planned work said bytes lawful is
 
+-- a run that is measured
+pub banked-read : (name : List ℕ) (files : Files) (planned : PlannedBanks) → banked_at name files ≡ Ok planned → AreLawfulBanked planned
+unfolding banked_at
+banked-read name files planned is =
+    let p = stepped (plans_at true name files) (λ plans. Ok (banks_of plans)) planned is in
+    subst AreLawfulBanked (same-ok (banks_of p.0) planned p.2) (banked-lawful p.0 (plans-lawful true name files p.0 p.1))
+
+measure-lawful : (order : MeasureOrder) (files : Files) (planned : PlannedBanks) (work : Work) → IfSome order.until (λ e. e ≤ 1000000000) → ResumesBytes order.from (Some files) → AreLawfulBanked planned
+    → measure_from order planned files ≡ Ok work → IsLawfulWork work
+measure-lawful order files planned work said bytes lawful is =
+    let e = measured_until order planned.orders in
+    let starts = stepped (level_beginning_at order.from planned e files) (λ starts. Ok (MeasureWork planned starts e)) work is in
+    let begun = level-begin order.from planned e files starts.0 lawful bytes starts.1 in
+    let own : IsLawfulMeasuring planned starts.0 e = record {
+      lawful = lawful;
+      begins = begun.0;
+      in_time = begun.1;
+      short = until-short order.until planned.orders.epochs said lawful.orders.epochs;
+    } in
+    subst IsLawfulWork (same-ok (MeasureWork planned starts.0 e) work starts.2) own
+
 -- ---- any command
 
 if-done : (asked : Result Work Refusal) → ((work : Work) → asked ≡ Ok work → IsLawfulWork work) → IfOk asked IsLawfulWork
@@ -191,6 +235,11 @@ asked-lawful words (Some (Age order)) (Some files) is bytes =
     if-done (and_then (plan_at order.run files) (λ planned. Ok (AgeWork planned order.wait order.times)))
     (λ work made. let p = stepped (plan_at order.run files) (λ planned. Ok (AgeWork planned order.wait order.times)) work made in
     subst IsLawfulWork (same-ok (AgeWork p.0 order.wait order.times) work p.2) (one-lawful order.run files p.0 p.1))
+asked-lawful words (Some (Measure order)) None is bytes = tt
+asked-lawful words (Some (Measure order)) (Some files) is bytes =
+    if-done (measure_at order files)
+    (λ work made. let p = stepped (banked_at order.run files) (λ planned. measure_from order planned files) work made in
+    measure-lawful order files p.0 work (measure-short words order is) bytes (banked-read order.run files p.0 p.1) p.2)
 
 -- whatever the words and the files are, where the checkpoint that is read has bytes
 pub request-lawful : (words : List (List ℕ)) (held : Option Files) → ReadsBytes (command_of words) held → IfSome (request words held) (λ asked. IfOk asked IsLawfulWork)

@@ -8,6 +8,8 @@ pub mod DemoRuns
 pub mod Resumed
 pub mod Amounts
 pub mod RunEndings
+pub mod MeasureEndings
+pub mod MeasuredRuns
 pub mod Finished
 pub mod OneBank
 pub mod AddingUp
@@ -22,6 +24,7 @@ pub mod BankStands
 pub mod BankRuns
 pub mod OneOfBanks
 pub mod LawfulPlans
+pub mod LevelStarts
 pub mod LawfulRequests
 pub mod ReadBytes
 pub mod EncodedStarts

@@ -38,10 +38,10 @@ amount-tells held lengths (refused.Checkpoint e) h = tt
 amount-tells held lengths (refused.Report e) h = tt
 
 -- a checkpoint is no run file
-no-run-file : (name : Option (List ℕ)) → FetchesCheckpoint name roles.RunFile → ⊥
+pub no-run-file : (name : Option (List ℕ)) → FetchesCheckpoint name roles.RunFile → ⊥
 no-run-file name fetches = let is : roles.RunFile ≡ roles.Checkpoint = fetches.role_is in absurd cc
 
-some-free : {A : Type 0} (x : Option A) (P : A → Type 0) → ((a : A) → P a) → IfSome x P
+pub some-free : {A : Type 0} (x : Option A) (P : A → Type 0) → ((a : A) → P a) → IfSome x P
 some-free None P p = tt
 some-free (Some a) P p = p a
 

@@ -71,10 +71,10 @@ any-of plan until bytes e None true first is due =
     (replicate 88 0, kind-any plan until ∙ ap Some (same-some checkpoint.Magic e (level_refusal plan until bytes) (kind-first plan until bytes first is) due))
 
 -- a checkpoint that is refused at one epoch is refused so as one to go on from
-pub level-cause : (plan : Plan) (bytes : List ℕ) (e : CheckpointRefused) → ¬ (e ≡ checkpoint.NoMemory) → level_refusal plan 1000000000 bytes ≡ Some e → IsOfCheckpoint e
-level-cause plan bytes e refusal due =
-    let any = any-of plan 1000000000 bytes e (short 88 bytes) (is_uneven bytes) refl refl due in
-    record { refusal = refusal; cause = inl (plan, 1, 1, 1000000000, any.0, any.1) }
+pub level-cause : (plan : Plan) (until : ℕ) (bytes : List ℕ) (e : CheckpointRefused) → ¬ (e ≡ checkpoint.NoMemory) → level_refusal plan until bytes ≡ Some e → IsOfCheckpoint e
+level-cause plan until bytes e refusal due =
+    let any = any-of plan until bytes e (short 88 bytes) (is_uneven bytes) refl refl due in
+    record { refusal = refusal; cause = inl (plan, 1, 1, until, any.0, any.1) }
 
 due-of : (refusal : Option CheckpointRefused) (x : Stand) (e : CheckpointRefused) → unless refusal x ≡ Err e → refusal ≡ Some e
 due-of None x e is = absurd cc
@@ -89,7 +89,7 @@ decoded-due plan bytes e is = due-of (level_refusal plan 1000000000 bytes) (stan
 pub decoded-cause : (plan : Plan) (bytes : List ℕ) (e : CheckpointRefused) → ¬ (e ≡ checkpoint.NoMemory) → decoded plan 1000000000 bytes ≡ Err e → IsOfCheckpoint e × IsOfOneEpoch (Checkpoint e)
 decoded-cause plan bytes e refusal is =
     let due = decoded-due plan bytes e is in
-    (level-cause plan bytes e refusal due, (plan, bytes, due))
+    (level-cause plan 1000000000 bytes e refusal due, (plan, bytes, due))
 
 step-refused : (plan : Plan) (name bytes : List ℕ) (e : CheckpointRefused) (held : Option Files) → IfSome (option_map (bytes_at roles.Checkpoint name) held) (λ a. a ≡ Ok bytes)
     → decoded plan 1000000000 bytes ≡ Err e → IfSome (option_map (stand_at plan name) held) (λ a. IsRefusedBy a (Checkpoint e))

@@ -24,7 +24,9 @@ use Rattle.sample_average.specs.declared.refused.ReportRefused.{ReportRefused}
 use Rattle.sample_average.specs.declared.refused.ReportRefused.TheVariants as report
 use Rattle.scalar_rule.specs.Plan as rule
 use Rattle.command_words.specs.RunWords.{RunOrder}
-use Rattle.command_words.specs.CommandLine.{Command, Plain, Check, Run, Average, Demo, Lines, Potts, Age}
+use Rattle.command_words.specs.MeasureWords.{run_to_measure}
+use Rattle.command_words.specs.CommandLine.{Command, Plain, Check, Run, Average, Demo, Lines, Potts, Age, Measure}
+use Rattle.glass_main.specs.MeasureRun.{level_banks_refusal}
 use Rattle.glass_main.specs.Request.{limit_of, and_then, banked, IsAccepted, run_file_at, rules_at, swaps_at, tables_at, plan_at, plans_at, has_banks}
 use Rattle.glass_main.specs.declared.role.Role.{Role}
 use Rattle.glass_main.specs.declared.role.Role.TheVariants as roles
@@ -94,6 +96,11 @@ IsOfBanked many told = Unit {0}
 abbrev pub IsOfOneEpoch : Refusal → Type 0
 IsOfOneEpoch (refused.Checkpoint e) = (plan : rule.Plan) × (bytes : List ℕ) × (level_refusal plan last_epoch bytes ≡ Some e)
 IsOfOneEpoch told = Unit {0}
+
+-- the same of one bank or of several, at any epoch
+abbrev pub IsOfLevel : Refusal → Type 0
+IsOfLevel (refused.Checkpoint e) = (plans : List rule.Plan) × (until : ℕ) × (bytes : List ℕ) × (level_banks_refusal plans until bytes ≡ Some e)
+IsOfLevel told = Unit {0}
 
 -- a length that is told is of a file that the store holds: that file is at least so long, where the files are observable. Where the store
 -- says beforehand which length a fetch of that file tells, it is that one
@@ -172,10 +179,11 @@ MayFetch (Demo n) held role = ⊥
 MayFetch (Lines order) held role = IsReachedSaved order.run held role
 MayFetch (Potts order) held role = ⊥
 MayFetch (Age order) held role = IsReached false order.run held role
+MayFetch (Measure order) held role = IsReached true order.run held role ⊎ IsResumed (run_to_measure order) held role
 
--- what a command may be refused for: `plain`, `demo` and `potts` read no file, and are never refused; `check`, `lines`, `age` and a run are
--- for a file that they fetch, of which no step before refuses; no amount is asked for but by a run; `lines` reads a checkpoint at one
--- epoch alone; `check`, and a run that isn't to stop between epochs, take many banks
+-- what a command may be refused for: `plain`, `demo` and `potts` read no file, and are never refused; `check`, `lines`, `age`, `measure` and a
+-- run are for a file that they fetch, of which no step before refuses; no amount is asked for but by a run; `lines` and `measure` read a
+-- checkpoint at one epoch alone; `check`, `measure`, and a run that isn't to stop between epochs, take many banks
 abbrev pub MayRefuse : Command → Option Files → Refusal → Type 0
 MayRefuse (Plain order) held told = ⊥
 MayRefuse (Check name) held told = IsOfFile (MayFetch (Check name) held) told × IsOfBanked true told
@@ -185,8 +193,9 @@ MayRefuse (Demo n) held told = ⊥
 MayRefuse (Lines order) held told = IsOfFile (MayFetch (Lines order) held) told × IsOfOneEpoch told
 MayRefuse (Potts order) held told = ⊥
 MayRefuse (Age order) held told = IsOfFile (MayFetch (Age order) held) told
+MayRefuse (Measure order) held told = IsOfFile (MayFetch (Measure order) held) told × IsOfBanked true told × IsOfLevel told
 
--- the commands that may fail at their checkpoint: runs that save one
+-- the commands that may fail at their checkpoint: runs that save one, also where they are measured
 abbrev pub MaySave : Command → Type 0
 MaySave (Plain order) = ⊥
 MaySave (Check name) = ⊥
@@ -196,6 +205,7 @@ MaySave (Demo n) = ⊥
 MaySave (Lines order) = ⊥
 MaySave (Potts order) = ⊥
 MaySave (Age order) = ⊥
+MaySave (Measure order) = order.save ≢ None
 
 -- how a command may end, where the store holds these files
 abbrev pub MayEnd : Command → Option Files → Ending → Type 0
@@ -217,6 +227,7 @@ ReadsNoFile (Some (Demo n)) = Unit {0}
 ReadsNoFile (Some (Lines order)) = ⊥
 ReadsNoFile (Some (Potts order)) = Unit {0}
 ReadsNoFile (Some (Age order)) = ⊥
+ReadsNoFile (Some (Measure order)) = ⊥
 
 -- words that are no command are refused as such, and no others
 abbrev pub Reads : Option Command → Option Files → Ending → Type 0

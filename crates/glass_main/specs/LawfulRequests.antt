@@ -1,5 +1,6 @@
 -- What holds of what is asked for, where nothing refuses it: what the laws on runs that go on from one another ask for.
-use Rattle.std.specs.Prelude.{◌≡◌, ℕ, ◌≤◌, List, length, None}
+use Rattle.std.specs.Prelude.{◌≡◌, ℕ, ◌≤◌, List, All, length, None}
+use Rattle.run_checkpoint.specs.BankEncoding.{HaveOneShape}
 use Rattle.run_plan.specs.Amounts.{amount_refusal}
 use Rattle.run_plan.specs.RunFile.{AreLawfulOrders, AreOrdersOfBanks}
 use Rattle.scalar_rule.specs.Plan.{IsLawfulPlan}
@@ -7,7 +8,7 @@ use Rattle.scalar_rule.specs.declared.sample.Sample.{Sample}
 use Rattle.spin_model.specs.Limits.{last_epoch}
 use Rattle.glass_main.specs.Beginnings.{Beginning, begins_at}
 use Rattle.glass_main.specs.ManyBanks.{PlannedBanks, bank_count, starts_at, banks_amount_refusal}
-use Rattle.glass_main.specs.Request.{Work, PlainWork, CheckWork, RunWork, BanksWork, AverageWork, DemoWork, LinesWork, PottsWork, AgeWork}
+use Rattle.glass_main.specs.Request.{Work, PlainWork, CheckWork, RunWork, BanksWork, AverageWork, DemoWork, LinesWork, PottsWork, AgeWork, MeasureWork}
 use Rattle.glass_main.specs.ResumeLaws.{AreBankPlans, AreBeginnings}
 use Rattle.glass_main.specs.StopLaws.{IsBeginning, reached_by}
 use Rattle.glass_main.specs.declared.planned.Planned.{Planned}
@@ -32,6 +33,13 @@ abbrev pub AreLawfulPlans : Plans → Type 0
 AreLawfulPlans (One planned) = IsLawfulPlanned planned
 AreLawfulPlans (Banks planned) = AreLawfulBanks planned
 
+-- the same of 1 to 4 banks
+pub record AreLawfulBanked (planned : PlannedBanks) : Type 0 where
+  pub plans : All IsLawfulPlan planned.plans
+  pub shape : HaveOneShape planned.plans
+  pub count : length planned.plans ≡ bank_count planned.orders.samples
+  pub orders : AreOrdersOfBanks planned.orders
+
 -- ---- runs
 
 -- a run of lawful plan and orders begins with its opening states or with what the bytes of a checkpoint are, no slot of which is
@@ -51,6 +59,13 @@ pub record IsLawfulRunOfBanks (planned : PlannedBanks) (starts : List (ℕ → S
   pub short : until ≤ last_epoch
   pub amount : banks_amount_refusal planned.plans planned.orders (starts_at starts) until ≡ None
 
+-- and of a run that is measured, whose amount is no matter
+pub record IsLawfulMeasuring (planned : PlannedBanks) (starts : List (ℕ → Sample)) (until : ℕ) : Type 0 where
+  pub lawful : AreLawfulBanked planned
+  pub begins : AreBeginnings planned starts
+  pub in_time : starts_at starts ≤ until
+  pub short : until ≤ last_epoch
+
 -- ---- work
 
 -- work over a run file has lawful plans and orders, and a run is a lawful one
@@ -64,3 +79,4 @@ IsLawfulWork (DemoWork n) = Unit {0}
 IsLawfulWork (LinesWork saved) = IsLawfulPlanned saved.planned
 IsLawfulWork (PottsWork order) = Unit {0}
 IsLawfulWork (AgeWork planned wait times) = IsLawfulPlanned planned
+IsLawfulWork (MeasureWork planned starts until) = IsLawfulMeasuring planned starts until

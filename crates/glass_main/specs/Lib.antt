@@ -3,6 +3,7 @@ pub mod Texts
 pub mod PottsRun
 pub mod AgeRun
 pub mod ManyBanks
+pub mod MeasureRun
 pub mod Beginnings
 pub mod Stops
 pub mod Outside
@@ -22,4 +23,5 @@ pub mod KeptPlans
 pub mod Gathers
 pub mod BankTables
 pub mod Resumes
+pub mod KeptMeasure
 pub mod Opened

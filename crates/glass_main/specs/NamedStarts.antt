@@ -5,14 +5,15 @@ use Rattle.std.specs.FinMap as finmap
 use Rattle.glass_edges.specs.Contents.{Files}
 use Rattle.spin_model.specs.Limits.{last_epoch}
 use Rattle.run_checkpoint.specs.Decoding.{IsEncoded}
-use Rattle.command_words.specs.CommandLine.{Command, Plain, Check, Run, Average, Demo, Lines, Potts, Age}
+use Rattle.command_words.specs.CommandLine.{Command, Plain, Check, Run, Average, Demo, Lines, Potts, Age, Measure}
 use Rattle.glass_main.specs.Beginnings.{opened_by}
 use Rattle.glass_main.specs.ManyBanks.{banks_opened_by}
-use Rattle.glass_main.specs.Request.{Work, PlainWork, CheckWork, RunWork, BanksWork, AverageWork, DemoWork, LinesWork, PottsWork, AgeWork, request_for}
+use Rattle.glass_main.specs.MeasureRun.{IsLevelEncoding}
+use Rattle.glass_main.specs.Request.{Work, PlainWork, CheckWork, RunWork, BanksWork, AverageWork, DemoWork, LinesWork, PottsWork, AgeWork, MeasureWork, request_for}
 use Rattle.glass_main.specs.ResumeLaws.{IsEncodingOfBanks}
 use Rattle.glass_main.specs.StopLaws.{IsEncodingOf}
 
--- the checkpoint that a command names: a run may go on from one, and `lines` prints of one
+-- the checkpoint that a command names: a run may go on from one, also one that is measured, and `lines` prints of one
 abbrev pub named_checkpoint : Option Command → Option (List ℕ)
 named_checkpoint None = None
 named_checkpoint (Some (Plain order)) = None
@@ -23,6 +24,7 @@ named_checkpoint (Some (Demo n)) = None
 named_checkpoint (Some (Lines order)) = Some order.checkpoint
 named_checkpoint (Some (Potts order)) = None
 named_checkpoint (Some (Age order)) = None
+named_checkpoint (Some (Measure order)) = order.from
 
 -- where none is named a run starts with the opening states of its plans
 abbrev pub StartsAnew : Work → Type 0
@@ -35,6 +37,7 @@ StartsAnew (DemoWork n) = Unit {0}
 StartsAnew (LinesWork saved) = ⊥
 StartsAnew (PottsWork order) = Unit {0}
 StartsAnew (AgeWork planned wait times) = Unit {0}
+StartsAnew (MeasureWork planned starts until) = starts ≡ banks_opened_by planned
 
 -- the bytes of the named one are the encoding of what a run goes on from, or `lines` prints of, which is in time; no other
 -- work is asked for then
@@ -48,6 +51,7 @@ StartsWith bytes (DemoWork n) = ⊥
 StartsWith bytes (LinesWork saved) = IsEncoded saved.planned.plan last_epoch bytes saved.base
 StartsWith bytes (PottsWork order) = ⊥
 StartsWith bytes (AgeWork planned wait times) = ⊥
+StartsWith bytes (MeasureWork planned starts until) = IsLevelEncoding planned.plans until bytes starts
 
 -- one of the two, by the name; the files have bytes under it
 abbrev pub StartsBy : Option (List ℕ) → Files → Work → Type 0

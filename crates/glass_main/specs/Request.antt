@@ -29,12 +29,14 @@ use Rattle.scalar_rule.specs.declared.sample.Sample.{Sample}
 use Rattle.sample_average.specs.Averages.{AveragesView, averages_text}
 use Rattle.sample_average.specs.ReadReport.{averages_in, most_report_bytes}
 use Rattle.command_words.specs.RunWords.{RunOrder}
-use Rattle.command_words.specs.CommandLine.{PlainOrder, AverageOrder, LinesOrder, Command, Plain, Check, Run, Average, Demo, Lines, Potts, Age, command_of}
+use Rattle.command_words.specs.MeasureWords.{MeasureOrder, run_to_measure}
+use Rattle.command_words.specs.CommandLine.{PlainOrder, AverageOrder, LinesOrder, Command, Plain, Check, Run, Average, Demo, Lines, Potts, Age, Measure, command_of}
 use Rattle.glass_main.specs.PottsRun.{potts_report}
 use Rattle.command_words.specs.PottsWords.{PottsOrder}
 use Rattle.glass_main.specs.AgeRun.{age_text}
 use Rattle.glass_main.specs.Beginnings.{Beginning, opened_by, resumed_by, begins_at}
 use Rattle.glass_main.specs.ManyBanks.{PlannedBanks, bank_count, bank_plans, banks_opened_by, banks_resumed_by, starts_at, banks_amount_refusal, banks_text, banks_at, banks_bytes}
+use Rattle.glass_main.specs.MeasureRun.{banks_of, level_resumed_by, measured_text, measured_bytes}
 use Rattle.glass_main.specs.Stops.{RunGives}
 use Rattle.glass_main.specs.Texts.{plain_text, check_text, demo_text, saved_text}
 use Rattle.glass_main.specs.declared.planned.Planned.{Planned}
@@ -59,6 +61,7 @@ pub data Work : Type 0 where
   LinesWork : SavedState → Work
   PottsWork : PottsOrder → Work
   AgeWork : Planned → ℕ → List ℕ → Work
+  MeasureWork : PlannedBanks → List (ℕ → Sample) → ℕ → Work
 
 -- what holds of the text that the work prints, and of the checkpoint that it saves where it is asked to; the states of a run's
 -- checkpoint fit, so that a run which goes on from it has them
@@ -73,6 +76,8 @@ Gives (DemoWork n) P = P (demo_text n) []
 Gives (LinesWork saved) P = P (saved_text saved) []
 Gives (PottsWork order) P = P (potts_report order) []
 Gives (AgeWork planned wait times) P = P (age_text planned wait times) []
+Gives (MeasureWork planned starts until) P =
+    AreBanks until planned.plans (banks_at planned.plans starts until) × P (measured_text planned starts until) (measured_bytes planned starts until)
 
 -- ---- steps
 
@@ -204,6 +209,10 @@ plans_after_file file files =
 unfoldable pub plans_at : Bool → List ℕ → Files → Result Plans Refusal
 plans_at many name files = and_then (run_file_at many name files) (λ file. plans_after_file file files)
 
+-- those of all banks as a list, also where there is but one
+unfoldable pub banked_at : List ℕ → Files → Result PlannedBanks Refusal
+banked_at name files = and_then (plans_at true name files) (λ plans. Ok (banks_of plans))
+
 -- ---- what a run starts from
 
 -- what the checkpoint of a name is read as
@@ -225,6 +234,14 @@ banks_checkpoint_at planned until name files = read_at (banks_resumed_by planned
 abbrev pub banks_beginning_at : Option (List ℕ) → PlannedBanks → ℕ → Files → Result (List (ℕ → Sample)) Refusal
 banks_beginning_at None planned until files = Ok (banks_opened_by planned)
 banks_beginning_at (Some name) planned until files = banks_checkpoint_at planned until name files
+
+-- the same of states at one epoch, of one bank or of several
+abbrev pub level_checkpoint_at : PlannedBanks → ℕ → List ℕ → Files → Result (List (ℕ → Sample)) Refusal
+level_checkpoint_at planned until name files = read_at (level_resumed_by planned until) name files
+
+abbrev pub level_beginning_at : Option (List ℕ) → PlannedBanks → ℕ → Files → Result (List (ℕ → Sample)) Refusal
+level_beginning_at None planned until files = Ok (banks_opened_by planned)
+level_beginning_at (Some name) planned until files = level_checkpoint_at planned until name files
 
 -- ---- what a run does
 
@@ -265,6 +282,18 @@ has_banks (Some takes) = false
 abbrev pub run_at : RunOrder → Files → Result Work Refusal
 run_at order held = and_then (plans_at (has_banks order.stop_after) order.run held) (run_of order held)
 
+-- the last epoch of a run that is measured, and the sums over it from what it starts from; no amount is refused
+abbrev pub measured_until : MeasureOrder → Orders → ℕ
+measured_until order orders = until_of (run_to_measure order) orders
+
+abbrev pub measure_from : MeasureOrder → PlannedBanks → Files → Result Work Refusal
+measure_from order planned held =
+    and_then (level_beginning_at order.from planned (measured_until order planned.orders) held)
+    (λ starts. Ok (MeasureWork planned starts (measured_until order planned.orders)))
+
+abbrev pub measure_at : MeasureOrder → Files → Result Work Refusal
+measure_at order held = and_then (banked_at order.run held) (λ planned. measure_from order planned held)
+
 -- the averages of the report of a name, in so many blocks of its samples
 unfoldable pub averages_at : AverageOrder → Files → Result AveragesView Refusal
 averages_at order files = and_then (bytes_at roles.Report order.report files) (λ bytes. told_as refused.Report (averages_in order.blocks bytes))
@@ -293,6 +322,7 @@ request_of (Demo n) files = Some (Ok (DemoWork n))
 request_of (Lines order) files = option_map (λ held. and_then (saved_at order held) (λ saved. Ok (LinesWork saved))) files
 request_of (Potts order) files = Some (Ok (PottsWork order))
 request_of (Age order) files = option_map (λ held. and_then (plan_at order.run held) (λ planned. Ok (AgeWork planned order.wait order.times))) files
+request_of (Measure order) files = option_map (measure_at order) files
 
 -- the same of words that may be no command
 abbrev pub request_for : Option Command → Option Files → Option (Result Work Refusal)

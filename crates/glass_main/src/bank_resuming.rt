@@ -56,8 +56,8 @@ fn opening_stands(alloc: Global, planned: &PlannedBanks) -> Result<Items<Stand>,
     Ok(Items::of(stands))
 }
 
-// The states that the samples of each bank begin with, packed.
-fn open_each(
+/// The states that the samples of each bank begin with, packed.
+pub(crate) fn open_each(
     alloc: Global,
     plans: &[Arc<Plan, Global>],
     start: Start,

@@ -59,7 +59,7 @@ pub(crate) fn run_banks<R: Threads + Wait + Sync, H: Shelf, O: Sink, G: Gate + S
     banks_report_is_serial();
     banks_checkpoint_is_serial();
     let Asked { order, planned } = asked;
-    let until = until_of(&order, &planned.orders);
+    let until = until_of(order.until, &planned.orders);
     let stands = match gather_stands(alloc, shelf, &planned, until, order.from) {
         Ok(stands) => stands,
         Err(ending) => return ending,

@@ -101,7 +101,7 @@ fn run_one<R: Threads + Wait + Sync, H: Shelf, O: Sink, G: Gate + Sync>(
     whole_checkpoint_is_the_rules();
     level_checkpoint_is_serial();
     let Asked { order, planned } = asked;
-    let until = until_of(&order, &planned.orders);
+    let until = until_of(order.until, &planned.orders);
     let base = match gather_base(alloc, shelf, &planned, until, order.from) {
         Ok(base) => base,
         Err(ending) => return ending,
@@ -113,14 +113,14 @@ fn run_one<R: Threads + Wait + Sync, H: Shelf, O: Sink, G: Gate + Sync>(
     finish(rt, shelf, out, gate, opened, &order)
 }
 
-/// The epoch at which a run ends.
-pub(crate) fn until_of(order: &RunOrder<'_>, orders: &Orders) -> u64
-    requires order { IsLawfulOrder order.now }
+/// The epoch at which a run ends: what the words said of it, or that of the run file.
+pub(crate) fn until_of(said: Option<u64>, orders: &Orders) -> u64
+    requires said { IfSome said (λ e. e ≤ last_epoch) }
     requires epochs { orders.now.epochs ≤ last_epoch }
-    ensures value { result ≡ unwrap_or order.now.until orders.now.epochs }
+    ensures value { result ≡ unwrap_or said orders.now.epochs }
     ensures within { result ≤ last_epoch }
 {
-    order.until.unwrap_or(orders.epochs)
+    said.unwrap_or(orders.epochs)
 }
 
 // Opens a run from a state, unless it would print too much.

@@ -2,7 +2,8 @@
 
 ghost use Rattle.std.specs.Prelude.{◌≡◌, ◌↔◌, Some, None, IfSome, IfOk};
 ghost use Rattle.glass_main.specs.CheckpointBytes.{ReadsBytes};
-ghost use Rattle.command_words.specs.CommandLine.{Run, command_of, saved_name};
+ghost use Rattle.command_words.specs.CommandLine.{Run, Measure, command_of, saved_name};
+ghost use Rattle.command_words.specs.MeasureWords.{MeasureOrder, SaysMeasure};
 ghost use Rattle.glass_main.specs.Endings.{ReadsNoFile};
 ghost use Rattle.glass_main.specs.LawfulRequests.{IsLawfulWork};
 ghost use Rattle.glass_main.specs.NamedStarts.{Starts};
@@ -19,6 +20,7 @@ use crate::correlation::correlation_lines;
 use crate::demo::demo;
 use crate::ending::{Ending, status};
 use crate::lines::tell;
+use crate::measure::measure;
 use crate::plain::plain;
 use crate::potts::potts;
 use crate::refusal::Refusal;
@@ -69,6 +71,10 @@ pub fn glass<R: Threads + Wait + Sync, H: Shelf, O: Sink, E: Sink, G: Gate + Syn
     // values, in any order.
     ensures run_words { (order : RunOrder) → (command_of (texts words.now) ≡ Some (Run order))
         ↔ SaysRun (texts words.now) order }
+
+    // So are those that ask for sums over a run.
+    ensures measure_words { (order : MeasureOrder) → (command_of (texts words.now) ≡ Some (Measure order))
+        ↔ SaysMeasure (texts words.now) order }
 
     // A fault that was counted is told by the status.
     ensures faults { TellsFaults result (store H.Shelf shelf.old) (store H.Shelf shelf.new)
@@ -130,5 +136,6 @@ fn answer<R: Threads + Wait + Sync, H: Shelf, O: Sink, G: Gate + Sync>(
         Some(Command::Lines(order)) => correlation_lines(alloc, shelf, out, &order),
         Some(Command::Potts(order)) => potts(alloc, shelf, out, &order),
         Some(Command::Age(order)) => age(rt, alloc, shelf, out, &order),
+        Some(Command::Measure(order)) => measure(rt, alloc, shelf, out, gate, &order),
     }
 }

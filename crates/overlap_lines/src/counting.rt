@@ -5,7 +5,7 @@ ghost use Rattle.bit_totals.specs.Tallies.{tallied};
 ghost use Rattle.multispin_word.specs.Planes.{is_set, number};
 ghost use Rattle.overlap_lines.specs.Counted.{line_from};
 ghost use Rattle.overlap_lines.specs.Overlaps as model;
-ghost use Rattle.plane_sweep.specs.Packed.{spins_of, FitsDuo};
+ghost use Rattle.plane_sweep.specs.Packed.{spins_of, FitsDuo, FitsReplica};
 ghost use Rattle.scalar_rule.specs.Neighbours.{agree};
 ghost use Rattle.spin_model.specs.Lattice.{bond_count, half_plane, volume, IsLawfulSize};
 
@@ -13,7 +13,7 @@ use crate::shifting::{Shift, plane_on, turn_plane};
 use bit_totals::{Tally, words_of};
 use lattice_geometry::Lattice;
 use multispin_word::Planes;
-use plane_sweep::Duo;
+use plane_sweep::{Duo, Replica};
 use spin_model::GREATEST_HALF_PLANE;
 
 /// In each disorder sample the number of bonds with q q' = +1, of 3V, where q is the product of the two
@@ -24,12 +24,23 @@ pub fn agreeing_bonds(duo: &Duo, lattice: Lattice) -> Planes<20>
         (spins_of lattice b duo.now.first.planes) (spins_of lattice b duo.now.second.planes) }
     ensures within { (b : ℕ) → b < 64 → number result.words b ≤ bond_count lattice }
 {
+    agreeing_bonds_between(&duo.first, &duo.second, lattice)
+}
+
+/// What `agreeing_bonds` counts, of any two replicas.
+pub fn agreeing_bonds_between(first: &Replica, second: &Replica, lattice: Lattice) -> Planes<20>
+    requires first { FitsReplica lattice first.now }
+    requires second { FitsReplica lattice second.now }
+    ensures value { (b : ℕ) → b < 64 → number result.words b ≡ model.agreeing_bonds lattice
+        (spins_of lattice b first.now.planes) (spins_of lattice b second.now.planes) }
+    ensures within { (b : ℕ) → b < 64 → number result.words b ≤ bond_count lattice }
+{
     // A lattice has at most 64^3 sites, so no count reaches 2^20.
     let _ = lattice.sites();
     let mut tally = Tally::none();
-    add_line(&mut tally, duo, &lattice, along(0, 1));
-    add_line(&mut tally, duo, &lattice, along(1, 1));
-    add_line(&mut tally, duo, &lattice, along(2, 1));
+    add_line(&mut tally, first, second, &lattice, along(0, 1));
+    add_line(&mut tally, first, second, &lattice, along(1, 1));
+    add_line(&mut tally, first, second, &lattice, along(2, 1));
     tally.total()
 }
 
@@ -48,7 +59,7 @@ pub fn agreeing_line(duo: &Duo, lattice: Lattice, d: u32, r: u32) -> Planes<20>
     // A lattice has at most 64^3 sites, so no count reaches 2^20.
     let _ = lattice.sites();
     let mut tally = Tally::none();
-    add_line(&mut tally, duo, &lattice, along(d, r));
+    add_line(&mut tally, &duo.first, &duo.second, &lattice, along(d, r));
     tally.total()
 }
 
@@ -63,26 +74,29 @@ fn along(direction: u32, distance: u32) -> Shift
     }
 }
 
-// The pairs of sites of a slot that are so far apart.
+// The pairs of sites of two replicas that are so far apart.
 #[derive(Clone, Copy)]
 struct Pairs<'a> {
-    duo: &'a Duo,
+    first: &'a Replica,
+    second: &'a Replica,
     lattice: &'a Lattice,
     shift: Shift,
 }
 
 // Adds the sites with q q' = +1, where q' is at the site so far on.
-fn add_line(tally: &mut Tally, duo: &Duo, lattice: &Lattice, shift: Shift)
-    requires fits { FitsDuo lattice.now duo.now }
+fn add_line(tally: &mut Tally, first: &Replica, second: &Replica, lattice: &Lattice, shift: Shift)
+    requires first { FitsReplica lattice.now first.now }
+    requires second { FitsReplica lattice.now second.now }
     requires direction { shift.direction < 3 }
     requires distance { shift.distance ≤ lattice.now / 2 }
     requires room { (b : ℕ) → b < 64 → tallied tally.old.rows b + volume lattice.now + 64 < 2 ^ 20 }
     ensures { (b : ℕ) → b < 64 → tallied tally.new.rows b ≡ tallied tally.old.rows b
-        + model.agreeing_line lattice.now (spins_of lattice.now b duo.now.first.planes)
-        (spins_of lattice.now b duo.now.second.planes) shift.direction shift.distance }
+        + model.agreeing_line lattice.now (spins_of lattice.now b first.now.planes)
+        (spins_of lattice.now b second.now.planes) shift.direction shift.distance }
 {
     let pairs = Pairs {
-        duo,
+        first,
+        second,
         lattice,
         shift,
     };
@@ -93,7 +107,8 @@ fn add_line(tally: &mut Tally, duo: &Duo, lattice: &Lattice, shift: Shift)
 
 // Adds these sites plane by plane, with buffers for the overlaps in a plane.
 fn add_planes(tally: &mut Tally, pairs: &Pairs, overlaps: &mut [u64], ahead: &mut [u64])
-    requires fits { FitsDuo pairs.now.lattice.now pairs.now.duo.now }
+    requires first { FitsReplica pairs.now.lattice.now pairs.now.first.now }
+    requires second { FitsReplica pairs.now.lattice.now pairs.now.second.now }
     requires direction { pairs.now.shift.direction < 3 }
     requires distance { pairs.now.shift.distance ≤ pairs.now.lattice.now / 2 }
     requires overlaps { length overlaps.old ≡ GREATEST_HALF_PLANE }
@@ -101,8 +116,8 @@ fn add_planes(tally: &mut Tally, pairs: &Pairs, overlaps: &mut [u64], ahead: &mu
     requires room { (b : ℕ) → b < 64
         → tallied tally.old.rows b + volume pairs.now.lattice.now + 64 < 2 ^ 20 }
     ensures counted { (b : ℕ) → b < 64 → tallied tally.new.rows b ≡ tallied tally.old.rows b
-        + line_from pairs.now.lattice.now (spins_of pairs.now.lattice.now b pairs.now.duo.now.first.planes)
-        (spins_of pairs.now.lattice.now b pairs.now.duo.now.second.planes) pairs.now.shift.direction pairs.now.shift.distance
+        + line_from pairs.now.lattice.now (spins_of pairs.now.lattice.now b pairs.now.first.now.planes)
+        (spins_of pairs.now.lattice.now b pairs.now.second.now.planes) pairs.now.shift.direction pairs.now.shift.distance
         (2 * pairs.now.lattice.now * half_plane pairs.now.lattice.now) }
     ensures lawful { IsLawfulSize pairs.now.lattice.now }
 {
@@ -117,7 +132,8 @@ fn add_planes(tally: &mut Tally, pairs: &Pairs, overlaps: &mut [u64], ahead: &mu
 
 // The sites of plane q.
 fn add_plane(tally: &mut Tally, pairs: &Pairs, q: u32, overlaps: &mut [u64], ahead: &mut [u64])
-    requires fits { FitsDuo pairs.now.lattice.now pairs.now.duo.now }
+    requires first { FitsReplica pairs.now.lattice.now pairs.now.first.now }
+    requires second { FitsReplica pairs.now.lattice.now pairs.now.second.now }
     requires direction { pairs.now.shift.direction < 3 }
     requires distance { pairs.now.shift.distance ≤ pairs.now.lattice.now / 2 }
     requires plane { q < 2 * pairs.now.lattice.now }
@@ -126,25 +142,22 @@ fn add_plane(tally: &mut Tally, pairs: &Pairs, q: u32, overlaps: &mut [u64], ahe
     requires room { (b : ℕ) → b < 64
         → tallied tally.old.rows b + half_plane pairs.now.lattice.now + 64 < 2 ^ 20 }
     ensures { (b : ℕ) → b < 64 → tallied tally.new.rows b
-        + line_from pairs.now.lattice.now (spins_of pairs.now.lattice.now b pairs.now.duo.now.first.planes)
-        (spins_of pairs.now.lattice.now b pairs.now.duo.now.second.planes) pairs.now.shift.direction pairs.now.shift.distance
+        + line_from pairs.now.lattice.now (spins_of pairs.now.lattice.now b pairs.now.first.now.planes)
+        (spins_of pairs.now.lattice.now b pairs.now.second.now.planes) pairs.now.shift.direction pairs.now.shift.distance
         (q * half_plane pairs.now.lattice.now)
         ≡ tallied tally.old.rows b
-        + line_from pairs.now.lattice.now (spins_of pairs.now.lattice.now b pairs.now.duo.now.first.planes)
-        (spins_of pairs.now.lattice.now b pairs.now.duo.now.second.planes) pairs.now.shift.direction pairs.now.shift.distance
+        + line_from pairs.now.lattice.now (spins_of pairs.now.lattice.now b pairs.now.first.now.planes)
+        (spins_of pairs.now.lattice.now b pairs.now.second.now.planes) pairs.now.shift.direction pairs.now.shift.distance
         ((q + 1) * half_plane pairs.now.lattice.now) }
 {
     let size = pairs.lattice.size();
-    let duo = pairs.duo;
+    let first = pairs.first;
+    let second = pairs.second;
     let shift = pairs.shift;
     let plane = plane_on(size, q, shift);
-    find_overlaps(
-        overlaps,
-        words_of(&duo.first, plane),
-        words_of(&duo.second, plane),
-    );
+    find_overlaps(overlaps, words_of(first, plane), words_of(second, plane));
     turn_plane(ahead, overlaps, size, q, shift);
-    tally.add(words_of(&duo.first, q), words_of(&duo.second, q), ahead);
+    tally.add(words_of(first, q), words_of(second, q), ahead);
 }
 
 // The samples with q = +1 at each site of a plane.

@@ -2,7 +2,7 @@
 //! at once.
 #![tactic(auto)]
 
-pub use counting::{agreeing_bonds, agreeing_line};
+pub use counting::{agreeing_bonds, agreeing_bonds_between, agreeing_line};
 pub use printing::write_lines;
 
 mod counting;

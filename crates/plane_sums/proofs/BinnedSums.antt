@@ -126,7 +126,7 @@ terms-small e f a q first second links overlap =
 
 pub sample-small : (seen : Measured) (b k : ℕ) → AreSmall seen → b < 64 → nat_abs (signed_at (terms_of seen b) k) ≤ most_moment
 sample-small seen b k small h =
-    terms-small (signed_at seen.first_energies b) (signed_at seen.second_energies b) (signed_at seen.links b) (signed_at seen.overlaps b)
+    terms-small (signed_at seen.first_energies b) (signed_at seen.second_energies b) (signed_at seen.field.links b) (signed_at seen.field.overlaps b)
     (small.first b h) (small.second b h) (small.links b h) (small.overlaps b h) k
 
 -- a sum with a term more

@@ -4,6 +4,7 @@ pub mod Projected
 pub mod Families
 pub mod Rooms
 pub mod Correlations
+pub mod Fields
 pub mod Measured
 pub mod Bins
 pub mod Slots

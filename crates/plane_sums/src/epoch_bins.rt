@@ -57,9 +57,9 @@ impl BinSums {
         let size = lattice.size() as usize;
         let distances = size / 2 + 1;
         add_moments(&mut self.moments, seen);
-        count_classes(&mut self.classes, &seen.overlaps, lattice);
-        add_distances(&mut self.axis, &seen.axis, distances);
-        add_distances(&mut self.face, &seen.face, distances);
+        count_classes(&mut self.classes, &seen.field.overlaps, lattice);
+        add_distances(&mut self.axis, &seen.field.axis, distances);
+        add_distances(&mut self.face, &seen.field.face, distances);
         self.epochs += 1;
     }
 }

@@ -8,6 +8,7 @@ mod counts;
 mod distance_sums;
 mod epoch_bins;
 mod families;
+mod fields;
 mod measured;
 mod measuring;
 mod moments;
@@ -21,6 +22,7 @@ mod totals;
 
 pub use adding::{add_slot, runs_have_room};
 pub use epoch_bins::BinSums;
+pub use fields::{FieldRoom, FieldSums, measure_field};
 pub use measured::{Measured, measured_is_within};
 pub use measuring::{MeasuringRoom, SweptSlot};
 pub use numbers::{plane_numbers, plane_numbers_between};

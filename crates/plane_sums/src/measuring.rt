@@ -1,24 +1,15 @@
 //! What is measured of a slot behind the sweeps of an epoch.
 
-ghost use Rattle.std.specs.Prelude.{◌≡◌, ℕ, ◌*◌, ◌<◌, ◌≤◌, pos, ◌-ℤ◌};
-ghost use Rattle.measured_sums.specs.OverlapField.{link_overlap, site_overlap};
-ghost use Rattle.multispin_word.specs.Planes.{number};
-ghost use Rattle.plane_sums.specs.Correlations.{signed_at};
+ghost use Rattle.std.specs.Prelude.{◌≡◌};
 ghost use Rattle.plane_sums.specs.Measured.{IsWithin, Tells};
 ghost use Rattle.plane_sums.specs.Slots.{seen_in, IsSwept};
-ghost use Rattle.plane_sweep.specs.Packed.{spins_of, FitsDuo};
 
+use crate::fields::{FieldRoom, FieldSums, measure_field, write_excesses};
 use crate::measured::Measured;
-use crate::numbers::plane_numbers;
-use crate::overlaps::sum_planes;
-use crate::products::correlations;
-use crate::room::Planes3;
 use glass_edges::NoMemory;
-use lattice_geometry::Lattice;
 use multispin_word::Planes;
-use overlap_lines::agreeing_bonds;
 use plane_sweep::Duo;
-use scalar_rule::{Plan, excess};
+use scalar_rule::Plan;
 use std::alloc::Global;
 use std::marker::Model;
 
@@ -35,8 +26,7 @@ pub struct SweptSlot<'a> {
 /// Room in which slots are measured, one after the other, 1.7 MB. Contracts see what was measured last.
 #[derive(Drop)]
 pub struct MeasuringRoom {
-    planes: Planes3,
-    numbers: Box<[[[i16; 64]; 64]; 9], Global>,
+    field: FieldRoom,
     seen: Box<Measured, Global>,
 }
 
@@ -56,8 +46,7 @@ impl MeasuringRoom {
     /// Refuses only for lack of memory.
     pub fn none(alloc: Global) -> Result<MeasuringRoom, NoMemory> {
         Ok(MeasuringRoom {
-            planes: Planes3::none(alloc)?,
-            numbers: Box::new(alloc, [[[0i16; 64]; 64]; 9])?,
+            field: FieldRoom::none(alloc)?,
             seen: Box::new(alloc, nothing())?,
         })
     }
@@ -69,7 +58,7 @@ impl MeasuringRoom {
         ensures tells { Tells slot.now.plan.now.size self.new (seen_in slot.now) }
         ensures within { IsWithin slot.now.plan.now.size self.new }
     {
-        measure_into(&mut self.seen, slot, &mut self.planes, &mut self.numbers);
+        measure_into(&mut self.seen, slot, &mut self.field);
     }
 
     /// What was measured last.
@@ -85,53 +74,20 @@ fn nothing() -> Measured {
     Measured {
         first_energies: [0i32; 64],
         second_energies: [0i32; 64],
-        links: [0i32; 64],
-        overlaps: [0i32; 64],
-        axis: [[0i64; 64]; 33],
-        face: [[0i64; 64]; 33],
+        field: FieldSums::none(),
     }
 }
 
 // Measures a slot by the sums over its planes.
-fn measure_into(
-    seen: &mut Measured,
-    slot: &SweptSlot,
-    planes: &mut Planes3,
-    numbers: &mut [[[i16; 64]; 64]; 9],
-)
+fn measure_into(seen: &mut Measured, slot: &SweptSlot, room: &mut FieldRoom)
     requires { IsSwept slot.now }
     ensures tells { Tells slot.now.plan.now.size seen.new (seen_in slot.now) }
     ensures within { IsWithin slot.now.plan.now.size seen.new }
 {
     let lattice = slot.plan.lattice();
+    let duo = slot.duo;
     let bonds = 3 * lattice.sites();
     write_excesses(&mut seen.first_energies, slot.first, bonds);
     write_excesses(&mut seen.second_energies, slot.second, bonds);
-    write_links(&mut seen.links, slot.duo, lattice);
-    plane_numbers(slot.duo, lattice, planes, numbers);
-    sum_planes(&mut seen.overlaps, &numbers[0], lattice.size() as usize);
-    correlations(numbers, lattice, &mut seen.axis, &mut seen.face);
-}
-
-// The link sums: twice the bonds at both ends of which the replicas agree or both differ, less all bonds.
-fn write_links(out: &mut [i32; 64], duo: &Duo, lattice: Lattice)
-    requires { FitsDuo lattice duo.now }
-    ensures { (b : ℕ) → b < 64 → signed_at out.new b ≡ link_overlap lattice
-        (site_overlap (spins_of lattice b duo.now.first.planes) (spins_of lattice b duo.now.second.planes)) }
-{
-    let bonds = 3 * lattice.sites();
-    write_excesses(out, &agreeing_bonds(duo, lattice), bonds);
-}
-
-// Twice each count, less the whole.
-fn write_excesses(out: &mut [i32; 64], counts: &Planes<20>, whole: u32)
-    requires counts { (b : ℕ) → b < 64 → number counts.now.words b ≤ whole }
-    requires whole { whole ≤ 786432 }
-    ensures { (b : ℕ) → b < 64 → signed_at out.new b ≡ pos (2 * number counts.now.words b) -ℤ pos whole }
-{
-    let mut numbers = [0u32; 64];
-    counts.to_numbers(&mut numbers);
-    'samples: for b in 0..64usize {
-        out[b] = excess(numbers[b], whole);
-    }
+    measure_field(&mut seen.field, &duo.first, &duo.second, lattice, room);
 }

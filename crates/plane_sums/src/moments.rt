@@ -30,8 +30,8 @@ fn sample_terms(seen: &Measured, b: usize) -> [i128; 11]
     terms(
         seen.first_energies[b],
         seen.second_energies[b],
-        seen.links[b],
-        seen.overlaps[b],
+        seen.field.links[b],
+        seen.field.overlaps[b],
     )
 }
 

@@ -5,7 +5,7 @@ use Rattle.glass_main.proofs.Completing.{completes}
 use Rattle.glass_main.proofs.EncodedStarts.{request-starts}
 use Rattle.glass_main.proofs.LawfulRequests.{request-lawful}
 use Rattle.glass_main.proofs.ReadBytes.{done-of}
-use Rattle.command_words.proofs.SaidRuns.{command_of-run}
+use Rattle.command_words.proofs.SaidCommands.{command_of-run, command_of-measure}
 use Rattle.glass_main.proofs.top.glass.Goals as goal
 
 pub returns-clause-complete : goal.returns-clause-complete
@@ -13,6 +13,9 @@ returns-clause-complete g c = completes _ _ _ _ _ _ _ c.answer-ending.ensures.en
 
 pub returns-clause-run_words : goal.returns-clause-run_words
 returns-clause-run_words g c = command_of-run (texts c.args.words.now)
+
+pub returns-clause-measure_words : goal.returns-clause-measure_words
+returns-clause-measure_words g c = command_of-measure (texts c.args.words.now)
 
 pub returns-clause-lawful : goal.returns-clause-lawful
 returns-clause-lawful g c = λ zero.

@@ -18,7 +18,8 @@ returns c = λ b h.
     let q = c.args.q in
     let d = c.args.pairs.now.shift.direction in
     let r = c.args.pairs.now.shift.distance in
-    let duo = c.args.pairs.now.duo.now in
+    let one = c.args.pairs.now.first.now in
+    let two = c.args.pairs.now.second.now in
     let lawful = c.size-size.ensures.lawful in
     let size : c.size-size.result ≡ l = c.size-size.ensures.value in
     let own = c.words_of-3.result.now in
@@ -29,14 +30,14 @@ returns c = λ b h.
     let second = rw plane at c.words_of-2.ensures in
     let turned = rw size at c.turn_plane.ensures in
     let on : (j : ℕ) → j < half_plane l → is_set (get_or ahead j 0) b
-    ≡ agree (is_set (get_or (plane_at duo.first.planes (plane_on l q d r)).words (place_on l q d r j) 0) b) (is_set (get_or (plane_at duo.second.planes (plane_on l q d r)).words (place_on l q d r j) 0) b)
+    ≡ agree (is_set (get_or (plane_at one.planes (plane_on l q d r)).words (place_on l q d r j) 0) b) (is_set (get_or (plane_at two.planes (plane_on l q d r)).words (place_on l q d r j) 0) b)
     = λ j k.
     let p = place_on l q d r j in
     let within : Within l q j = record { lawful = lawful; plane = c.requires.plane; place = k } in
     let below : p < length c.args.overlaps.now = omega (arith, place-on-below l q d r j within, c.requires.overlaps) in
     let found = rw (first, second) at (c.find_overlaps.ensures p b below h) in
     ap (λ v. is_set v b) (turned j k) ∙ found in
-    let counted = plane-counted l q d r b duo.first.planes duo.second.planes own other ahead lawful c.requires.plane c.requires.direction c.requires.distance c.words_of-3.ensures c.words_of-4.ensures on in
-    let long : length own ≡ half_plane l = ap length c.words_of-3.ensures ∙ plane-sized l q duo.first c.requires.fits.first c.requires.plane in
+    let counted = plane-counted l q d r b one.planes two.planes own other ahead lawful c.requires.plane c.requires.direction c.requires.distance c.words_of-3.ensures c.words_of-4.ensures on in
+    let long : length own ≡ half_plane l = ap length c.words_of-3.ensures ∙ plane-sized l q one c.requires.first c.requires.plane in
     let same = ap (set_below (mixed own other ahead) b) long in
     omega (arith, c.add.ensures b h, counted, same)

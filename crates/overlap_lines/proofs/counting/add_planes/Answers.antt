@@ -14,7 +14,6 @@ planes-init c =
     let l = c.args.pairs.now.lattice.now in
     let d = c.args.pairs.now.shift.direction in
     let r = c.args.pairs.now.shift.distance in
-    let duo = c.args.pairs.now.duo.now in
     let lawful = c.size-size.ensures.lawful in
     let size : c.size-size.result ≡ l = c.size-size.ensures.value in
     let room = plane-room l lawful in
@@ -22,8 +21,8 @@ planes-init c =
       overlaps = rw size (length-take-le (half_plane l) c.args.overlaps.now (omega (arith, room, c.requires.overlaps)));
       ahead = rw size (length-take-le (half_plane l) c.args.ahead.now (omega (arith, room, c.requires.ahead)));
       counted = λ b h.
-          let f = spins_of l b duo.first.planes in
-          let s = spins_of l b duo.second.planes in
+          let f = spins_of l b c.args.pairs.now.first.now.planes in
+          let s = spins_of l b c.args.pairs.now.second.now.planes in
           let none : 0 * half_plane l ≡ 0 = zero-mul (half_plane l) in
           let start = ap (line_from l f s d r) none ∙ line-zero l f s d r in
           omega (arith, start);
@@ -33,11 +32,10 @@ pub add_plane-requires-clause-room : goal.add_plane-requires-clause-room
 add_plane-requires-clause-room c = λ b h.
     let l = c.args.pairs.now.lattice.now in
     let q = c.planes.q in
-    let duo = c.args.pairs.now.duo.now in
     let lawful = c.size-size.ensures.lawful in
     let size : c.size-size.result ≡ l = c.size-size.ensures.value in
     let most = planes-within l q lawful (omega (arith, c.planes-test.true, size)) in
-    let part = line-le l (spins_of l b duo.first.planes) (spins_of l b duo.second.planes) c.args.pairs.now.shift.direction c.args.pairs.now.shift.distance (q * half_plane l) in
+    let part = line-le l (spins_of l b c.args.pairs.now.first.now.planes) (spins_of l b c.args.pairs.now.second.now.planes) c.args.pairs.now.shift.direction c.args.pairs.now.shift.distance (q * half_plane l) in
     omega (arith, c.planes.invariant.counted b h, most, part, c.requires.room b h)
 
 pub planes-preserved : goal.planes-preserved

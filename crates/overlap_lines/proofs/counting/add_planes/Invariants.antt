@@ -11,5 +11,5 @@ invariant-planes l = record {
   overlaps : length l.overlaps ≡ half_plane l.pairs.lattice.now;
   ahead : length l.ahead ≡ half_plane l.pairs.lattice.now;
   counted : (b : ℕ) → b < 64 → tallied l.tally.rows b ≡ tallied l.fn.tally.rows b
-      + line_from l.pairs.lattice.now (spins_of l.pairs.lattice.now b l.pairs.duo.now.first.planes) (spins_of l.pairs.lattice.now b l.pairs.duo.now.second.planes) l.pairs.shift.direction l.pairs.shift.distance (l.q * half_plane l.pairs.lattice.now);
+      + line_from l.pairs.lattice.now (spins_of l.pairs.lattice.now b l.pairs.first.now.planes) (spins_of l.pairs.lattice.now b l.pairs.second.now.planes) l.pairs.shift.direction l.pairs.shift.distance (l.q * half_plane l.pairs.lattice.now);
 }

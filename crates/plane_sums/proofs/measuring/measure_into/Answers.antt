@@ -1,20 +1,14 @@
 -- What is written is what the definitions observe, number by number.
-use Rattle.std.proofs.Common.{◌≡◌, ℕ, ◌*◌, ◌<◌, ◌≤◌, List, ap, ap₂, ◌∙◌, arith}
+use Rattle.std.proofs.Common.{◌≡◌, ℕ, ◌*◌, ◌<◌, ◌≤◌, List, ap, ap₂, ◌∙◌}
 use Rattle.std.specs.Prelude.{pos, ◌-ℤ◌}
 use Rattle.spin_model.proofs.Counts.{count-most}
-use Rattle.spin_model.specs.SignedSums.{sum_of}
 use Rattle.spin_model.specs.Lattice.{volume, bond_count}
-use Rattle.measured_sums.specs.OverlapField.{site_overlap, total_overlap}
-use Rattle.measured_sums.specs.PlaneFamilies.{AlongX, plane_sum}
-use Rattle.measured_sums.proofs.Planes.{planes-add}
-use Rattle.measured_sums.proofs.SignedTerms.{terms-same}
 use Rattle.coupling_set.specs.CouplingWords.{bonds_of}
 use Rattle.multispin_word.specs.Planes.{number}
 use Rattle.scalar_rule.specs.Plan.{Plan}
 use Rattle.scalar_rule.specs.Sums.{is_unsatisfied}
 use Rattle.plane_sweep.specs.Packed.{part_slot, spins_of}
 use Rattle.plane_sweep.specs.declared.replica.Replica.{Replica}
-use Rattle.plane_sums.specs.Rooms.{number_in}
 use Rattle.plane_sums.specs.Slots.{CountBonds}
 use Rattle.plane_sums.proofs.MeasuredBounds.{measured-within}
 use Rattle.plane_sums.proofs.measuring.measure_into.Goals as goal
@@ -37,31 +31,15 @@ write_excesses-requires-2-clause-counts c =
     c.requires.second c.sites-bonds.ensures.value c.lattice-lattice.ensures.value
 
 -- all bonds
-whole : (c : goal.After-correlations) → 3 * c.sites-bonds.result ≡ bond_count c.args.slot.now.plan.now.size
+whole : (c : goal.After-measure_field) → 3 * c.sites-bonds.result ≡ bond_count c.args.slot.now.plan.now.size
 whole c = ap (λ v. 3 * v) (c.sites-bonds.ensures.value ∙ ap (λ l. volume l) c.lattice-lattice.ensures.value)
 
 pub returns-clause-tells : goal.returns-clause-tells
-returns-clause-tells c =
-    let lattice = c.lattice-lattice.result in
-    let same = c.lattice-lattice.ensures.value in
-    let lawful = c.sites-bonds.ensures.lawful in
-    let first = c.args.slot.now.duo.now.first.planes in
-    let second = c.args.slot.now.duo.now.second.planes in
-    let q = λ (b : ℕ). site_overlap (spins_of lattice b first) (spins_of lattice b second) in
-    let planes = λ (f m b : ℕ). c.plane_numbers.ensures.value f m b in
-    record {
-      first = λ b h. c.write_excesses.ensures b h ∙ ap₂ (λ n m. pos (2 * n) -ℤ pos m) (c.requires.first b h) (whole c);
-      second = λ b h. c.write_excesses-2.ensures b h ∙ ap₂ (λ n m. pos (2 * n) -ℤ pos m) (c.requires.second b h) (whole c);
-      links = λ b h. rw same at (c.write_links.ensures b h);
-      overlaps = λ b h.
-          let sum = λ (m : ℕ). number_in c.plane_numbers.new.out 0 m b in
-          c.sum_planes.ensures b h ∙ ap (sum_of sum) c.size.ensures.value
-          ∙ terms-same sum (plane_sum lattice (q b) AlongX) lattice (λ m below. planes 0 m b (omega arith) below h)
-          ∙ planes-add lattice (q b) AlongX lawful
-          ∙ ap (λ l. total_overlap l (site_overlap (spins_of l b first) (spins_of l b second))) same;
-      axis = λ r b near h. rw same at (c.correlations.ensures.axis q planes r b (rw same near) h);
-      face = λ r b near h. rw same at (c.correlations.ensures.face q planes r b (rw same near) h);
-    }
+returns-clause-tells c = record {
+  first = λ b h. c.write_excesses.ensures b h ∙ ap₂ (λ n m. pos (2 * n) -ℤ pos m) (c.requires.first b h) (whole c);
+  second = λ b h. c.write_excesses-2.ensures b h ∙ ap₂ (λ n m. pos (2 * n) -ℤ pos m) (c.requires.second b h) (whole c);
+  field = rw c.lattice-lattice.ensures.value at c.measure_field.ensures;
+}
 
 pub returns-clause-within : goal.returns-clause-within
 returns-clause-within c =

@@ -14,6 +14,6 @@ returns c =
     rw (
       to_z-of_z w32 (signed_at seen.first_energies b) (fits-32 (signed_at seen.first_energies b) (omega (arith, small.first b within))),
       to_z-of_z w32 (signed_at seen.second_energies b) (fits-32 (signed_at seen.second_energies b) (omega (arith, small.second b within))),
-      to_z-of_z w32 (signed_at seen.links b) (fits-32 (signed_at seen.links b) (omega (arith, small.links b within))),
-      to_z-of_z w32 (signed_at seen.overlaps b) (fits-32 (signed_at seen.overlaps b) (omega (arith, small.overlaps b within))),
+      to_z-of_z w32 (signed_at seen.field.links b) (fits-32 (signed_at seen.field.links b) (omega (arith, small.links b within))),
+      to_z-of_z w32 (signed_at seen.field.overlaps b) (fits-32 (signed_at seen.field.overlaps b) (omega (arith, small.overlaps b within))),
     ) at c.terms.ensures

@@ -10,7 +10,7 @@ use Rattle.scalar_rule.proofs.UnevenContents.{arrived-swept}
 use Rattle.plane_sweep.specs.Packed.{part_slot, FitsDuo}
 use Rattle.exchange_board.specs.declared.origin.Origin.{Origin}
 use Rattle.exchange_board.specs.Content.{plan_of, slots_in, starts}
-use Rattle.exchange_board.specs.Totals.{AreTotals}
+use Rattle.slot_steps.specs.Totals.{AreTotals}
 use Rattle.exchange_board.proofs.home.Home.sweep.Goals as goal
 use Rattle.exchange_board.proofs.home.Home.sweep.Goals.{then-is_recorded, else-is_recorded}
 

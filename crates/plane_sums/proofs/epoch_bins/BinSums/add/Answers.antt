@@ -31,16 +31,16 @@ returns-clause-bin c =
           (grown (moment_in old b k) (signed_at (terms_of seen b) k) n most_moment (bin.moments b k h few) (sample-small seen b k c.requires.within.moments h));
       classes = λ b k h few.
           let before = bin.classes b k h few in
-          let one = one_if-most (class_of c.args.lattice (signed_at seen.overlaps b) == k) in
+          let one = one_if-most (class_of c.args.lattice (signed_at seen.field.overlaps b) == k) in
           rw (c.count_classes.ensures b k h few) (omega (arith, before, one));
       axis = λ r b few h. elim (cases_lt r (c.args.lattice / 2 + 1)) [
         | inl near ↦ rw (c.add_distances.ensures.added r b (rw same near) h)
-            (grown (signed_at (get_or old.axis r []) b) (signed_at (get_or seen.axis r []) b) n 3221225472 (bin.axis r b few h) (c.requires.within.axis r b (omega (arith, near)) h))
+            (grown (signed_at (get_or old.axis r []) b) (signed_at (get_or seen.field.axis r []) b) n 3221225472 (bin.axis r b few h) (c.requires.within.axis r b (omega (arith, near)) h))
         | inr far ↦ rw (c.add_distances.ensures.others r (rw same far)) (kept (signed_at (get_or old.axis r []) b) n 3221225472 (bin.axis r b few h))
       ];
       face = λ r b few h. elim (cases_lt r (c.args.lattice / 2 + 1)) [
         | inl near ↦ rw (c.add_distances-2.ensures.added r b (rw same near) h)
-            (grown (signed_at (get_or old.face r []) b) (signed_at (get_or seen.face r []) b) n 6442450944 (bin.face r b few h) (c.requires.within.face r b (omega (arith, near)) h))
+            (grown (signed_at (get_or old.face r []) b) (signed_at (get_or seen.field.face r []) b) n 6442450944 (bin.face r b few h) (c.requires.within.face r b (omega (arith, near)) h))
         | inr far ↦ rw (c.add_distances-2.ensures.others r (rw same far)) (kept (signed_at (get_or old.face r []) b) n 6442450944 (bin.face r b few h))
       ];
     }

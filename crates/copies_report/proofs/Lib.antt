@@ -1,0 +1,2 @@
+pub mod FourCopies
+pub mod Printed
