@@ -11,7 +11,8 @@ use Rattle.command_words.specs.Words.{given, number_word, word_at, file_word, na
 use Rattle.command_words.specs.RunWords.{RunOrder, Workers, Pieces, Until, From, Save, StopAfter, words_of, names_in, values_in, SaysRun}
 use Rattle.command_words.specs.RunReading.{RunWords, nothing_said, with_word, said_by, is_kept, order_in, run_order}
 use Rattle.command_words.specs.PottsWords.{potts_order}
-use Rattle.command_words.specs.CommandLine.{Command, Plain, Check, Run, Average, Demo, Lines, Potts, Age, plain_order, check_name, average_order, demo_number, lines_order, age_order, command_of}
+use Rattle.command_words.specs.CrossWords.{cross_order}
+use Rattle.command_words.specs.CommandLine.{Command, Plain, Check, Run, Average, Demo, Lines, Potts, Age, Cross, plain_order, check_name, average_order, demo_number, lines_order, age_order, command_of}
 use Rattle.command_words.proofs.SaidOnce.{map-some, given-some, if-some, Adds, said-once, may-be-said, once-adds, may-adds, one-name, by-test}
 use Rattle.command_words.proofs.SaidItems.{split-words, read-items}
 
@@ -136,6 +137,7 @@ run_in (Some (Demo n)) = None
 run_in (Some (Lines order)) = None
 run_in (Some (Potts order)) = None
 run_in (Some (Age order)) = None
+run_in (Some (Cross order)) = None
 
 -- what another command makes of its words is no run
 other : {A : Type 0} (make : A → Command) (asked : Option A) (command : Option Command) (order : RunOrder)
@@ -162,8 +164,9 @@ run-command words order h =
     by-test (bytes_eq name (codes "lines")) (λ t. absurd (other Lines (lines_order words) (command_of words) order (λ x. refl) (rw (a, b, c, d, e, t) refl) h)) (λ f.
     by-test (bytes_eq name (codes "potts")) (λ t. absurd (other Potts (potts_order words) (command_of words) order (λ x. refl) (rw (a, b, c, d, e, f, t) refl) h)) (λ g.
     by-test (bytes_eq name (codes "age")) (λ t. absurd (other Age (age_order words) (command_of words) order (λ x. refl) (rw (a, b, c, d, e, f, g, t) refl) h)) (λ k.
-    let none : command_of words ≡ None = rw (a, b, c, d, e, f, g, k) refl in
-    absurd (none-some (Run order) (sym none ∙ h))))))))))
+    by-test (bytes_eq name (codes "cross")) (λ t. absurd (other Cross (cross_order words) (command_of words) order (λ x. refl) (rw (a, b, c, d, e, f, g, k, t) refl) h)) (λ m.
+    let none : command_of words ≡ None = rw (a, b, c, d, e, f, g, k, m) refl in
+    absurd (none-some (Run order) (sym none ∙ h)))))))))))
 
 command-run : (words : List (List ℕ)) (order : RunOrder) → SaysRun words order → command_of words ≡ Some (Run order)
 unfolding command_of

@@ -3,7 +3,9 @@ pub mod PottsWords
 pub mod AgeWords
 pub mod RunWords
 pub mod RunReading
+pub mod CrossWords
 pub mod CommandLine
 pub mod ReadPotts
 pub mod ReadAge
+pub mod ReadCross
 pub mod ReadCommand

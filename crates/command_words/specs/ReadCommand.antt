@@ -7,11 +7,12 @@ use Rattle.command_words.specs.RunWords as run_words
 use Rattle.command_words.specs.RunReading as run_reading
 use Rattle.command_words.specs.ReadPotts.{read_potts_order, IsLawfulPotts}
 use Rattle.command_words.specs.ReadAge.{read_age_order, IsLawfulAge}
+use Rattle.command_words.specs.ReadCross.{read_cross_order, IsLawfulCross}
 use Rattle.command_words.specs.declared.average_words.AverageOrder.{AverageOrder}
 use Rattle.command_words.specs.declared.correlation_words.LinesOrder.{LinesOrder}
 use Rattle.command_words.specs.declared.command_line.PlainOrder.{PlainOrder}
 use Rattle.command_words.specs.declared.command_line.Command.{Command}
-use Rattle.command_words.specs.declared.command_line.Command.TheVariants.{Plain, Check, Run, Average, Demo, Lines, Potts, Age}
+use Rattle.command_words.specs.declared.command_line.Command.TheVariants.{Plain, Check, Run, Average, Demo, Lines, Potts, Age, Cross}
 use Rattle.command_words.specs.declared.run_words.RunOrder.{RunOrder}
 use Rattle.command_words.specs.declared.run_words.RunWords.{RunWords}
 
@@ -53,6 +54,7 @@ read_command (Demo n) = model.Demo n
 read_command (Lines order) = model.Lines (read_lines_order order)
 read_command (Potts order) = model.Potts (read_potts_order order)
 read_command (Age order) = model.Age (read_age_order order)
+read_command (Cross order) = model.Cross (read_cross_order order)
 
 -- what the words of `run` have said
 abbrev pub read_said : RunWords → run_reading.RunWords
@@ -98,3 +100,4 @@ IsLawfulCommand (Demo n) = n ≤ greatest_demo
 IsLawfulCommand (Lines order) = Unit {0}
 IsLawfulCommand (Potts order) = IsLawfulPotts order
 IsLawfulCommand (Age order) = IsLawfulAge order
+IsLawfulCommand (Cross order) = IsLawfulCross order

@@ -10,6 +10,7 @@ ghost use Rattle.command_words.specs.Words.{texts, size_word};
 use crate::age_words::{AgeOrder, read_age};
 use crate::average_words::{AverageOrder, read_average};
 use crate::correlation_words::{LinesOrder, read_lines};
+use crate::cross_words::{CrossOrder, read_cross};
 use crate::potts_words::{PottsOrder, read_potts};
 use crate::run_words::{RunOrder, read_run};
 use crate::words::{name_word, number_word, word_at};
@@ -45,6 +46,8 @@ pub enum Command<'a> {
     Potts(PottsOrder),
     /// An aging run.
     Age(AgeOrder<'a>),
+    /// Overlaps of the copies of two saved states.
+    Cross(CrossOrder<'a>),
 }
 
 /// Reads the words. It takes no memory.
@@ -77,6 +80,9 @@ pub fn read_words(words: &[String]) -> Option<Command<'_>>
     }
     if name == "age" {
         return Some(Command::Age(read_age(words)?));
+    }
+    if name == "cross" {
+        return Some(Command::Cross(read_cross(words)?));
     }
     None
 }
