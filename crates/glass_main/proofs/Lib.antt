@@ -15,6 +15,7 @@ pub mod ReadStops
 pub mod ReadRuns
 pub mod BanksGoOn
 pub mod SavedStates
+pub mod CrossedStates
 pub mod Reports
 pub mod BankedFiles
 pub mod BankPlans

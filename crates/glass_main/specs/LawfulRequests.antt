@@ -1,5 +1,6 @@
 -- What holds of what is asked for, where nothing refuses it: what the laws on runs that go on from one another ask for.
-use Rattle.std.specs.Prelude.{◌≡◌, ℕ, ◌≤◌, List, length, None}
+use Rattle.std.specs.Prelude.{◌≡◌, ℕ, ◌≤◌, List, All, length, None}
+use Rattle.run_checkpoint.specs.BankEncoding.{HaveOneShape}
 use Rattle.run_plan.specs.Amounts.{amount_refusal}
 use Rattle.run_plan.specs.RunFile.{AreLawfulOrders, AreOrdersOfBanks}
 use Rattle.scalar_rule.specs.Plan.{IsLawfulPlan}
@@ -7,7 +8,7 @@ use Rattle.scalar_rule.specs.declared.sample.Sample.{Sample}
 use Rattle.spin_model.specs.Limits.{last_epoch}
 use Rattle.glass_main.specs.Beginnings.{Beginning, begins_at}
 use Rattle.glass_main.specs.ManyBanks.{PlannedBanks, bank_count, starts_at, banks_amount_refusal}
-use Rattle.glass_main.specs.Request.{Work, PlainWork, CheckWork, RunWork, BanksWork, AverageWork, DemoWork, LinesWork, PottsWork, AgeWork}
+use Rattle.glass_main.specs.Request.{Work, PlainWork, CheckWork, RunWork, BanksWork, AverageWork, DemoWork, LinesWork, PottsWork, AgeWork, CrossWork}
 use Rattle.glass_main.specs.ResumeLaws.{AreBankPlans, AreBeginnings}
 use Rattle.glass_main.specs.StopLaws.{IsBeginning, reached_by}
 use Rattle.glass_main.specs.declared.planned.Planned.{Planned}
@@ -31,6 +32,13 @@ pub record AreLawfulBanks (planned : PlannedBanks) : Type 0 where
 abbrev pub AreLawfulPlans : Plans → Type 0
 AreLawfulPlans (One planned) = IsLawfulPlanned planned
 AreLawfulPlans (Banks planned) = AreLawfulBanks planned
+
+-- the plans of two saved states, of 1 to 4 banks
+pub record AreLawfulOfStates (planned : PlannedBanks) : Type 0 where
+  pub plans : All IsLawfulPlan planned.plans
+  pub shape : HaveOneShape planned.plans
+  pub count : length planned.plans ≡ bank_count planned.orders.samples
+  pub orders : AreOrdersOfBanks planned.orders
 
 -- ---- runs
 
@@ -64,3 +72,4 @@ IsLawfulWork (DemoWork n) = Unit {0}
 IsLawfulWork (LinesWork saved) = IsLawfulPlanned saved.planned
 IsLawfulWork (PottsWork order) = Unit {0}
 IsLawfulWork (AgeWork planned wait times) = IsLawfulPlanned planned
+IsLawfulWork (CrossWork crossed) = AreLawfulOfStates crossed.planned

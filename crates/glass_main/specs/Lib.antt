@@ -3,6 +3,7 @@ pub mod Texts
 pub mod PottsRun
 pub mod AgeRun
 pub mod ManyBanks
+pub mod CrossRun
 pub mod Beginnings
 pub mod Stops
 pub mod Outside
@@ -21,5 +22,6 @@ pub mod NamedStarts
 pub mod KeptPlans
 pub mod Gathers
 pub mod BankTables
+pub mod CrossedPlans
 pub mod Resumes
 pub mod Opened
