@@ -18,6 +18,7 @@ use glass_edges::{Fault, NoMemory, Shelf, Sink};
 use report_text::kind_word;
 use scalar_rule::Plan;
 use std::alloc::Global;
+use std::sync::Arc;
 
 /// Reads the run file and both checkpoints of an order, and prints the overlaps.
 pub(crate) fn cross<H: Shelf, O: Sink>(
@@ -62,7 +63,8 @@ fn put_copies<O: Sink>(out: &mut O, crossed: &Crossed, room: &mut CopiesRoom) ->
     requires room { HasRoomFor (crossed_of crossed.now) room.old }
     ensures { Writes O.Sink out.old out.new (crossed_text (crossed_of crossed.now)) result }
 {
-    let plan: &Plan = &crossed.plans[0];
+    let plans: &[Arc<Plan, Global>] = &crossed.plans;
+    let plan: &Plan = &plans[0];
     let head = CopiesHead {
         lattice: plan.lattice(),
         slots: plan.slots(),

@@ -11,6 +11,7 @@ ghost use Rattle.glass_main.specs.Gathers.{Gathers, Fetches};
 ghost use Rattle.glass_main.specs.Outside.{store};
 ghost use Rattle.glass_main.specs.Request as model;
 ghost use Rattle.glass_main.specs.Statuses.{IfRefused};
+ghost use Rattle.glass_main.specs.declared.role.Role.{Role};
 
 use crate::bank_gathering::gather_stored;
 use crate::bank_tables::plans_of;
