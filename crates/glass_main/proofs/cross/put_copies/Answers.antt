@@ -74,7 +74,7 @@ write_copies-requires-clause-second g c =
     let plans = map arc_value c.args.crossed.now.plans.items in
     let seed = c.args.crossed.now.seed in
     let shape = kept.are.shape in
-    let few = omega (arith, kept.are.samples, seeded-length seed plans) in
+    let few : c.args.crossed.now.orders.samples ≤ 64 * length (seeded seed plans) = omega (arith, kept.are.samples, seeded-length seed plans) in
     subst (AreStates _) (sym c.as_slice-second.ensures)
     (kept-states _ shape.size shape.slots (seeded seed plans) c.args.crossed.now.second (shape-is g at).0 (shape-is g at).1
     (seeded-shape seed shape.size shape.slots plans shape.shape) kept.second few)
