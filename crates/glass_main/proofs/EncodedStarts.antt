@@ -163,7 +163,7 @@ second-starts order files crossed small bytes is =
     let plans = seeded crossed.seed crossed.planned.plans in
     let named = second-bytes plans order.second files crossed.second bytes found.second in
     let lawful = crossed-lawful order.run files crossed.planned found.plans in
-    let some = omega (arith, some-plans crossed.planned lawful, seeded-length crossed.seed crossed.planned.plans) in (
+    let some : 1 ≤ length plans = omega (arith, some-plans crossed.planned lawful, seeded-length crossed.seed crossed.planned.plans) in (
       named.0,
       named.1,
       states-encoded plans named.0 crossed.second some

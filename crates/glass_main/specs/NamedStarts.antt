@@ -43,8 +43,8 @@ StartsAnew (AgeWork planned wait times) = Unit {0}
 StartsAnew (MeasureWork planned starts until) = starts ≡ banks_opened_by planned
 StartsAnew (CrossWork crossed) = ⊥
 
--- the bytes of the named one are the encoding of what a run goes on from, or `lines` prints of, or of the first state of `cross`, which is in time; no other
--- work is asked for then
+-- the bytes of the named one are the encoding of what a run goes on from, or `lines` prints of, or of the first state of `cross`, which is
+-- in time; no other work is asked for then
 abbrev pub StartsWith : List ℕ → Work → Type 0
 StartsWith bytes (PlainWork order) = ⊥
 StartsWith bytes (CheckWork plans) = ⊥
