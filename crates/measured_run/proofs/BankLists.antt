@@ -1,8 +1,7 @@
 -- Banks of a run one by one.
 use Rattle.std.specs.Prelude.{All}
-use Rattle.std.proofs.Common.{◌≡◌, ℕ, zero, suc, ◌+◌, ◌*◌, ◌<◌, ◌≤◌, List, [], ◌∷◌, ◌++◌, length, map, drop, get_or, ap, ap₂, refl, sym, ◌∙◌, arith, add-one}
+use Rattle.std.proofs.Common.{◌≡◌, ℕ, zero, suc, ◌+◌, ◌<◌, List, [], ◌∷◌, ◌++◌, length, drop, get_or, ap, ap₂, refl, sym, ◌∙◌, arith, add-one}
 use Rattle.std.proofs.Math.Seq.{drop-cons}
-use Rattle.std.proofs.lemmas.List.{length-map}
 use Rattle.std.proofs.lemmas.List.Elements.{All-head, All-tail}
 use Rattle.scalar_rule.specs.Plan.{Plan, slots_of}
 use Rattle.scalar_rule.specs.Serial.{serial}
@@ -12,7 +11,7 @@ use Rattle.plane_sweep.specs.declared.stand.Stand.{Stand}
 use Rattle.plane_sums.specs.Bins.{SumsView}
 use Rattle.run_checkpoint.specs.BankEncoding.{HaveShape, BanksFit, BanksStand, AreBanks}
 use Rattle.run_checkpoint.specs.Encoding.{flattened, AreBankStates}
-use Rattle.measured_run.specs.Banks.{BankView, start_of, plans_in, bases_in}
+use Rattle.measured_run.specs.Banks.{BankView, plans_in, bases_in}
 use Rattle.measured_run.specs.Ends.{HasEnded, HoldsSlots, HoldBanks}
 use Rattle.measured_run.specs.Runs.{states_at}
 use Rattle.measured_run.proofs.Epochs.{start-epoch}

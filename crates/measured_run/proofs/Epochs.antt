@@ -1,8 +1,8 @@
 -- A bank an epoch on: in each sample its state is the serial dynamics', and its sums have the epoch.
 use Rattle.std.specs.Prelude.{All}
-use Rattle.std.proofs.Common.{◌≡◌, ℕ, suc, ◌+◌, ◌-◌, ◌%◌, ◌<◌, ◌≤◌, true, ◌&&◌, ◌==◌, List, [], length, get_or, ap, ap₂, refl, sym, subst, ◌∙◌, arith}
+use Rattle.std.proofs.Common.{◌≡◌, ℕ, suc, ◌+◌, ◌-◌, ◌%◌, ◌<◌, ◌≤◌, true, List, [], length, get_or, ap, ap₂, refl, sym, subst, ◌∙◌, arith}
 use Rattle.std.proofs.lemmas.Bool.{eq-eqb}
-use Rattle.std.proofs.lemmas.List.{get_or-map, length-map}
+use Rattle.std.proofs.lemmas.List.{get_or-map}
 use Rattle.std.proofs.lemmas.List.Elements.{All-get_or, All-from_get_or}
 use Rattle.spin_model.specs.Limits.{last_epoch}
 use Rattle.spin_model.specs.Steps.{steps, table, count_below}
@@ -10,7 +10,6 @@ use Rattle.spin_model.specs.Words.{one_if}
 use Rattle.spin_model.proofs.Tables.{length-table, table-of_items, count_below-more}
 use Rattle.scalar_rule.specs.Plan.{Plan, slots_of, pairs_of}
 use Rattle.scalar_rule.specs.Epoch.{epoch, exchanged, swept_slot, swept_slots, slot_at}
-use Rattle.scalar_rule.specs.Records.{is_recorded}
 use Rattle.scalar_rule.specs.Serial.{serial}
 use Rattle.scalar_rule.specs.declared.sample.PlainSlot.{PlainSlot}
 use Rattle.scalar_rule.specs.declared.sample.PlainPair.{PlainPair}
@@ -19,11 +18,10 @@ use Rattle.plane_sweep.specs.Packed.{part, part_slot, FitsDuo}
 use Rattle.plane_sweep.specs.declared.stand.PairWheels.{PairWheels}
 use Rattle.plane_sweep.specs.declared.stand.Stand.{Stand}
 use Rattle.measured_sums.specs.EpochBins.{bin_of}
-use Rattle.measured_sums.specs.MeasuredSums.{Observed, Quantity, observed, observed_in, is_measured, epochs_in_bin}
+use Rattle.measured_sums.specs.MeasuredSums.{observed, observed_in, is_measured}
 use Rattle.measured_sums.specs.RunningSums.{behind_epoch, sums_below}
 use Rattle.measured_sums.proofs.BinRange.{bins-between}
 use Rattle.measured_sums.proofs.Growth.{sums-grow}
-use Rattle.plane_sums.specs.Bins.{SumsView, bin_at}
 use Rattle.plane_sums.specs.Slots.{HaveSums}
 use Rattle.plane_sums.proofs.SlotGrowth.{runs-have-room}
 use Rattle.measured_run.specs.Banks.{start_of}

@@ -1,15 +1,15 @@
 -- A bank at the state from which it starts: the samples are those of the state, and nothing is summed up.
 use Rattle.std.specs.Prelude.{All}
-use Rattle.std.proofs.Common.{◌≡◌, ℕ, ◌+◌, ◌-◌, ◌<◌, ◌≤◌, pos, List, [], ◌∷◌, length, map, get_or, ap, refl, sym, subst, ◌∙◌, arith}
+use Rattle.std.proofs.Common.{◌≡◌, ℕ, ◌-◌, pos, List, [], ◌∷◌, length, map, get_or, ap, refl, sym, subst, ◌∙◌, arith}
 use Rattle.std.proofs.lemmas.List.{get_or-map, length-map}
 use Rattle.std.proofs.lemmas.List.Elements.{All-get_or, All-from_get_or}
 use Rattle.spin_model.specs.Steps.{steps}
-use Rattle.scalar_rule.specs.Plan.{Plan, slots_of}
+use Rattle.scalar_rule.specs.Plan.{Plan}
 use Rattle.scalar_rule.specs.Epoch.{epoch}
 use Rattle.scalar_rule.specs.Serial.{serial}
 use Rattle.scalar_rule.specs.declared.sample.PlainSlot.{PlainSlot}
 use Rattle.scalar_rule.specs.declared.sample.Sample.{Sample}
-use Rattle.plane_sweep.specs.Packed.{part, part_slot, part_pair, FitsDuo, StandFits}
+use Rattle.plane_sweep.specs.Packed.{part, part_slot, FitsDuo, StandFits}
 use Rattle.plane_sweep.specs.declared.replica.Duo.{Duo}
 use Rattle.plane_sweep.specs.declared.stand.PairWheels.{PairWheels}
 use Rattle.plane_sweep.specs.declared.stand.Stand.{Stand}

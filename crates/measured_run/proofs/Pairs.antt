@@ -1,20 +1,18 @@
 -- The exchange of a pair writes two neighbouring slots of a bank.
-use Rattle.std.specs.Prelude.{All}
-use Rattle.std.proofs.Common.{◌≡◌, ◌≢◌, ℕ, inl, inr, ◌+◌, ◌<◌, ◌≤◌, true, false, List, length, map, get_or, set, ap, refl, sym, subst, ◌∙◌, arith}
+use Rattle.std.proofs.Common.{◌≡◌, ◌≢◌, ℕ, inl, inr, ◌+◌, ◌<◌, true, List, length, map, get_or, set, ap, refl, sym, subst, ◌∙◌, arith}
 use Rattle.std.proofs.lemmas.Bool.{cases_eq, cases_Bool}
-use Rattle.std.proofs.lemmas.List.{map-set, get_or-map, get_or_default, get_or-set_other, length-map, length-set}
-use Rattle.std.proofs.lemmas.List.Elements.{All-set}
+use Rattle.std.proofs.lemmas.List.{map-set, get_or-map, get_or-set_other, length-map, length-set}
 use Rattle.std.proofs.Math.Seq.{map-set_same}
-use Rattle.scalar_rule.specs.Plan.{Plan, pairs_of}
+use Rattle.scalar_rule.specs.Plan.{Plan}
 use Rattle.scalar_rule.specs.Epoch.{slot_at, pair_at, has_turn}
 use Rattle.scalar_rule.specs.Exchange.{cold_side, hot_side, drawn_pair}
 use Rattle.scalar_rule.specs.Turns.{exchanged_pair, after_turn, drawn_in_turn}
 use Rattle.scalar_rule.specs.declared.sample.PlainPair.{PlainPair}
 use Rattle.scalar_rule.proofs.PairTurns.{turn-next}
-use Rattle.plane_sweep.specs.Packed.{part_slot, part_pair, ArePairGenerators}
+use Rattle.plane_sweep.specs.Packed.{part_slot, part_pair}
 use Rattle.plane_sweep.specs.declared.stand.PairWheels.{PairWheels}
 use Rattle.slot_steps.specs.Totals.{AreTotals}
-use Rattle.measured_run.specs.Cells.{slots_in, pairs_in, sums_in, FitCells, AreCounted, IsAfterTurn}
+use Rattle.measured_run.specs.Cells.{slots_in, pairs_in, sums_in, AreCounted}
 use Rattle.measured_run.specs.declared.cell.Cell.{Cell}
 
 both-set : {A B : Type 0} (f : A → B) (xs : List A) (k : ℕ) (v w : A) → map f (set (set xs k v) (k + 1) w) ≡ set (set (map f xs) k (f v)) (k + 1) (f w)

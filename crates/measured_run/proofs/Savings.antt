@@ -1,10 +1,10 @@
 -- The checkpoint of banks at their end.
 use Rattle.std.specs.Prelude.{All, flat_map, OnOk, Result, Ok, Err}
-use Rattle.std.proofs.Common.{◌≡◌, ℕ, ◌+◌, ◌*◌, ◌<◌, ◌≤◌, List, [], ◌∷◌, ◌++◌, length, drop, get_or, append_assoc, append-nil, ap, ap₂, refl, sym, subst, ◌∙◌, arith}
+use Rattle.std.proofs.Common.{◌≡◌, ℕ, ◌+◌, ◌*◌, ◌<◌, ◌≤◌, List, [], ◌∷◌, ◌++◌, length, drop, get_or, append_assoc, append-nil, ap, ap₂, refl, sym, ◌∙◌, arith}
 use Rattle.std.proofs.lemmas.List.{length-map, drop_all}
 use Rattle.std.proofs.lemmas.List.Elements.{All-head, All-tail}
 use native.Mathlib.Nat.{mul-suc, mul-zero}
-use Rattle.scalar_rule.specs.Plan.{Plan, slots_of}
+use Rattle.scalar_rule.specs.Plan.{slots_of}
 use Rattle.scalar_rule.specs.Serial.{serial}
 use Rattle.scalar_rule.specs.declared.sample.Sample.{Sample}
 use Rattle.run_checkpoint.specs.BankEncoding.{banks_header, banks_bytes, banks_encoding, bank_len, HaveShape, BanksStand}

@@ -1,5 +1,5 @@
 -- The slots of a bank, from the sweeps of an epoch to its exchange.
-use Rattle.std.specs.Prelude.{◌≡◌, ℕ, ◌+◌, ◌-◌, ◌<◌, ◌≤◌, true, if◌then◌else◌, List, map, length, slice_index_or, All}
+use Rattle.std.specs.Prelude.{◌≡◌, ℕ, ◌+◌, ◌<◌, ◌≤◌, true, if◌then◌else◌, List, map, length, slice_index_or, All}
 use Rattle.spin_model.specs.Limits.{last_epoch}
 use Rattle.spin_model.specs.Steps.{table}
 use Rattle.scalar_rule.specs.Plan.{Plan, slots_of, pairs_of}

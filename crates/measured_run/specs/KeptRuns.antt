@@ -1,5 +1,5 @@
 -- What a run keeps, before and after it is driven.
-use Rattle.std.specs.Prelude.{◌≡◌, ℕ, ◌+◌, ◌*◌, ◌<◌, ◌≤◌, is_some, Option, IfSome, List, [], ◌∷◌, ◌++◌, length, All, flat_map, vec_capacity}
+use Rattle.std.specs.Prelude.{◌≡◌, ℕ, ◌+◌, ◌<◌, ◌≤◌, is_some, Option, IfSome, List, [], ◌∷◌, ◌++◌, length, All, flat_map, vec_capacity}
 use Rattle.spin_model.specs.Limits.{last_epoch}
 use Rattle.scalar_rule.specs.Plan.{Plan, slots_of}
 use Rattle.scalar_rule.specs.Serial.{serial}

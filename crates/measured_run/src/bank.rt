@@ -8,7 +8,7 @@ ghost use Rattle.scalar_rule.specs.Plan.{pairs_of, slots_of};
 use crate::cell::Cell;
 use crate::exchanging::exchange_pairs;
 use crate::step::Step;
-use crate::sweeping::sweep_part;
+use crate::workers::sweep_all;
 use glass_edges::Gate;
 use plain_list::Items;
 use plane_sums::MeasuringRoom;
@@ -17,7 +17,7 @@ use scalar_rule::Plan;
 use std::alloc::Global;
 use std::marker::Model;
 use std::snapshot::Snapshot;
-use std::sync::Arc;
+use std::sync::{Arc, Wait};
 use std::thread::Threads;
 
 /// The slots of a bank at an epoch. Contracts see what it was opened with, and how far it is.
@@ -55,13 +55,14 @@ impl Bank {
 
     /// Takes a bank an epoch on: the sweeps of each slot, what is measured of it behind them, and the exchange.
     /// Takes no memory.
-    pub(crate) fn advance<R: Threads + Sync, G: Gate>(
+    pub(crate) fn advance<R: Threads + Wait + Sync, G: Gate + Sync>(
         &mut self,
         rt: &R,
         gate: &G,
-        room: &mut MeasuringRoom,
+        rooms: &mut [MeasuringRoom],
         pieces: u32,
     )
+        requires rooms { 0 < length rooms.old }
         requires left { self.old.epoch < self.old.bank.until }
         requires some_pieces { 1 ≤ pieces }
         requires few_pieces { pieces ≤ 16 }
@@ -79,27 +80,28 @@ impl Bank {
             &step,
             self.cells.as_mut_slice(),
             self.pairs.as_mut_slice(),
-            room,
+            rooms,
         );
         self.epoch += 1;
     }
 }
 
 // The sweeps of all slots, and the exchange.
-fn run_epoch<R: Threads + Sync, G: Gate>(
+fn run_epoch<R: Threads + Wait + Sync, G: Gate + Sync>(
     rt: &R,
     gate: &G,
     step: &Step,
     cells: &mut [Cell],
     pairs: &mut [PairWheels],
-    room: &mut MeasuringRoom,
+    rooms: &mut [MeasuringRoom],
 )
+    requires rooms { 0 < length rooms.old }
     requires cells { length cells.old ≡ slots_of step.now.plan.now }
     requires pairs { length pairs.old ≡ pairs_of step.now.plan.now }
     requires can { All (CanSweep step.now.plan.now step.now.epoch) cells.old }
     requires wheels { All ArePairGenerators pairs.old }
     ensures { RunsEpoch step.now.plan.now step.now.every step.now.epoch pairs.old pairs.new cells.old cells.new }
 {
-    sweep_part(rt, gate, step, 0, cells, room);
+    sweep_all(rt, gate, step, 0, cells, rooms);
     exchange_pairs(cells, pairs, step.plan, step.epoch);
 }

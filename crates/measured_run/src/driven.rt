@@ -1,6 +1,6 @@
 //! A bank before its first epoch, and behind its last.
 
-ghost use Rattle.std.specs.Prelude.{◌≡◌, ◌≤◌, [], length, vec_capacity};
+ghost use Rattle.std.specs.Prelude.{◌≡◌, ◌<◌, ◌≤◌, [], length, vec_capacity};
 ghost use Rattle.measured_run.specs.Banks.{BankView};
 ghost use Rattle.measured_run.specs.Cells.{sums_in};
 ghost use Rattle.measured_run.specs.Ends.{HasEnded, HasEndRoom, HoldsSlots, IsEnd};
@@ -17,7 +17,7 @@ use scalar_rule::Plan;
 use std::alloc::Global;
 use std::marker::Model;
 use std::snapshot::Snapshot;
-use std::sync::Arc;
+use std::sync::{Arc, Wait};
 use std::thread::Threads;
 
 /// A bank that is open. Contracts see what it was opened with.
@@ -81,13 +81,14 @@ impl BankDone {
 impl BankRun {
     /// Drives a bank to its last epoch, and takes it apart: into its state, and into what was summed up of its
     /// slots. Takes no memory.
-    pub(crate) fn drive<R: Threads + Sync, G: Gate>(
+    pub(crate) fn drive<R: Threads + Wait + Sync, G: Gate + Sync>(
         self,
         rt: &R,
         gate: &G,
-        room: &mut MeasuringRoom,
+        rooms: &mut [MeasuringRoom],
         pieces: u32,
     ) -> (BankDone, Items<SlotSums>)
+        requires rooms { 0 < length rooms.old }
         requires some_pieces { 1 ≤ pieces }
         requires few_pieces { pieces ≤ 16 }
         ensures bank { result.0 ≡ self }
@@ -98,26 +99,27 @@ impl BankRun {
             mut bank,
             room: at_end,
         } = self;
-        drive_on(rt, gate, &mut bank, room, pieces);
+        drive_on(rt, gate, &mut bank, rooms, pieces);
         take_apart(bank, at_end)
     }
 }
 
 // Takes a bank to its last epoch.
-fn drive_on<R: Threads + Sync, G: Gate>(
+fn drive_on<R: Threads + Wait + Sync, G: Gate + Sync>(
     rt: &R,
     gate: &G,
     bank: &mut Bank,
-    room: &mut MeasuringRoom,
+    rooms: &mut [MeasuringRoom],
     pieces: u32,
 )
+    requires rooms { 0 < length rooms.old }
     requires some_pieces { 1 ≤ pieces }
     requires few_pieces { pieces ≤ 16 }
     ensures { bank.new ≡ record { bank = bank.old.bank; epoch = bank.old.bank.until } }
 {
     let left = bank.left();
     'epochs: for k in 0..left {
-        bank.advance(rt, gate, room, pieces);
+        bank.advance(rt, gate, rooms, pieces);
     }
 }
 

@@ -17,9 +17,9 @@ use std::sync::Wait;
 use std::thread::Threads;
 
 /// Drives a run to its end, one bank after the other and epoch by epoch: the sweeps of each slot, behind which
-/// it is measured in the measured epochs, and the exchange of the pairs that have their turn. The planes of a
-/// sweep are cut into at most 1 to 16 pieces. The hook is called for each slot of each bank before its sweeps.
-/// Takes no memory.
+/// it is measured in the measured epochs, and the exchange of the pairs that have their turn. The workers share
+/// the slots of an epoch. The planes of a sweep are cut into at most 1 to 16 pieces. The hook is called for each
+/// slot of each bank before its sweeps, by the worker that sweeps it. Takes no memory.
 pub fn drive<R: Threads + Wait + Sync, G: Gate + Sync>(
     rt: &R,
     run: Run,
@@ -41,7 +41,7 @@ pub fn drive<R: Threads + Wait + Sync, G: Gate + Sync>(
         saving,
         course,
     } = run;
-    let (banks, sums) = drive_each(rt, gate, banks, (ended, sums), &mut rooms[0], pieces);
+    let (banks, sums) = drive_each(rt, gate, banks, (ended, sums), &mut rooms, pieces);
     Done {
         banks,
         sums,
@@ -56,9 +56,10 @@ fn drive_each<R: Threads + Wait + Sync, G: Gate + Sync>(
     gate: &G,
     runs: Vec<BankRun>,
     lists: (Vec<BankDone>, Vec<Items<SlotSums>>),
-    room: &mut MeasuringRoom,
+    rooms: &mut [MeasuringRoom],
     pieces: u32,
 ) -> (Vec<BankDone>, Vec<Items<SlotSums>>)
+    requires rooms { 0 < length rooms.old }
     requires ended { lists.0.items ≡ [] }
     requires sums { lists.1.items ≡ [] }
     requires ended_room { length runs.items ≤ vec_capacity lists.0 }
@@ -71,7 +72,7 @@ fn drive_each<R: Threads + Wait + Sync, G: Gate + Sync>(
 {
     let (mut ended, mut sums) = lists;
     'banks: for run in runs {
-        let (done, own) = run.drive(rt, gate, room, pieces);
+        let (done, own) = run.drive(rt, gate, rooms, pieces);
         put(&mut ended, done);
         put(&mut sums, own);
     }

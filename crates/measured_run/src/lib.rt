@@ -16,6 +16,7 @@ mod saving;
 mod step;
 mod sweeping;
 mod text;
+mod workers;
 
 pub use driving::drive;
 pub use opening::open;

@@ -1,9 +1,7 @@
 -- What is left of the bank is its state at the last epoch, and the sums of its slots.
 use Rattle.std.specs.Arc.{arc_value}
-use Rattle.std.proofs.Common.{◌≡◌, ◌<◌, ℕ, ap, sym, subst, ◌∙◌, arith}
+use Rattle.std.proofs.Common.{◌≡◌, ◌<◌, ap, sym, subst, ◌∙◌, arith}
 use Rattle.scalar_rule.specs.Plan.{Plan, IsLawfulPlan, slots_of}
-use Rattle.plane_sweep.specs.declared.replica.Duo.{Duo}
-use Rattle.plane_sweep.specs.declared.uneven.RaggedStand.{RaggedStand}
 use Rattle.measured_run.specs.Banks.{BankAt, start_of}
 use Rattle.measured_run.specs.Cells.{sums_in}
 use Rattle.measured_run.specs.Ends.{IsEnd, HasEnded, HasEndRoom, HoldsSlots}

@@ -1,4 +1,4 @@
-use Rattle.std.proofs.Common.{◌≡◌, subst}
+use Rattle.std.proofs.Common.{subst}
 use Rattle.run_checkpoint.specs.BankEncoding.{AreBanks, BanksStand}
 use Rattle.measured_run.specs.Runs.{RunView, states_at}
 use Rattle.measured_run.proofs.BankLists.{are-banks}

@@ -1,9 +1,9 @@
-use Rattle.std.specs.Prelude.{All, vec_len}
+use Rattle.std.specs.Prelude.{vec_len}
 use Rattle.std.specs.Vec.Iter.{into_iter_items}
-use Rattle.std.proofs.Common.{◌≡◌, ◌+◌, ◌<◌, List, [], ◌∷◌, ◌++◌, length, length-append, append_assoc, refl, ap, ap₂, sym, subst, ◌∙◌, arith, rules}
+use Rattle.std.proofs.Common.{◌≡◌, List, [], ◌∷◌, ◌++◌, length, length-append, append_assoc, refl, ap, ap₂, sym, subst, ◌∙◌, arith, rules}
 use Rattle.std.proofs.lemmas.List.Elements.{All-push}
 use Rattle.measured_run.specs.Banks.{BankView}
-use Rattle.measured_run.specs.Ends.{HasEnded, HoldsSlots, HoldBanks}
+use Rattle.measured_run.specs.Ends.{HasEnded, HoldBanks}
 use Rattle.measured_run.proofs.BankLists.{hold-push, hold-none, hold-long}
 use Rattle.measured_run.proofs.driving.drive_each.Goals as goal
 
@@ -12,6 +12,7 @@ banks-init g c =
     let from = ap length c.into_iter-run-iterator.ensures.into_iter_gives.0 in
     record {
       steps = refl;
+      rooms = refl;
       left = search rules;
       banks = c.requires.ended;
       ended = λ k d h. absurd (omega (arith, h));
@@ -37,6 +38,7 @@ banks-preserved g c =
     let rest = into_iter_items c.next.new.self in
     let steps : into_iter_items at.run-iterator ≡ x ∷ rest = c.in-Some.ensures.steps.0 in
     record {
+      rooms = search (rules, arith);
       steps = append_assoc at.yielded (x ∷ []) rest ∙ ap (λ xs. at.yielded ++ xs) (sym steps) ∙ at.invariant.steps;
       left = let short = ap length steps in let was = at.invariant.left in let gone = c.in-Some.ensures.steps.1 in omega arith;
       banks = c.put.ensures.items ∙ ap₂ (λ (bs : List BankView) (b : BankView). bs ++ b ∷ []) at.invariant.banks c.drive-done.ensures.bank;

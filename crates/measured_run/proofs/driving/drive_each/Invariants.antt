@@ -7,6 +7,7 @@ use Rattle.measured_run.proofs.driving.drive_each.Given as goal
 abbrev pub invariant-banks : goal.invariant-banks
 invariant-banks g l = record {
   steps : l.yielded ++ into_iter_items l.run-iterator ≡ into_iter_items l.initial.run-iterator;
+  rooms : length l.rooms ≡ length l.fn.rooms;
   left : into_iter_len l.run-iterator ≡ length (into_iter_items l.run-iterator);
   banks : l.ended.items ≡ l.yielded;
   ended : All HasEnded l.yielded;

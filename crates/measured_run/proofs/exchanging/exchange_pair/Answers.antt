@@ -1,13 +1,12 @@
 -- The slots before and behind the cut are written.
 use Rattle.std.specs.Prelude.{All}
-use Rattle.std.proofs.Common.{◌≡◌, ◌+◌, ◌<◌, ◌++◌, List, length, get_or, set, ap, sym, subst, ◌∙◌, arith}
-use Rattle.std.proofs.lemmas.List.{get_or_default, get_or-set_other}
+use Rattle.std.proofs.Common.{◌≡◌, ◌+◌, ◌<◌, ◌++◌, length, get_or, set, ap, sym, subst, ◌∙◌, arith}
+use Rattle.std.proofs.lemmas.List.{get_or_default}
 use Rattle.std.proofs.lemmas.List.Elements.{All-set}
-use Rattle.scalar_rule.specs.Turns.{exchanged_pair}
 use Rattle.scalar_rule.proofs.SplitWrites.{split-set}
 use Rattle.plane_sweep.specs.Packed.{part_pair, FitsDuo}
 use Rattle.plane_sums.specs.Bins.{SumsView}
-use Rattle.measured_run.specs.Cells.{slots_in, sums_in, FitCells}
+use Rattle.measured_run.specs.Cells.{slots_in, sums_in}
 use Rattle.measured_run.specs.declared.cell.Cell.{Cell}
 use Rattle.measured_run.proofs.Pairs.{pair-slots, both-same}
 use Rattle.measured_run.proofs.exchanging.exchange_pair.Goals as goal

@@ -1,13 +1,10 @@
-use Rattle.std.proofs.Common.{◌≡◌, ℕ, ◌+◌, ◌<◌, List, length, map, refl, ap, sym, subst, ◌∙◌, arith}
-use Rattle.std.proofs.lemmas.List.{length-map, length-set}
-use Rattle.scalar_rule.specs.Plan.{pairs_of, slots_of}
-use Rattle.scalar_rule.specs.Turns.{after_turn, drawn_in_turn}
+use Rattle.std.proofs.Common.{◌≡◌, ℕ, ◌+◌, ◌<◌, List, refl, sym, subst, ◌∙◌, arith}
+use Rattle.scalar_rule.specs.Plan.{pairs_of}
+use Rattle.scalar_rule.specs.Turns.{after_turn}
 use Rattle.scalar_rule.specs.declared.sample.PlainSlot.{PlainSlot}
 use Rattle.scalar_rule.specs.declared.sample.PlainPair.{PlainPair}
 use Rattle.scalar_rule.proofs.PairTurns.{Exchanging, exchanging-zero, exchanging-more, exchanging-slots, exchanging-pairs}
-use Rattle.plane_sweep.specs.Packed.{part_slot, part_pair}
 use Rattle.measured_run.specs.Cells.{slots_in, pairs_in}
-use Rattle.measured_run.specs.declared.cell.Cell.{Cell}
 use Rattle.measured_run.proofs.Pairs.{slots-long, pairs-long, same-count, same-pairs}
 use Rattle.measured_run.proofs.exchanging.exchange_pairs.Goals as goal
 

@@ -1,7 +1,6 @@
 use Rattle.std.specs.Arc.{arc_value}
 use Rattle.std.specs.Prelude.{vec_len}
-use Rattle.std.proofs.Common.{◌≡◌, ℕ, length, map, ap, sym, subst, ◌∙◌, arith, rules}
-use Rattle.std.proofs.lemmas.List.{length-map}
+use Rattle.std.proofs.Common.{◌≡◌, length, map, ap, sym, subst, ◌∙◌, arith, rules}
 use Rattle.plane_sweep.specs.declared.stand.Stand.{Stand}
 use Rattle.run_checkpoint.specs.BankEncoding.{BanksFit}
 use Rattle.measured_run.proofs.BankLists.{fit-long}

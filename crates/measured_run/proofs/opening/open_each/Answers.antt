@@ -1,12 +1,11 @@
 use Rattle.std.specs.Arc.{arc_value}
 use Rattle.std.specs.Prelude.{All}
 use Rattle.std.specs.Vec.Iter.{into_iter_items}
-use Rattle.std.proofs.Common.{◌≡◌, ◌<◌, List, [], ◌∷◌, ◌++◌, length, map, get_or, append_assoc, append-nil, refl, ap, ap₂, sym, subst, ◌∙◌, arith, rules}
+use Rattle.std.proofs.Common.{◌≡◌, ◌<◌, List, [], ◌∷◌, ◌++◌, length, get_or, append_assoc, append-nil, ap, ap₂, sym, subst, ◌∙◌, arith, rules}
 use Rattle.std.proofs.lemmas.List.{length-map, map-append}
 use Rattle.std.proofs.lemmas.List.Elements.{All-push}
-use Rattle.scalar_rule.specs.Plan.{Plan}
 use Rattle.plane_sweep.specs.declared.stand.Stand.{Stand}
-use Rattle.measured_run.specs.Banks.{BankView, plans_in, bases_in}
+use Rattle.measured_run.specs.Banks.{BankView, bases_in}
 use Rattle.measured_run.specs.KeptRuns.{IsOnCourse}
 use Rattle.measured_run.proofs.Openings.{nothing-left, next-fits, next-within, plans-next, plans-all}
 use Rattle.measured_run.proofs.opening.open_each.Goals as goal

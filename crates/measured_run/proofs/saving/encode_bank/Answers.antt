@@ -1,7 +1,7 @@
-use Rattle.std.proofs.Common.{◌≡◌, ◌+◌, ◌++◌, ap, sym, subst, ◌∙◌, arith}
+use Rattle.std.proofs.Common.{◌++◌, ap, sym, subst, ◌∙◌, arith}
 use Rattle.scalar_rule.specs.Plan.{Plan, slots_of}
 use Rattle.scalar_rule.specs.Serial.{serial}
-use Rattle.plane_sweep.specs.Packed.{part, StandFits}
+use Rattle.plane_sweep.specs.Packed.{part}
 use Rattle.run_checkpoint.specs.Encoding.{encoding, flattened, FitsKind}
 use Rattle.run_checkpoint.specs.declared.kinds.Kind.TheVariants as kinds
 use Rattle.run_checkpoint.specs.Lengths.{encoding_len}

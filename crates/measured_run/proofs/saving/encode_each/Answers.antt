@@ -1,4 +1,4 @@
-use Rattle.std.proofs.Common.{◌≡◌, ◌++◌, ap, sym, ◌∙◌, arith}
+use Rattle.std.proofs.Common.{◌++◌, ap, ◌∙◌, arith}
 use Rattle.scalar_rule.specs.Plan.{slots_of}
 use Rattle.run_checkpoint.specs.Lengths.{encoding_len}
 use Rattle.measured_run.specs.Banks.{BankView}

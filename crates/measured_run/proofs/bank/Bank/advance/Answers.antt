@@ -1,6 +1,6 @@
 use Rattle.std.specs.Arc.{arc_value}
 use Rattle.std.specs.Prelude.{All}
-use Rattle.std.proofs.Common.{◌≡◌, ◌+◌, ◌<◌, ℕ, List, ◌++◌, length, take, drop, sym, subst, ◌∙◌, arith}
+use Rattle.std.proofs.Common.{◌+◌, ◌<◌, List, ◌++◌, length, take, drop, sym, subst, ◌∙◌, arith}
 use Rattle.scalar_rule.specs.Plan.{Plan}
 use Rattle.scalar_rule.proofs.PlaneSweeps.{written_over}
 use Rattle.plane_sweep.specs.declared.stand.PairWheels.{PairWheels}
