@@ -13,7 +13,7 @@ use Rattle.scalar_rule.specs.declared.sample.Sample.{Sample}
 use Rattle.glass_main.specs.Beginnings.{Beginning, Level, Uneven, opened_by, begins_at, resumed_by}
 use Rattle.glass_main.specs.CheckpointBytes.{AreBytes, ResumesBytes, ReadsBytes}
 use Rattle.command_words.specs.CommandLine.{LinesOrder, Command, Plain, Check, Run, Average, Demo, Lines, Potts, Age, Measure, command_of}
-use Rattle.command_words.specs.MeasureWords.{MeasureOrder, run_to_measure}
+use Rattle.command_words.specs.MeasureWords.{MeasureOrder}
 use Rattle.glass_main.specs.LawfulRequests.{IsLawfulPlanned, AreLawfulBanks, AreLawfulPlans, AreLawfulBanked, IsLawfulRun, IsLawfulRunOfBanks, IsLawfulMeasuring, IsLawfulWork}
 use Rattle.glass_main.specs.ManyBanks.{PlannedBanks, banks_opened_by, banks_resumed_by, starts_at, banks_amount_refusal}
 use Rattle.glass_main.specs.MeasureRun.{banks_of, level_resumed_by}
