@@ -1,5 +1,5 @@
 -- The order of `cross` as it is read, in the words of CrossWords.
-use Rattle.std.specs.Prelude.{◌≤◌}
+use Rattle.std.specs.Prelude.{ℕ, ◌≤◌}
 use Rattle.command_words.specs.CrossWords as model
 use Rattle.command_words.specs.declared.cross_words.CrossOrder.{CrossOrder}
 

@@ -1,5 +1,5 @@
 -- The plans of two saved states: those of the second are those of the first with another seed.
-use Rattle.std.proofs.Common.{◌≡◌, ℕ, zero, suc, ◌+◌, ◌/◌, List, [], ◌∷◌, ◌++◌, length, Result, Ok, Err, refl, sym, ap, ◌∙◌, arith}
+use Rattle.std.proofs.Common.{◌≡◌, ℕ, zero, suc, ◌+◌, ◌*◌, ◌/◌, ◌≤◌, List, [], ◌∷◌, ◌++◌, map, length, get_or, Result, Ok, Err, refl, sym, ap, ◌∙◌, arith}
 use Rattle.std.specs.Prelude.{IfErr}
 use Rattle.std.proofs.lemmas.List.{map-append}
 use Rattle.coupling_set.specs.BondsAsWords.{couplings_with, bank_of}
@@ -7,6 +7,7 @@ use Rattle.coupling_set.specs.CouplingsFile.{couplings_in}
 use Rattle.coupling_set.specs.declared.refused.CouplingsRefused.{CouplingsRefused}
 use Rattle.coupling_set.specs.declared.refused.CouplingsRefused.TheVariants as couplings
 use Rattle.glass_edges.specs.Refusals.{Gives}
+use Rattle.run_checkpoint.specs.BankEncoding.{HaveShape}
 use Rattle.run_plan.specs.PlanOf.{plan_with}
 use Rattle.run_plan.specs.RunFile.{AreOrdersOfBanks}
 use Rattle.run_plan.specs.declared.run_file.RunFile.{RunFile}

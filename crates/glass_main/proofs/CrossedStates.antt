@@ -1,5 +1,5 @@
 -- Two saved states: the plans with another seed, what the checkpoints are read as, and what is printed of them.
-use Rattle.std.proofs.Common.{inr, ◌≡◌, ℕ, suc, ◌*◌, ◌≤◌, List, [], ◌∷◌, map, length, get_or, Option, Some, None, option_map, IfSome, Result, Ok, Err, refl, sym, ap, subst, ◌∙◌, arith}
+use Rattle.std.proofs.Common.{inr, ◌≡◌, ℕ, suc, ◌+◌, ◌*◌, ◌≤◌, ◌<◌, List, [], ◌∷◌, map, length, get_or, Option, Some, None, option_map, IfSome, Result, Ok, Err, refl, sym, ap, ap₂, subst, ◌∙◌, arith}
 use Rattle.std.specs.Prelude.{All, drop}
 use Rattle.std.proofs.lemmas.List.{length-map}
 use Rattle.std.proofs.lemmas.List.Elements.{All-nil, All-cons, All-head, All-tail}
@@ -8,10 +8,11 @@ use Rattle.glass_edges.specs.Refusals.{unless, GivesAfterTests}
 use Rattle.glass_edges.proofs.FirstRefusals.{unless-ok}
 use Rattle.glass_edges.proofs.NumberBytes.{IsBytes}
 use Rattle.scalar_rule.specs.Plan.{Plan, slots_of, IsLawfulPlan}
+use Rattle.plane_sweep.specs.Packed.{StandFits}
 use Rattle.plane_sweep.specs.declared.stand.Stand.{Stand}
 use Rattle.copies_report.specs.States.{HasSlots, AreStates, states_fields}
 use Rattle.run_checkpoint.specs.BankDecoding.{banks_refusal, banks_in, banks_decoded}
-use Rattle.run_checkpoint.specs.BankEncoding.{bank_len, BanksFit, HaveShape}
+use Rattle.run_checkpoint.specs.BankEncoding.{bank_len, BanksFit, HaveShape, HaveOneShape}
 use Rattle.run_checkpoint.specs.Decoding.{decoded, IsEncoded}
 use Rattle.run_checkpoint.specs.declared.refused.CheckpointRefused.{CheckpointRefused}
 use Rattle.run_checkpoint.specs.declared.refused.CheckpointRefused.TheVariants as checkpoint

@@ -21,9 +21,9 @@ use Rattle.glass_main.specs.LawfulRequests.{IsLawfulPlanned, AreLawfulBanks, Are
 use Rattle.glass_main.specs.MeasureRun.{level_resumed_by}
 use Rattle.glass_main.specs.ManyBanks.{PlannedBanks, banks_opened_by, banks_resumed_by, starts_at, banks_amount_refusal}
 use Rattle.glass_main.specs.NamedStarts.{StartsBy, Starts, SecondBy, Seconds}
-use Rattle.glass_main.specs.Request.{Work, CheckWork, RunWork, BanksWork, AverageWork, LinesWork, AgeWork, MeasureWork, banked_at, level_beginning_at, measured_until, measure_from, measure_at, CrossWork, cross_plans_at, first_at, second_at, crossed_after, crossed_at, and_then, told_as, bytes_at, plan_at, plans_at, read_at, beginning_at, banks_beginning_at, run_work, banks_work, until_of, run_from, banks_from, run_of, run_at, has_banks, averages_at, stand_at, saved_at}
+use Rattle.glass_main.specs.Request.{Work, CheckWork, RunWork, BanksWork, AverageWork, LinesWork, PottsWork, DemoWork, PlainWork, AgeWork, MeasureWork, banked_at, level_beginning_at, measured_until, measure_from, measure_at, CrossWork, cross_plans_at, first_at, second_at, crossed_after, crossed_at, and_then, told_as, bytes_at, plan_at, plans_at, read_at, beginning_at, banks_beginning_at, run_work, banks_work, until_of, run_from, banks_from, run_of, run_at, has_banks, averages_at, stand_at, saved_at}
 use Rattle.glass_main.specs.CrossedPlans.{HasLawfulSeed}
-use Rattle.glass_main.specs.CrossRun.{CrossedStates, seeded, states_decoded}
+use Rattle.glass_main.specs.CrossRun.{CrossedStates, seeded, states_decoded, AreStatesOf}
 use Rattle.glass_main.specs.declared.planned.Planned.{Planned}
 use Rattle.glass_main.specs.declared.plans.Plans.{Plans}
 use Rattle.glass_main.specs.declared.plans.Plans.TheVariants.{One, Banks}

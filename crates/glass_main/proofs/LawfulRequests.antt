@@ -13,7 +13,7 @@ use Rattle.scalar_rule.specs.declared.sample.Sample.{Sample}
 use Rattle.glass_main.specs.Beginnings.{Beginning, Level, Uneven, opened_by, begins_at, resumed_by}
 use Rattle.glass_main.specs.CheckpointBytes.{AreBytes, ResumesBytes, ReadsBytes}
 use Rattle.command_words.specs.CommandLine.{LinesOrder, Command, Plain, Check, Run, Average, Demo, Lines, Potts, Age, Measure, Cross, command_of}
-use Rattle.command_words.specs.MeasureWords.{MeasureOrder}
+use Rattle.command_words.specs.MeasureWords.{MeasureOrder, run_to_measure}
 use Rattle.glass_main.specs.LawfulRequests.{IsLawfulPlanned, AreLawfulBanks, AreLawfulPlans, AreLawfulBanked, IsLawfulRun, IsLawfulRunOfBanks, IsLawfulMeasuring, IsLawfulWork}
 use Rattle.command_words.specs.CrossWords.{CrossOrder}
 use Rattle.glass_main.specs.CrossRun.{CrossedStates, seeded}

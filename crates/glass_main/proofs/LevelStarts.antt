@@ -1,6 +1,7 @@
 -- What a run starts from whose states are at one epoch, of one bank or of several: its plans are lawful, and the bytes of its
 -- checkpoint are the encoding of what they are read as.
-use Rattle.std.proofs.Common.{arith, inr, ◌≡◌, ℕ, ◌<◌, List, [], ◌∷◌, length, map, get_or, Global, Option, Some, None, Result, Ok, Err, refl, sym, ap, subst}
+use Rattle.std.proofs.Common.{arith, inr, ◌≡◌, ℕ, ◌<◌, ◌≤◌, List, [], ◌∷◌, length, map, get_or, Global, Option, Some, None, Result, Ok, Err, refl, sym, ap, ◌∙◌, subst}
+use Rattle.std.specs.Prelude.{All}
 use Rattle.std.proofs.lemmas.List.Elements.{All-nil, All-cons, All-head}
 use Rattle.std.specs.declared.vec.Vec.{Vec}
 use Rattle.glass_edges.specs.Refusals.{unless, GivesAfterTests}
@@ -8,7 +9,7 @@ use Rattle.glass_edges.proofs.FirstRefusals.{unless-ok}
 use Rattle.glass_edges.proofs.NumberBytes.{IsBytes}
 use Rattle.plane_sweep.specs.Packed.{part}
 use Rattle.plane_sweep.specs.declared.stand.Stand.{Stand}
-use Rattle.run_checkpoint.specs.BankDecoding.{banks_decoded}
+use Rattle.run_checkpoint.specs.BankDecoding.{banks_refusal, banks_decoded}
 use Rattle.run_checkpoint.specs.BankEncoding.{banks_parts, AreBanks, BanksFit, BanksStand, HaveShape, HaveOneShape}
 use Rattle.run_checkpoint.specs.Decoding.{level_refusal, decoded, IsEncoded}
 use Rattle.run_checkpoint.specs.Reading.{stand_in}
@@ -31,6 +32,7 @@ use Rattle.glass_main.specs.declared.plans.Plans.{Plans}
 use Rattle.glass_main.specs.declared.plans.Plans.TheVariants.{One, Banks}
 use Rattle.glass_main.specs.declared.ending.Ending.{Ending}
 use Rattle.glass_main.specs.declared.ending.Ending.TheVariants.{Done, Refused, Unread, Unwritten, Unsaved, NoMemory}
+use Rattle.glass_main.specs.declared.refusal.Refusal.{Refusal}
 use Rattle.glass_main.specs.declared.refusal.Refusal.TheVariants.{Checkpoint}
 use Rattle.glass_main.proofs.BankStands.{parts-stand}
 use Rattle.glass_main.proofs.ReadRuns.{accepted-banks}

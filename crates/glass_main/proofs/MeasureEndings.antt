@@ -1,11 +1,12 @@
 -- How a run that is measured ends: by the steps that read what its files say and what it starts from, and the work from there.
-use Rattle.std.proofs.Common.{◌≡◌, ℕ, ◌≤◌, true, List, Option, Some, None, option_map, IfSome, Result, Ok, Err, refl, sym, ap, subst, inl, inr, arith}
+use Rattle.std.proofs.Common.{◌≡◌, ℕ, ◌≤◌, true, List, Option, Some, None, option_map, IfSome, Result, Ok, Err, refl, sym, ap, ◌∙◌, subst, inl, inr, arith}
 use Rattle.glass_edges.specs.Contents.{Files, appended, AppendsPrefix}
 use Rattle.scalar_rule.specs.declared.sample.Sample.{Sample}
 use Rattle.command_words.specs.CommandLine.{Measure}
 use Rattle.command_words.specs.MeasureWords.{MeasureOrder}
 use Rattle.glass_main.specs.declared.plans.Plans.{Plans}
 use Rattle.glass_main.specs.declared.refusal.Refusal.{Refusal}
+use Rattle.glass_main.specs.declared.role.Role.TheVariants as roles
 use Rattle.glass_main.specs.declared.ending.Ending.{Ending}
 use Rattle.glass_main.specs.declared.ending.Ending.TheVariants.{Done, Refused, Unread, Unwritten, Unsaved, NoMemory}
 use Rattle.glass_main.specs.Endings.{IsOfBanked, IsOfLevel, IsReached, FetchesCheckpoint, MayFetch}

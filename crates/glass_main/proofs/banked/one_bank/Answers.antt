@@ -1,6 +1,7 @@
-use Rattle.std.proofs.Common.{arith, length, map, sym, ap, subst}
+use Rattle.std.proofs.Common.{arith, ◌≡◌, [], ◌∷◌, List, length, map, sym, ap, subst, ◌∙◌}
 use Rattle.std.specs.Arc.{arc_value}
 use Rattle.run_checkpoint.specs.BankEncoding.{HaveOneShape}
+use Rattle.scalar_rule.specs.Plan.{Plan}
 use Rattle.glass_main.proofs.LevelStarts.{of-one-bank, one-shape}
 use Rattle.glass_main.proofs.banked.one_bank.Goals as goal
 

@@ -1,15 +1,16 @@
 -- The first line is of the first plan and of the first banks, and all banks fit.
-use Rattle.std.proofs.Common.{◌≡◌, ◌*◌, ◌≤◌, map, length, get_or, ap, subst, sym, ◌∙◌, arith}
+use Rattle.std.proofs.Common.{◌≡◌, ℕ, ◌*◌, ◌<◌, ◌≤◌, List, map, length, get_or, ap, subst, sym, ◌∙◌, arith}
 use Rattle.std.specs.Arc.{arc_value}
 use Rattle.std.proofs.lemmas.List.{length-map}
 use Rattle.glass_edges.proofs.Writing.{writes-same}
 use Rattle.plane_sweep.specs.declared.stand.Stand.{Stand}
 use Rattle.report_text.specs.Lines.{kind_text}
+use Rattle.run_checkpoint.specs.BankEncoding.{HaveShape}
 use Rattle.scalar_rule.specs.Plan.{Plan, slots_of}
 use Rattle.threshold_table.specs.Tables.{RuleView}
 use Rattle.copies_report.specs.States.{AreStates}
 use Rattle.glass_main.specs.CrossRun.{seeded}
-use Rattle.glass_main.specs.CrossedPlans.{crossed_of, KeepsCrossed}
+use Rattle.glass_main.specs.CrossedPlans.{crossed_of, AreFitting, KeepsCrossed}
 use Rattle.glass_main.specs.declared.crossed_states.Crossed.{Crossed}
 use Rattle.glass_main.proofs.CrossedStates.{crossed-shown, first-epoch, first-shape, fitting-slots, kept-states, seeded-length, seeded-shape}
 use Rattle.glass_main.proofs.cross.put_copies.Goals as goal

@@ -1,5 +1,5 @@
 -- Both lists of plans have the couplings that are read, or that are refused.
-use Rattle.std.proofs.Common.{map}
+use Rattle.std.proofs.Common.{◌≡◌, map}
 use Rattle.std.specs.Arc.{arc_value}
 use Rattle.std.proofs.lemmas.Result.{err_from_is_err_and}
 use Rattle.glass_main.specs.ManyBanks.{bank_count}

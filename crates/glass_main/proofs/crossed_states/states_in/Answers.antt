@@ -1,8 +1,11 @@
 -- The only bank's state, or those of several banks.
-use Rattle.std.proofs.Common.{◌≡◌, List, [], ◌∷◌, map, Ok, ap, subst, sym, ◌∙◌}
+use Rattle.std.proofs.Common.{◌≡◌, List, [], ◌∷◌, map, Result, Ok, Err, ap, subst, sym, ◌∙◌}
 use Rattle.std.specs.Arc.{arc_value}
 use Rattle.std.proofs.lemmas.Result.{err_from_is_err_and}
+use Rattle.glass_edges.specs.Refusals.{GivesAfterTests}
 use Rattle.plane_sweep.specs.declared.stand.Stand.{Stand}
+use Rattle.run_checkpoint.specs.declared.refused.CheckpointRefused.{CheckpointRefused}
+use Rattle.run_checkpoint.specs.declared.refused.CheckpointRefused.TheVariants as checkpoint
 use Rattle.scalar_rule.specs.Plan.{Plan}
 use Rattle.glass_main.specs.CrossRun.{alone, states_decoded}
 use Rattle.glass_main.specs.CrossedPlans.{AreFitting}

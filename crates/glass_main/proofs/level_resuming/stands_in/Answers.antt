@@ -1,8 +1,9 @@
-use Rattle.std.proofs.Common.{Global, ◌≡◌, length, List, map, [], ◌∷◌, sym, subst, ap, Result, ◌∙◌}
+use Rattle.std.proofs.Common.{arith, Global, ◌≡◌, length, List, map, [], ◌∷◌, sym, subst, ap, Result, ◌∙◌}
 use Rattle.std.specs.Prelude.{IfOk}
 use Rattle.std.specs.Arc.{arc_value}
 use Rattle.std.specs.declared.vec.Vec.{Vec}
 use Rattle.std.proofs.lemmas.List.{length-map}
+use Rattle.std.proofs.lemmas.Bool.{eqb-true, eqb-false}
 use Rattle.glass_edges.specs.Refusals.{GivesAfterTests}
 use Rattle.plane_sweep.specs.declared.stand.Stand.{Stand}
 use Rattle.run_checkpoint.specs.declared.refused.CheckpointRefused.{CheckpointRefused}

@@ -1,9 +1,11 @@
-use Rattle.std.proofs.Common.{◌≡◌, List, sym, subst}
+use Rattle.std.proofs.Common.{◌≡◌, ◌<◌, ℕ, List, length, map, sym, ap, ◌∙◌, subst, arith}
 use Rattle.glass_edges.specs.Contents.{appended, AppendsPrefix}
-use Rattle.measured_run.specs.Runs.{RunView}
-use Rattle.run_checkpoint.specs.BankEncoding.{BanksStand}
+use Rattle.measured_run.specs.Runs.{RunView, states_at}
+use Rattle.run_checkpoint.specs.BankEncoding.{AreBanks, BanksStand}
 use Rattle.scalar_rule.specs.Plan.{Plan}
+use Rattle.scalar_rule.specs.declared.sample.Sample.{Sample}
 use Rattle.command_words.specs.ReadCommand.{name_bytes}
+use Rattle.glass_main.specs.ManyBanks.{banks_at}
 use Rattle.glass_main.specs.MeasureRun.{measured_text}
 use Rattle.glass_main.specs.Outside.{store}
 use Rattle.glass_main.proofs.MeasuredRuns.{measured-fit, measured-saved}

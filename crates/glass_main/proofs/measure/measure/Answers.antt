@@ -1,13 +1,14 @@
-use Rattle.std.proofs.Common.{ℕ, List, Some, Ok, Err, option_map, ap, ◌∙◌, subst}
+use Rattle.std.proofs.Common.{◌≡◌, ℕ, ◌≤◌, List, Some, Ok, Err, option_map, sym, ap, ◌∙◌, subst}
 use Rattle.std.specs.Prelude.{unwrap_or}
 use Rattle.measured_run.specs.Runs.{RunView}
 use Rattle.run_checkpoint.specs.BankEncoding.{BanksStand}
 use Rattle.scalar_rule.specs.declared.sample.Sample.{Sample}
 use Rattle.command_words.specs.CommandLine.{Measure}
 use Rattle.command_words.specs.ReadCommand.{read_measure_order}
+use Rattle.glass_main.specs.KeptMeasure.{run_of}
 use Rattle.glass_main.specs.ManyBanks.{PlannedBanks}
 use Rattle.glass_main.specs.Outside.{Output, Store, output, store}
-use Rattle.glass_main.specs.Request.{MeasureWork, level_beginning_at}
+use Rattle.glass_main.specs.Request.{MeasureWork, level_beginning_at, measured_until}
 use Rattle.glass_main.specs.Resumes.{Begins}
 use Rattle.glass_main.specs.Statuses.{Ends, Wrote}
 use Rattle.glass_main.proofs.MeasureEndings.{same-banked, has-begun, ends-unbegun, ends-finished}

@@ -1,5 +1,6 @@
-use Rattle.std.proofs.Common.{List, map, sym, ap, ◌∙◌, subst}
+use Rattle.std.proofs.Common.{◌≡◌, List, map, sym, ap, ◌∙◌, subst}
 use Rattle.std.specs.Arc.{arc_value}
+use Rattle.glass_edges.specs.Causes.{HasCause}
 use Rattle.glass_edges.specs.Writes.{Writes}
 use Rattle.hex.specs.Hex.{encode_lower}
 use Rattle.measured_run.specs.Text.{measure_text}
@@ -7,7 +8,7 @@ use Rattle.run_checkpoint.specs.BankEncoding.{banks_parts, BanksStand}
 use Rattle.run_plan.specs.CanonicalPlan.{banks_digest}
 use Rattle.scalar_rule.specs.Plan.{Plan}
 use Rattle.glass_main.specs.ManyBanks.{PlannedBanks}
-use Rattle.glass_main.specs.MeasureRun.{rule_word}
+use Rattle.glass_main.specs.MeasureRun.{measured_text, rule_word}
 use Rattle.glass_main.proofs.MeasuredRuns.{some-starts}
 use Rattle.glass_main.proofs.measure.put_sums.Goals as goal
 
