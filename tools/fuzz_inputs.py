@@ -113,7 +113,8 @@ class Study:
 
 def manual_lines():
     """The lines of the manual as (statuses, pattern)."""
-    words = {"FILE": "(run file|rule table|swap table|couplings file|checkpoint|report)", "TABLE": "(rule|swap) table",
+    words = {"FILE": "(run file|rule table|swap table|couplings file|(second )?checkpoint|report)", "TABLE": "(rule|swap) table",
+             "CHECKPOINT": "(second )?checkpoint",
              "DIGEST": "[0-9a-f]{64}", "TEXT": "[ -~]*", "V": "-?[0-9]+", "K": "([a-z]+|[0-9]+)"}
     rows = re.findall(r"^\| ([0-9, ]+) \| `(glass: .*)` \|$", (TOP / "docs/specification/messages.md").read_text(), re.M)
     return [({int(status) for status in statuses.split(",")},
