@@ -4,7 +4,7 @@ _glass() {
     local word=$2 before=$3 words=''
     COMPREPLY=()
     if [ "$COMP_CWORD" -eq 1 ]; then
-        words='age average check demo lines measure plain potts run'
+        words='age average check cross demo lines measure plain potts run'
     elif [ "${COMP_WORDS[1]}" = run ]; then
         case $before in
             --from | --save | --workers | --pieces | --until | --stop-after) ;;

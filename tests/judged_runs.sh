@@ -8,8 +8,8 @@ runs=0 failed=0 skipped=0
 # Each status of the manual with the lines that it may have, as one pattern a line.
 known_lines() {
     sed -nE 's/^\| ([0-9, ]+) \| `(glass: .*)` \|$/\1|\2/p' "$here/../docs/specification/messages.md" |
-        sed -E -e 's/\bFILE\b/(run file|rule table|swap table|couplings file|checkpoint|report)/' \
-            -e 's/\bTABLE\b/(rule|swap) table/' -e 's/\bDIGEST\b/[0-9a-f]{64}/g' -e 's/\bTEXT\b/[ -~]*/' \
+        sed -E -e 's/\bFILE\b/(run file|rule table|swap table|couplings file|(second )?checkpoint|report)/' \
+            -e 's/\bTABLE\b/(rule|swap) table/' -e 's/\bCHECKPOINT\b/(second )?checkpoint/' -e 's/\bDIGEST\b/[0-9a-f]{64}/g' -e 's/\bTEXT\b/[ -~]*/' \
             -e 's/: V$/: -?[0-9]+/' -e 's/key K /key [a-z]+ /' -e 's/\b[A-Z]\b/[0-9]+/g' \
             -e 's/^([0-9, ]+)\|(.*)$/^\1 \2$/' -e ':more' -e 's/^([^ ]*), /\1|/' -e 'tmore' -e 's/^\^([^ ]*) /^(\1) /'
 }

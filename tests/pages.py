@@ -2,6 +2,7 @@
 """Runs the commands of manual pages, and compares what they print with what the pages show.
 
     python3 tests/pages.py PROGRAM [PAGE ..]        all pages of docs/manual, where none is named
+    python3 tests/pages.py --write PROGRAM PAGE ..  puts what is printed into these pages, for a reader to look at
     python3 tests/pages.py --not-run                the blocks of docs/manual that it leaves out, each with its reason
     python3 tests/pages.py --self-test
 
@@ -49,13 +50,14 @@ class Segment(NamedTuple):
 
 
 class Step(NamedTuple):
-    """Blocks of commands, what they are to print, and the page's line at which the first one begins. What the pattern
-    finds is not compared."""
+    """Blocks of commands, what they are to print, and the page's lines at which the first one and what is shown begin.
+    What the pattern finds is not compared."""
 
     line: int
     blocks: List[str]
     shown: str
     differs: str
+    shown_line: int
 
 
 def segments(page: str) -> Iterator[Segment]:
@@ -102,7 +104,7 @@ def steps(page: str) -> Iterator[Step]:
             blocks.append(text)
         elif kind != "commands" and blocks:
             differs = DIFFERS.fullmatch(mark)
-            yield Step(start, blocks, text if kind == "shown" else "", differs[1] if differs else "(?!)")
+            yield Step(start, blocks, text if kind == "shown" else "", differs[1] if differs else "(?!)", line)
             blocks = []
 
 
@@ -127,18 +129,32 @@ def ran(found: List[Step], folder: Path, begin: str) -> List[str]:
     return re.findall(rf"(?:.*\n)*?{MARK} \d+\n", output)
 
 
-def faults(name: str, page: str, folder: Path) -> Iterator[str]:
-    """What a page's commands do otherwise than it says."""
+def printed(page: str, folder: Path) -> Iterator[Tuple[Step, str, List[str]]]:
+    """Each step with what its blocks print together, and their statuses."""
     found = list(steps(page))
     begin = BEGIN.search(page)
-    printed = iter(ran(found, folder, begin[1] if begin else "."))
+    blocks = iter(ran(found, folder, begin[1] if begin else "."))
     for step in found:
-        text = ""
-        for block in step.blocks:
-            output, _, status = next(printed, f"{MARK} none\n").rpartition(MARK)
-            text += output
-            if status.strip() != "0" and not step.shown:
-                yield f"{name}:{step.line}: status {status.strip()} of {block.splitlines()[-1]}"
+        parts = [next(blocks, f"{MARK} none\n").rpartition(MARK) for _ in step.blocks]
+        yield step, "".join(output for output, _, _ in parts), [status.strip() for _, _, status in parts]
+
+
+def rewritten(page: str, folder: Path) -> str:
+    """The page with what its commands print where it shows something else."""
+    lines = page.splitlines(keepends=True)
+    for step, text, _ in reversed(list(printed(page, folder))):
+        at, old = step.shown_line, step.shown.splitlines(keepends=True)
+        if old and lines[at:at + len(old)] == old and re.sub(step.differs, "", text) != re.sub(step.differs, "", step.shown):
+            lines[at:at + len(old)] = text.splitlines(keepends=True)
+    return "".join(lines)
+
+
+def faults(name: str, page: str, folder: Path) -> Iterator[str]:
+    """What a page's commands do otherwise than it says."""
+    for step, text, statuses in printed(page, folder):
+        for block, status in zip(step.blocks, statuses):
+            if status != "0" and not step.shown:
+                yield f"{name}:{step.line}: status {status} of {block.splitlines()[-1]}"
         if re.sub(step.differs, "", text) != re.sub(step.differs, "", step.shown):
             pairs = zip(text.splitlines() + ["(its end)"], step.shown.splitlines() + ["(its end)"])
             one, other = next(((got, shown) for got, shown in pairs
@@ -195,7 +211,11 @@ def self_test() -> int:
             if found != wanted:
                 print(f"pages: self-test: {page!r}: faults at {found}, not {wanted}", file=sys.stderr)
                 return 1
-    print(f"pages: {len(cases)} tests passed")
+        page = "    seq 3\n\n```\n9\n8\n```\n\n    echo a 3 s\n\n<!-- differs: \\d s -->\n```\na 7 s\n```\n"
+        if rewritten(page, Path(name)) != page.replace("9\n8\n", "1\n2\n3\n"):
+            print(f"pages: self-test: {page!r} is not written anew", file=sys.stderr)
+            return 1
+    print(f"pages: {len(cases) + 1} tests passed")
     return 0
 
 
@@ -209,6 +229,8 @@ def main(words: List[str]) -> int:
     if words == ["--not-run"]:
         print("".join(f"{it}\n" for name in pages for it in left_out(name, (TOP / name).read_text(encoding="utf-8"))), end="")
         return 0
+    is_writing = words[:1] == ["--write"] and len(words) > 2
+    words = words[is_writing:]
     if not words or words[0].startswith("-") or not Path(words[0]).is_file():
         print("pages: name the program, and pages behind it; --help says more", file=sys.stderr)
         return 2
@@ -224,11 +246,14 @@ def main(words: List[str]) -> int:
             prepare(Path(folder), Path(words[0]))
             if NEEDS_ARRAYS in page:
                 named_python3(Path(folder), str(python))
-            found += faults(name, page, Path(folder))
+            if is_writing:
+                (TOP / name).write_text(rewritten(page, Path(folder)), encoding="utf-8")
+            else:
+                found += faults(name, page, Path(folder))
     for fault in found:
         print(fault, file=sys.stderr)
     if not found:
-        print(f"pages: passed, {', '.join(passed)}")
+        print(f"pages: {'written' if is_writing else 'passed'}, {', '.join(passed)}")
     return 1 if found else 0
 
 

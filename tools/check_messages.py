@@ -4,7 +4,7 @@
 Each line that crates/glass_main/specs/Lines.antt defines, with the status that Statuses.antt gives it, must have its
 row in docs/manual/when_a_run_ends_badly.md ("Every line") and in docs/specification/messages.md, and each row its line.
 A row is | status | `glass: TEXT` | ..; a word of capitals in TEXT stands for what changes, FILE for the files by what
-they are read as, and TABLE for the two tables.
+they are read as, TABLE for the two tables, and CHECKPOINT for both checkpoints of a command.
 
 --self-test runs the tests of this tool.
 
@@ -29,6 +29,7 @@ class Definitions:
     def __init__(self, lines: str, statuses: str) -> None:
         self.clauses = [" ".join(it.split()) for it in re.split(r"\n(?=\S)", lines)]
         self.statuses = [" ".join(it.split()) for it in re.split(r"\n(?=\S)", statuses)]
+        self.aliases = dict(re.findall(r"(\w+) as (\w+)", statuses))
         self.roles = {case: text for case, text in re.findall(r'role_name roles\.(\w+) = codes "([^"]*)"', lines)}
 
     def cases(self, function: str) -> Iterator[Tuple[str, str]]:
@@ -68,17 +69,18 @@ class Definitions:
         raise ValueError(f"{function} has no case {case}")
 
     def role_status(self, role: str) -> int:
-        return self.status("role_status", role if role.endswith(("File", "Table")) else role + "File")
+        return self.status("role_status", self.aliases.get(role, role))
 
     def all(self) -> Set[Line]:
         """Each line with its status."""
         found: Set[Line] = set()
-        for case, function in (("Plan", "plan_line"), ("Couplings", "couplings_line"), ("Checkpoint", "checkpoint_line"),
-                               ("Report", "report_line")):
+        for case, function in (("Plan", "plan_line"), ("Couplings", "couplings_line"), ("Report", "report_line")):
             for _, term in self.cases(function):
                 found |= {(self.status("refusal_status", case), it) for it in self.texts(term, "")}
-        for case, role in (("Rules", "RuleTable"), ("Swaps", "SwapTable")):
-            for _, term in self.cases("table_line"):
+        for case, role, function in (("Rules", "RuleTable", "table_line"), ("Swaps", "SwapTable", "table_line"),
+                                     ("Checkpoint", "Checkpoint", "checkpoint_line"),
+                                     ("SecondCheckpoint", "SecondCheckpoint", "checkpoint_line")):
+            for _, term in self.cases(function):
                 found |= {(self.status("refusal_status", case), it) for it in self.texts(term, role)}
         for case, term in self.cases("refusal_line"):
             for role in self.roles if case in ("TooLong", "Absent") else [""] if case == "Words" else []:
@@ -97,7 +99,8 @@ def rows_of(page: str, heading: str, roles: Dict[str, str]) -> Iterator[Line]:
         return
     for statuses, text in re.findall(r"^\| ([\d, ]+) \| `(glass: [^`]*)` \|", page.split(heading, 1)[1], re.M):
         files = [text]
-        for word, cases in (("FILE", list(roles)), ("TABLE", ["RuleTable", "SwapTable"])):
+        for word, cases in (("FILE", list(roles)), ("TABLE", ["RuleTable", "SwapTable"]),
+                            ("CHECKPOINT", ["Checkpoint", "SecondCheckpoint"])):
             files = [it.replace(word, roles[case]) for it in files for case in (cases if word in it else [""])
                      ] if any(word in it for it in files) else files
         for status in statuses.split(", "):

@@ -8,9 +8,9 @@ documents say of those bytes.
     python3 tools/fuzz_inputs.py --self-test              without the program
 
 Inputs are grown from lawful ones by cuts, repeats, flipped bits, numbers at their bounds, pieces of other inputs and
-sealed changes, whose digest is made anew. Each goes through `glass check`, `glass run --until` or both, a report through
-`glass average`, and expected_runs.py tells independently of the program the status, the line and the text, and what a
-saved checkpoint holds: so a changed byte never gives status 0 with another digest or report than its own. No run ends by
+sealed changes, whose digest is made anew. Each goes through `glass check`, `glass run --until` or both, some through
+`glass measure`, a report through `glass average`. expected_runs.py, and of sums reference/measure.py, tell independently
+of the program the status, the line and the text, and what a saved checkpoint holds: so a changed byte never gives status 0 with another digest or report than its own. No run ends by
 a signal, and each line is one of docs/specification/messages.md. The same count and seed give the same inputs.
 
 GLASS names the program; else it is that of tests/program.sh. Status 0 where every run was held to, 1 where one was not,
@@ -32,6 +32,8 @@ import expected_runs
 import input_growth
 import input_judge
 from make_tables import OneLineParser, Refusal
+from reference.answers import NOT_TOLD
+from reference.measure import ended as measured
 
 TOP = Path(__file__).resolve().parent.parent
 SECONDS = 60
@@ -111,7 +113,8 @@ class Study:
 
 def manual_lines():
     """The lines of the manual as (statuses, pattern)."""
-    words = {"FILE": "(run file|rule table|swap table|couplings file|checkpoint|report)", "TABLE": "(rule|swap) table",
+    words = {"FILE": "(run file|rule table|swap table|couplings file|(second )?checkpoint|report)", "TABLE": "(rule|swap) table",
+             "CHECKPOINT": "(second )?checkpoint",
              "DIGEST": "[0-9a-f]{64}", "TEXT": "[ -~]*", "V": "-?[0-9]+", "K": "([a-z]+|[0-9]+)"}
     rows = re.findall(r"^\| ([0-9, ]+) \| `(glass: .*)` \|$", (TOP / "docs/specification/messages.md").read_text(), re.M)
     return [({int(status) for status in statuses.split(",")},
@@ -206,6 +209,8 @@ class Fuzzer:
             verdict = expected_runs.ran("run.toml", None if base is None else "base", until)
             if verdict.work is not None and verdict.work <= 1000000:
                 break
+        if rng.random() < 0.04 and verdict.text is not None and verdict.status != 3:
+            self.hold_sums(number, study, base, until)
         words = ["run", "run.toml", "--until", str(until), "--workers", str(rng.choice((1, 1, 1, 2, 5)))]
         words += ["--from", "base"] if base is not None else []
         saves = rng.random() < 0.5
@@ -221,6 +226,14 @@ class Fuzzer:
             wrong = expected_runs.wrong_in_saved(saved.read_bytes(), verdict.run, seen)
             if wrong is not None:
                 self.complain(number, words, f"the saved checkpoint: {wrong}")
+
+    def hold_sums(self, number, study, base, until):
+        """The sums of a run that is short, whose amount is no matter."""
+        words = ["measure", "run.toml", "--until", str(until)] + (["--from", "base"] if base is not None else [])
+        wanted = measured([word.encode() for word in words])
+        if wanted.status != NOT_TOLD:
+            text = wanted.text.encode()
+            self.hold(number, study, words, expected_runs.Verdict(wanted.status, wanted.line.encode(), b"", text, None, 0))
 
     def hold(self, number, study, words, verdict):
         self.runs += 1

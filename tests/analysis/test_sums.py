@@ -1,16 +1,20 @@
 """Texts of sums over runs: reading, joining, and each figure where its answer is known."""
 import math
+from pathlib import Path
 
 import numpy as np
 import pytest
 from chances import are_distances, normal_bound, student_bound
+from long_run_folder import digest_of
 from make_tables import Refusal, outcome
 from reference import measure
 from reference.measured import bin_of
 from written import write_run
 from written_sums import read, text_with
 
+import estimate
 import join_sums
+import manifest
 from glass_analysis.sums import (HIST, Means, Study, by_bins, energy, figure, heat, length_over_side, link, link_variance, overlap_density,
                                  per_sample, r_12, slope_of_u_4, structure, study_of_texts, susceptibility, u_4, values_in_classes)
 from measured_text import CLASSES, MOMENTS, epochs_by_bin, in_order, joined, text_of
@@ -96,6 +100,27 @@ def test_parts_that_the_independent_program_makes_are_joined_to_its_whole(tmp_pa
         texts.append(read(tmp_path, text, f"text_{len(texts)}"))
     assert texts[1].bins == (0, 1, 2) and texts[2].bins == (2, 3)
     assert list(text_of(joined(in_order([texts[2], texts[1]])))) == list(text_of(texts[0]))
+
+
+def test_manifests_tell_which_texts_may_be_averaged(tmp_path):
+    """Texts of one size beside which other tables, sweeps or seeds stand are refused in a line."""
+    random, run, names = np.random.default_rng(5), write_run(tmp_path, [1.5], samples=2), []
+    for seed in (1, 2):
+        names.append(str(tmp_path / f"sums_{seed}"))
+        Path(names[-1]).write_text(text_with(4, random.choice([-1, 1], (2, 9, 4, 4, 4)), seed))
+        made = manifest.of_run_file(run, "0" * 64, digest_of(Path(names[-1])))
+        manifest.write_manifest(Path(names[-1]), made._replace(keys={**made.keys, "seed": seed}))
+    path = manifest.file_of(names[1])
+    whole = path.read_text()
+    for command in ("sums", "bins"):
+        manifest.study_of.cache_clear()
+        assert outcome([command, *names], estimate.main)[0] == 0
+        for old, new in (("sweeps = 1", "sweeps = 2"), ("seed = 2", "seed = 1"), ('start = "random"', 'start = "up"')):
+            path.write_text(whole.replace(old, new))
+            manifest.study_of.cache_clear()
+            status, out, err = outcome([command, *names], estimate.main)
+            assert (status, out, err.count("\n"), old.split()[0] in err) == (2, "", 1, True)
+        path.write_text(whole)
 
 
 def test_halves_of_a_bin_add_up(tmp_path):

@@ -1,11 +1,12 @@
 #!/usr/bin/env python3
 """Runs the built program and holds every byte of it to the definitions: text, digest, report, checkpoints of all kinds,
-sums over a run, correlation lines and two-time overlaps.
+sums over a run, correlation lines, two-time overlaps and overlaps of two states.
 
     python3 tools/reference/against_program.py ./glass
 
 Each case is a run file with its tables, in a folder of its own; all samples of its banks of 64 are followed one spin at a
 time, so that a checkpoint is compared whole. Some seconds. Status 1 at the first difference, which is told."""
+import copy
 import random as rng
 import subprocess
 import sys
@@ -17,6 +18,7 @@ sys.dont_write_bytecode = True
 import couplings as couplings_files  # noqa: E402
 import reference.definitions as rule  # noqa: E402
 from reference.measured import followed_text  # noqa: E402
+from reference.crossed import CrossHeading, copies_fields, cross_text  # noqa: E402
 from reference.overlaps import age_text, lines_text  # noqa: E402
 
 DONE = []
@@ -169,6 +171,31 @@ def overlaps(program, folder, case, wait, times):
     same(f"{case.name}: age", ran(program, folder, "age", "run.toml", *words), text.encode())
 
 
+def crossed(program, folder, case, first, second):
+    """The overlaps of the states of one run at two epochs."""
+    for epoch in (first, second):
+        ran(program, folder, "run", "run.toml", "--until", str(epoch), "--save", f"at_{epoch}")
+    sample = lambda epoch: lambda b: case.at(b % 64, epoch, b // 64)  # noqa: E731
+    heading = CrossHeading(case.size, len(case.plan.rows), case.samples, case.plan.rule, case.seed, case.seed, first, second)
+    text = cross_text(heading, lambda *place: copies_fields(sample(first), sample(second), *place))
+    same(f"{case.name}: cross", ran(program, folder, "cross", "run.toml", f"at_{first}", str(case.seed), f"at_{second}"), text.encode())
+
+
+def crossed_seeds(program, folder, case, seed):
+    """The overlaps of the states of two runs of equal couplings and different seeds."""
+    other = copy.copy(case)
+    other.seed, other.states, other.plans = seed, {}, [plan._replace(seed=seed) for plan in case.plans]
+    other.plan = other.plans[0]
+    ran(program, folder, "run", "run.toml", "--save", "own")
+    other.write(folder)
+    ran(program, folder, "run", "run.toml", "--until", "1", "--save", "other")
+    case.write(folder)
+    heading = CrossHeading(case.size, len(case.plan.rows), case.samples, case.plan.rule, case.seed, seed, case.epochs, 1)
+    text = cross_text(heading, lambda *place: copies_fields(lambda b: case.at(b % 64, case.epochs, b // 64),
+                                                            lambda b: other.at(b % 64, 1, b // 64), *place))
+    same(f"{case.name}: cross of two seeds", ran(program, folder, "cross", "run.toml", "own", str(seed), "other"), text.encode())
+
+
 def plain(program, folder):
     for words in (["4", "3", "7", "0", "100000000", "900000000", "2147483648", "3300000000", "4200000000", "4294967296"],
                   ["6", "2", "9223372036854775807", "1", "2", "3", "2147483648", "4294967293", "4294967294", "4294967295"]):
@@ -204,6 +231,10 @@ def main(words):
             measured_run(program, Path(name) / case.name, case, 1)
         for case in cases[3:5]:
             overlaps(program, Path(name) / case.name, case, 2, (0, 3))
+        for case in (cases[1], cases[3], cases[5]):
+            crossed(program, Path(name) / case.name, case, 0, 1)
+        for case in (cases[2], cases[6]):
+            crossed_seeds(program, Path(name) / case.name, case, 2 ** 63 - 1)
     print(f"against_program: {len(DONE)} comparisons, each of every byte, agree")
 
 

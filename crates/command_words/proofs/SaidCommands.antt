@@ -8,8 +8,9 @@ use Rattle.command_words.specs.Words.{given, word_at}
 use Rattle.command_words.specs.RunWords.{RunOrder, SaysRun}
 use Rattle.command_words.specs.RunReading.{said_by, run_order}
 use Rattle.command_words.specs.PottsWords.{potts_order}
+use Rattle.command_words.specs.CrossWords.{cross_order}
 use Rattle.command_words.specs.MeasureWords.{MeasureOrder, SaysMeasure, run_to_measure, unless_stopped, measure_order}
-use Rattle.command_words.specs.CommandLine.{Command, Plain, Check, Run, Average, Demo, Lines, Potts, Age, Measure, plain_order, check_name, average_order, demo_number, lines_order, age_order, command_of}
+use Rattle.command_words.specs.CommandLine.{Command, Plain, Check, Run, Average, Demo, Lines, Potts, Age, Measure, Cross, plain_order, check_name, average_order, demo_number, lines_order, age_order, command_of}
 use Rattle.command_words.proofs.SaidOnce.{map-some, given-some, by-test}
 use Rattle.command_words.proofs.SaidRuns.{run_order-said, said-run_order}
 
@@ -26,6 +27,7 @@ name_of (Lines order) = codes "lines"
 name_of (Potts order) = codes "potts"
 name_of (Age order) = codes "age"
 name_of (Measure order) = codes "measure"
+name_of (Cross order) = codes "cross"
 
 -- a command that is made of words behind a text has that name
 named : {A : Type 0} (make : A → Command) (asked : Option A) (word text : List ℕ) (found : Option Command) (command : Command)
@@ -49,8 +51,9 @@ command-name words command h =
     by-test (bytes_eq word (codes "potts")) (λ t. named Potts (potts_order words) word (codes "potts") all command (λ x. refl) t (rw (a, b, c, d, e, f, t) refl) h) (λ g.
     by-test (bytes_eq word (codes "age")) (λ t. named Age (age_order words) word (codes "age") all command (λ x. refl) t (rw (a, b, c, d, e, f, g, t) refl) h) (λ k.
     by-test (bytes_eq word (codes "measure")) (λ t. named Measure (measure_order words) word (codes "measure") all command (λ x. refl) t (rw (a, b, c, d, e, f, g, k, t) refl) h) (λ m.
-    let none : all ≡ None = rw (a, b, c, d, e, f, g, k, m) refl in
-    absurd (none-some command (sym none ∙ h)))))))))))
+    by-test (bytes_eq word (codes "cross")) (λ t. named Cross (cross_order words) word (codes "cross") all command (λ x. refl) t (rw (a, b, c, d, e, f, g, k, m, t) refl) h) (λ n.
+    let none : all ≡ None = rw (a, b, c, d, e, f, g, k, m, n) refl in
+    absurd (none-some command (sym none ∙ h))))))))))))
 
 -- the orders of commands that have one
 abbrev run_in : Command → RunOrder → RunOrder

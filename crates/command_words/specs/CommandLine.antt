@@ -7,6 +7,7 @@ use Rattle.command_words.specs.AgeWords.{AgeOrder, times_of}
 use Rattle.command_words.specs.RunWords.{RunOrder}
 use Rattle.command_words.specs.RunReading.{run_order}
 use Rattle.command_words.specs.MeasureWords.{MeasureOrder, measure_order}
+use Rattle.command_words.specs.CrossWords.{CrossOrder, cross_order}
 use Rattle.command_words.specs.Words.{given, word_at, size_word, number_word, number_words, name_word}
 
 -- one replica of the ferromagnet: the side of the lattice, the number of sweeps, the seed, and the seven thresholds
@@ -28,7 +29,7 @@ pub record LinesOrder : Type 0 where
 
 -- a command of the program: one replica of the ferromagnet; a look at the run file of a name; a run; averages of a report; a large
 -- run whose plan is made from a number; link overlaps and correlation lines of a checkpoint; a run of the Potts glass; an aging run;
--- sums over a run
+-- sums over a run; overlaps of the copies of two saved states
 pub data Command : Type 0 where
   Plain : PlainOrder → Command
   Check : List ℕ → Command
@@ -39,6 +40,7 @@ pub data Command : Type 0 where
   Potts : PottsOrder → Command
   Age : AgeOrder → Command
   Measure : MeasureOrder → Command
+  Cross : CrossOrder → Command
 
 -- `plain SIZE SWEEPS SEED T0 T1 T2 T3 T4 T5 T6`
 unfoldable pub plain_order : List (List ℕ) → Option PlainOrder
@@ -100,6 +102,7 @@ command_of words =
     else if bytes_eq (word_at words 0) (codes "potts") then option_map Potts (potts_order words)
     else if bytes_eq (word_at words 0) (codes "age") then option_map Age (age_order words)
     else if bytes_eq (word_at words 0) (codes "measure") then option_map Measure (measure_order words)
+    else if bytes_eq (word_at words 0) (codes "cross") then option_map Cross (cross_order words)
     else None
 
 -- the name under which words ask for a checkpoint to be saved
@@ -114,3 +117,4 @@ saved_name (Some (Lines order)) = None
 saved_name (Some (Potts order)) = None
 saved_name (Some (Age order)) = None
 saved_name (Some (Measure order)) = order.save
+saved_name (Some (Cross order)) = None

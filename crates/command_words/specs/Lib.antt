@@ -4,7 +4,9 @@ pub mod AgeWords
 pub mod RunWords
 pub mod RunReading
 pub mod MeasureWords
+pub mod CrossWords
 pub mod CommandLine
 pub mod ReadPotts
 pub mod ReadAge
+pub mod ReadCross
 pub mod ReadCommand

@@ -8,11 +8,12 @@ use Rattle.command_words.specs.MeasureWords as measure_words
 use Rattle.command_words.specs.RunReading as run_reading
 use Rattle.command_words.specs.ReadPotts.{read_potts_order, IsLawfulPotts}
 use Rattle.command_words.specs.ReadAge.{read_age_order, IsLawfulAge}
+use Rattle.command_words.specs.ReadCross.{read_cross_order, IsLawfulCross}
 use Rattle.command_words.specs.declared.average_words.AverageOrder.{AverageOrder}
 use Rattle.command_words.specs.declared.correlation_words.LinesOrder.{LinesOrder}
 use Rattle.command_words.specs.declared.command_line.PlainOrder.{PlainOrder}
 use Rattle.command_words.specs.declared.command_line.Command.{Command}
-use Rattle.command_words.specs.declared.command_line.Command.TheVariants.{Plain, Check, Run, Average, Demo, Lines, Potts, Age, Measure}
+use Rattle.command_words.specs.declared.command_line.Command.TheVariants.{Plain, Check, Run, Average, Demo, Lines, Potts, Age, Measure, Cross}
 use Rattle.command_words.specs.declared.measure_words.MeasureOrder.{MeasureOrder}
 use Rattle.command_words.specs.declared.run_words.RunOrder.{RunOrder}
 use Rattle.command_words.specs.declared.run_words.RunWords.{RunWords}
@@ -67,6 +68,7 @@ read_command (Lines order) = model.Lines (read_lines_order order)
 read_command (Potts order) = model.Potts (read_potts_order order)
 read_command (Age order) = model.Age (read_age_order order)
 read_command (Measure order) = model.Measure (read_measure_order order)
+read_command (Cross order) = model.Cross (read_cross_order order)
 
 -- what the words of `run` have said
 abbrev pub read_said : RunWords → run_reading.RunWords
@@ -121,3 +123,4 @@ IsLawfulCommand (Lines order) = Unit {0}
 IsLawfulCommand (Potts order) = IsLawfulPotts order
 IsLawfulCommand (Age order) = IsLawfulAge order
 IsLawfulCommand (Measure order) = IsLawfulMeasure order
+IsLawfulCommand (Cross order) = IsLawfulCross order

@@ -10,6 +10,7 @@ ghost use Rattle.command_words.specs.Words.{texts, size_word};
 use crate::age_words::{AgeOrder, read_age};
 use crate::average_words::{AverageOrder, read_average};
 use crate::correlation_words::{LinesOrder, read_lines};
+use crate::cross_words::{CrossOrder, read_cross};
 use crate::measure_words::{MeasureOrder, read_measure};
 use crate::potts_words::{PottsOrder, read_potts};
 use crate::run_words::{RunOrder, read_run};
@@ -48,6 +49,8 @@ pub enum Command<'a> {
     Age(AgeOrder<'a>),
     /// Sums over a run.
     Measure(MeasureOrder<'a>),
+    /// Overlaps of the copies of two saved states.
+    Cross(CrossOrder<'a>),
 }
 
 /// Reads the words. It takes no memory.
@@ -83,6 +86,9 @@ pub fn read_words(words: &[String]) -> Option<Command<'_>>
     }
     if name == "measure" {
         return Some(Command::Measure(read_measure(words)?));
+    }
+    if name == "cross" {
+        return Some(Command::Cross(read_cross(words)?));
     }
     None
 }

@@ -5,7 +5,7 @@ use Rattle.glass_main.specs.Outside.{Output, Store}
 use Rattle.glass_main.specs.Request.{Work, request_for}
 use Rattle.glass_main.specs.Statuses.{refusal_status, status_of, IsTold, Fits, Printed, Kept, Ends, Completes}
 use Rattle.glass_main.specs.declared.refusal.Refusal.{Refusal}
-use Rattle.glass_main.specs.declared.refusal.Refusal.TheVariants.{Words, Absent, TooLong, Plan, Rules, Swaps, Couplings, Checkpoint, Report}
+use Rattle.glass_main.specs.declared.refusal.Refusal.TheVariants.{Words, Absent, TooLong, Plan, Rules, Swaps, Couplings, Checkpoint, Report, SecondCheckpoint}
 use Rattle.glass_main.specs.declared.ending.Ending.{Ending}
 use Rattle.glass_main.specs.declared.ending.Ending.TheVariants.{Done, Refused, Unread, Unwritten, Unsaved, NoMemory}
 
@@ -20,6 +20,7 @@ told-status (Swaps refused) told is = ap refusal_status is
 told-status (Couplings refused) told is = ap refusal_status is
 told-status (Checkpoint refused) told is = ap refusal_status is
 told-status (Report refused) told is = ap refusal_status is
+told-status (SecondCheckpoint refused) told is = ap refusal_status is
 
 completes-asked : (asked : Option (Result Work Refusal)) (name : Option (List ℕ)) (ending : Ending) (status : ℕ) (held holds : Store) (before now : Output)
     → IfSome asked (λ a. Fits a ending) → Printed ending before now → Kept name ending held holds → status ≡ status_of ending

@@ -1,5 +1,5 @@
 -- What is asked for starts with the state whose encoding the named bytes are, or with the opening states.
-use Rattle.std.proofs.Common.{◌≡◌, ℕ, true, List, Option, Some, None, IfSome, Result, Ok, Err, refl, sym, subst}
+use Rattle.std.proofs.Common.{◌≡◌, ◌≤◌, ℕ, length, arith, true, List, Option, Some, None, IfSome, Result, Ok, Err, refl, sym, subst}
 use Rattle.std.specs.FinMap as finmap
 use Rattle.std.specs.Prelude.{IfOk}
 use Rattle.glass_edges.specs.Contents.{Files}
@@ -9,17 +9,21 @@ use Rattle.plane_sweep.specs.declared.stand.Stand.{Stand}
 use Rattle.run_checkpoint.specs.Decoding.{decoded}
 use Rattle.run_checkpoint.specs.declared.refused.CheckpointRefused.{CheckpointRefused}
 use Rattle.run_plan.specs.Amounts.{amount_refusal}
+use Rattle.scalar_rule.specs.Plan.{Plan}
 use Rattle.scalar_rule.specs.declared.sample.Sample.{Sample}
-use Rattle.command_words.specs.CommandLine.{LinesOrder, Command, Plain, Check, Run, Average, Demo, Lines, Potts, Age, Measure}
+use Rattle.command_words.specs.CommandLine.{LinesOrder, Command, Plain, Check, Run, Average, Demo, Lines, Potts, Age, Measure, Cross}
 use Rattle.command_words.specs.MeasureWords.{MeasureOrder}
+use Rattle.command_words.specs.CrossWords.{CrossOrder}
 use Rattle.command_words.specs.RunWords.{RunOrder}
 use Rattle.glass_main.specs.Beginnings.{Beginning, opened_by, begins_at, resumed_by}
 use Rattle.glass_main.specs.CheckpointBytes.{AreBytes, HasBytes, ResumesBytes, ReadsBytes}
 use Rattle.glass_main.specs.LawfulRequests.{IsLawfulPlanned, AreLawfulBanks, AreLawfulPlans, AreLawfulBanked}
 use Rattle.glass_main.specs.MeasureRun.{level_resumed_by}
 use Rattle.glass_main.specs.ManyBanks.{PlannedBanks, banks_opened_by, banks_resumed_by, starts_at, banks_amount_refusal}
-use Rattle.glass_main.specs.NamedStarts.{StartsBy, Starts}
-use Rattle.glass_main.specs.Request.{Work, CheckWork, RunWork, BanksWork, AverageWork, LinesWork, AgeWork, MeasureWork, banked_at, level_beginning_at, measured_until, measure_from, measure_at, and_then, told_as, bytes_at, plan_at, plans_at, read_at, beginning_at, banks_beginning_at, run_work, banks_work, until_of, run_from, banks_from, run_of, run_at, has_banks, averages_at, stand_at, saved_at}
+use Rattle.glass_main.specs.NamedStarts.{StartsBy, Starts, SecondBy, Seconds}
+use Rattle.glass_main.specs.Request.{Work, CheckWork, RunWork, BanksWork, AverageWork, LinesWork, PottsWork, DemoWork, PlainWork, AgeWork, MeasureWork, banked_at, level_beginning_at, measured_until, measure_from, measure_at, CrossWork, cross_plans_at, first_at, second_at, crossed_after, crossed_at, and_then, told_as, bytes_at, plan_at, plans_at, read_at, beginning_at, banks_beginning_at, run_work, banks_work, until_of, run_from, banks_from, run_of, run_at, has_banks, averages_at, stand_at, saved_at}
+use Rattle.glass_main.specs.CrossedPlans.{HasLawfulSeed}
+use Rattle.glass_main.specs.CrossRun.{CrossedStates, seeded, states_decoded, AreStatesOf}
 use Rattle.glass_main.specs.declared.planned.Planned.{Planned}
 use Rattle.glass_main.specs.declared.plans.Plans.{Plans}
 use Rattle.glass_main.specs.declared.plans.Plans.TheVariants.{One, Banks}
@@ -27,14 +31,15 @@ use Rattle.glass_main.specs.declared.saved_state.SavedState.{SavedState}
 use Rattle.glass_main.specs.declared.role.Role.TheVariants as roles
 use Rattle.glass_main.specs.declared.refusal.Refusal.{Refusal}
 use Rattle.glass_main.specs.declared.refusal.Refusal.TheVariants as refused
-use Rattle.glass_main.proofs.LawfulPlans.{told-ok, one-lawful, plans-lawful}
+use Rattle.glass_main.proofs.LawfulPlans.{told-ok, one-lawful, plans-lawful, crossed-lawful}
 use Rattle.glass_main.proofs.LawfulRequests.{banked-read}
 use Rattle.glass_main.proofs.LevelStarts.{accepted-level}
 use Rattle.glass_main.proofs.OneOfBanks.{stepped, same-ok}
-use Rattle.glass_main.proofs.ReadBytes.{held-is}
+use Rattle.glass_main.proofs.ReadBytes.{held-is, ok-free}
 use Rattle.glass_main.proofs.ReadRuns.{accepted-banks}
 use Rattle.glass_main.proofs.ReadStops.{accepted}
 use Rattle.glass_main.proofs.SavedStates.{read-encoded}
+use Rattle.glass_main.proofs.CrossedStates.{states-encoded, seeded-lawful, seeded-length}
 
 -- the bytes that the files have under a name, which are read as this
 named-bytes : {A : Type 0} (read : List ℕ → Result A CheckpointRefused) (name : List ℕ) (files : Files) (x : A) → HasBytes (Some files) name → read_at read name files ≡ Ok x
@@ -103,6 +108,68 @@ measure-starts order files planned work bytes lawful is =
     let starts = stepped (level_beginning_at order.from planned e files) (λ starts. Ok (MeasureWork planned starts e)) work is in
     subst (StartsBy order.from files) (same-ok (MeasureWork planned starts.0 e) work starts.2) (level-start order.from planned e files starts.0 bytes lawful starts.1)
 
+-- ---- two states
+
+-- samples are kept in one bank at least
+some-plans : (planned : PlannedBanks) → AreLawfulBanked planned → 1 ≤ length planned.plans
+some-plans planned lawful = omega (arith, lawful.count, lawful.orders.some_samples)
+
+-- the plans, and both states
+record AreFound (order : CrossOrder) (files : Files) (crossed : CrossedStates) : Type 0 where
+  plans : cross_plans_at order.run files ≡ Ok crossed.planned
+  first : first_at crossed.planned.plans order.first files ≡ Ok crossed.first
+  seed_is : crossed.seed ≡ order.seed
+  second : second_at (seeded crossed.seed crossed.planned.plans) order.second files ≡ Ok crossed.second
+
+found-states : (order : CrossOrder) (files : Files) (crossed : CrossedStates) → crossed_at order files ≡ Ok crossed → AreFound order files crossed
+unfolding crossed_at crossed_after
+found-states order files crossed is =
+    let made : PlannedBanks → List Stand → List Stand → CrossedStates = λ planned first second. record { planned = planned; seed = order.seed; first = first; second = second } in
+    let p = stepped (cross_plans_at order.run files) (λ planned. crossed_after order planned files) crossed is in
+    let f = stepped (first_at p.0.plans order.first files) (λ first. and_then (second_at (seeded order.seed p.0.plans) order.second files) (λ second. Ok (made p.0 first second))) crossed p.2 in
+    let s = stepped (second_at (seeded order.seed p.0.plans) order.second files) (λ second. Ok (made p.0 f.0 second)) crossed f.2 in
+    let own : AreFound order files (made p.0 f.0 s.0) = record { plans = p.1; first = f.1; seed_is = refl; second = s.1 } in
+    subst (AreFound order files) (same-ok (made p.0 f.0 s.0) crossed s.2) own
+
+-- the bytes of the first checkpoint, and of the second
+first-bytes : (plans : List Plan) (name : List ℕ) (files : Files) (states : List Stand) → HasBytes (Some files) name → first_at plans name files ≡ Ok states
+    → (bytes : List ℕ) × (finmap.get files name ≡ Some bytes) × AreBytes bytes × (states_decoded plans bytes ≡ Ok states)
+unfolding first_at
+first-bytes plans name files states are is =
+    let found = stepped (bytes_at roles.Checkpoint name files) (λ bytes. told_as refused.Checkpoint (states_decoded plans bytes)) states is in
+    let held = held-is roles.Checkpoint (finmap.get files name) found.0 found.1 in
+    (found.0, held, subst (λ (f : Option (List ℕ)). IfSome f AreBytes) held are, told-ok refused.Checkpoint (states_decoded plans found.0) states found.2)
+
+second-bytes : (plans : List Plan) (name : List ℕ) (files : Files) (states : List Stand) → HasBytes (Some files) name → second_at plans name files ≡ Ok states
+    → (bytes : List ℕ) × (finmap.get files name ≡ Some bytes) × AreBytes bytes × (states_decoded plans bytes ≡ Ok states)
+unfolding second_at
+second-bytes plans name files states are is =
+    let found = stepped (bytes_at roles.SecondCheckpoint name files) (λ bytes. told_as refused.SecondCheckpoint (states_decoded plans bytes)) states is in
+    let held = held-is roles.SecondCheckpoint (finmap.get files name) found.0 found.1 in
+    (found.0, held, subst (λ (f : Option (List ℕ)). IfSome f AreBytes) held are, told-ok refused.SecondCheckpoint (states_decoded plans found.0) states found.2)
+
+first-starts : (order : CrossOrder) (files : Files) (crossed : CrossedStates) → HasBytes (Some files) order.first → crossed_at order files ≡ Ok crossed
+    → StartsBy (Some order.first) files (CrossWork crossed)
+first-starts order files crossed bytes is =
+    let found = found-states order files crossed is in
+    let named = first-bytes crossed.planned.plans order.first files crossed.first bytes found.first in
+    let lawful = crossed-lawful order.run files crossed.planned found.plans in
+    (named.0, named.1, states-encoded crossed.planned.plans named.0 crossed.first (some-plans crossed.planned lawful) lawful.plans named.2 named.3)
+
+second-starts : (order : CrossOrder) (files : Files) (crossed : CrossedStates) → order.seed ≤ 9223372036854775807 → HasBytes (Some files) order.second → crossed_at order files ≡ Ok crossed
+    → SecondBy (Some order.second) files (CrossWork crossed)
+second-starts order files crossed small bytes is =
+    let found = found-states order files crossed is in
+    let plans = seeded crossed.seed crossed.planned.plans in
+    let named = second-bytes plans order.second files crossed.second bytes found.second in
+    let lawful = crossed-lawful order.run files crossed.planned found.plans in
+    let some : 1 ≤ length plans = omega (arith, some-plans crossed.planned lawful, seeded-length crossed.seed crossed.planned.plans) in (
+      named.0,
+      named.1,
+      states-encoded plans named.0 crossed.second some
+          (seeded-lawful crossed.seed crossed.planned.plans (subst (λ (n : ℕ). n ≤ 9223372036854775807) (sym found.seed_is) small) lawful.plans) named.2 named.3,
+    )
+
 -- ---- any command
 
 lines-start : (order : LinesOrder) (files : Files) (saved : SavedState) → HasBytes (Some files) order.checkpoint → saved_at order files ≡ Ok saved
@@ -148,8 +215,33 @@ asked-starts files (Some (Measure order)) bytes =
     if-done (StartsBy order.from files) (measure_at order files)
     (λ work made. let p = stepped (banked_at order.run files) (λ planned. measure_from order planned files) work made in
     measure-starts order files p.0 work bytes (banked-read order.run files p.0 p.1) p.2)
+asked-starts files (Some (Cross order)) bytes =
+    if-done (StartsBy (Some order.first) files) (and_then (crossed_at order files) (λ crossed. Ok (CrossWork crossed)))
+    (λ work made. let s = stepped (crossed_at order files) (λ crossed. Ok (CrossWork crossed)) work made in
+    subst (StartsBy (Some order.first) files) (same-ok (CrossWork s.0) work s.2) (first-starts order files s.0 bytes.0 s.1))
 
 -- whatever the command and the files are, where the checkpoint that is read has bytes
 pub request-starts : (command : Option Command) (held : Option Files) → ReadsBytes command held → Starts command held
 request-starts command None bytes = tt
 request-starts command (Some files) bytes = asked-starts files command bytes
+
+asked-seconds : (files : Files) (command : Option Command) → HasLawfulSeed command → ReadsBytes command (Some files) → Seconds command (Some files)
+asked-seconds files None small bytes = tt
+asked-seconds files (Some (Plain order)) small bytes = tt
+asked-seconds files (Some (Check name)) small bytes = ok-free (and_then (plans_at true name files) (λ plans. Ok (CheckWork plans))) (Unit {0}) tt
+asked-seconds files (Some (Run order)) small bytes = ok-free (run_at order files) (Unit {0}) tt
+asked-seconds files (Some (Average order)) small bytes = ok-free (and_then (averages_at order files) (λ averages. Ok (AverageWork averages))) (Unit {0}) tt
+asked-seconds files (Some (Demo n)) small bytes = tt
+asked-seconds files (Some (Lines order)) small bytes = ok-free (and_then (saved_at order files) (λ saved. Ok (LinesWork saved))) (Unit {0}) tt
+asked-seconds files (Some (Potts order)) small bytes = tt
+asked-seconds files (Some (Age order)) small bytes = ok-free (and_then (plan_at order.run files) (λ planned. Ok (AgeWork planned order.wait order.times))) (Unit {0}) tt
+asked-seconds files (Some (Measure order)) small bytes = ok-free (measure_at order files) (Unit {0}) tt
+asked-seconds files (Some (Cross order)) small bytes =
+    if-done (SecondBy (Some order.second) files) (and_then (crossed_at order files) (λ crossed. Ok (CrossWork crossed)))
+    (λ work made. let s = stepped (crossed_at order files) (λ crossed. Ok (CrossWork crossed)) work made in
+    subst (SecondBy (Some order.second) files) (same-ok (CrossWork s.0) work s.2) (second-starts order files s.0 small bytes.1 s.1))
+
+-- and the second state of two
+pub request-seconds : (command : Option Command) (held : Option Files) → HasLawfulSeed command → ReadsBytes command held → Seconds command held
+request-seconds command None small bytes = tt
+request-seconds command (Some files) small bytes = asked-seconds files command small bytes

@@ -5,7 +5,7 @@ use Rattle.glass_edges.specs.Causes.{Rose}
 use Rattle.glass_edges.specs.Contents.{Files, HoldsFile, LacksFile, HoldsAtLeast}
 use Rattle.glass_edges.specs.declared.shelf.Fetched.{Fetched}
 use Rattle.glass_edges.specs.declared.shelf.Fetched.TheVariants as answer
-use Rattle.glass_main.specs.Endings.{IsOfFile, IsOfBanked, IsOfLevel, IsOfOneEpoch}
+use Rattle.glass_main.specs.Endings.{IsOfFile, IsOfBanked, IsOfLevel, IsOfOneEpoch, IsOfStates}
 use Rattle.glass_main.specs.declared.role.Role.{Role}
 use Rattle.glass_main.specs.declared.role.Role.TheVariants as roles
 use Rattle.glass_main.specs.declared.refusal.Refusal.{Refusal}
@@ -107,6 +107,13 @@ fetched-levels role (answer.TooLong n) result is = rw is tt
 fetched-levels role answer.Failed result is = rw is tt
 fetched-levels role answer.NoMemory result is = rw is tt
 
+pub fetched-states : (role : Role) (fetched : Fetched) (result : Result (List ℕ) Ending) → result ≡ gathered role fetched → IfErr result (λ ending. IfRefused ending IsOfStates)
+fetched-states role (answer.Held v) result is = rw is tt
+fetched-states role answer.Absent result is = rw is tt
+fetched-states role (answer.TooLong n) result is = rw is tt
+fetched-states role answer.Failed result is = rw is tt
+fetched-states role answer.NoMemory result is = rw is tt
+
 pub fetched-banks : (many : Bool) (role : Role) (fetched : Fetched) (result : Result (List ℕ) Ending) → result ≡ gathered role fetched → IfErr result (λ ending. IfRefused ending (IsOfBanked many))
 fetched-banks many role (answer.Held v) result is = rw is tt
 fetched-banks many role answer.Absent result is = rw is tt
@@ -127,6 +134,7 @@ of-file-banked many fetches (refused.Swaps e) not h = tt
 of-file-banked many fetches (refused.Couplings e) not h = tt
 of-file-banked many fetches (refused.Checkpoint e) not h = tt
 of-file-banked many fetches (refused.Report e) not h = tt
+of-file-banked many fetches (refused.SecondCheckpoint e) not h = tt
 
 -- and those that fetch no checkpoint refuse none
 pub of-file-level : (fetches : Role → Type 0) (told : Refusal) → (fetches roles.Checkpoint → ⊥) → IsOfFile fetches told → IsOfLevel told
@@ -139,6 +147,7 @@ of-file-level fetches (refused.Swaps e) not h = tt
 of-file-level fetches (refused.Couplings e) not h = tt
 of-file-level fetches (refused.Checkpoint e) not h = absurd (not h.0)
 of-file-level fetches (refused.Report e) not h = tt
+of-file-level fetches (refused.SecondCheckpoint e) not h = tt
 
 -- ---- steps that fetch more
 
@@ -153,3 +162,4 @@ of-file-wider fetches more (refused.Swaps e) wider h = (wider roles.SwapTable h.
 of-file-wider fetches more (refused.Couplings e) wider h = (wider roles.Couplings h.0, h.1)
 of-file-wider fetches more (refused.Checkpoint e) wider h = (wider roles.Checkpoint h.0, h.1)
 of-file-wider fetches more (refused.Report e) wider h = h
+of-file-wider fetches more (refused.SecondCheckpoint e) wider h = (wider roles.SecondCheckpoint h.0, h.1)

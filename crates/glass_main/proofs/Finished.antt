@@ -6,7 +6,7 @@ use Rattle.glass_edges.specs.Contents.{Placed}
 use Rattle.glass_engine.specs.Runs.{RunView, DoneView}
 use Rattle.glass_main.specs.Beginnings.{Beginning}
 use Rattle.glass_main.specs.Outside.{Store}
-use Rattle.glass_main.specs.Request.{Work, PlainWork, CheckWork, RunWork, BanksWork, AverageWork, DemoWork, LinesWork, PottsWork, AgeWork, MeasureWork, Gives}
+use Rattle.glass_main.specs.Request.{Work, PlainWork, CheckWork, RunWork, BanksWork, AverageWork, DemoWork, LinesWork, PottsWork, AgeWork, MeasureWork, CrossWork, Gives}
 use Rattle.glass_main.specs.Statuses.{Saved}
 use Rattle.glass_main.specs.Stops.{RunGives}
 use Rattle.glass_main.specs.declared.planned.Planned.{Planned}
@@ -31,6 +31,7 @@ gives-weaker (LinesWork saved) P Q so g = so _ _ g
 gives-weaker (PottsWork order) P Q so g = so _ _ g
 gives-weaker (AgeWork planned wait times) P Q so g = so _ _ g
 gives-weaker (MeasureWork planned starts until) P Q so g = (g.0, so _ _ g.1)
+gives-weaker (CrossWork crossed) P Q so g = so _ _ g
 
 pub saved-as : (name : Option (List ℕ)) (held holds : Store) (bytes given : List ℕ) → (name ≢ None → bytes ≡ given) → Saved name bytes held holds → Saved name given held holds
 saved-as None held holds bytes given is saved = saved

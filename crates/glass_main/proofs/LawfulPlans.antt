@@ -33,9 +33,9 @@ use Rattle.threshold_table.specs.declared.rule_table.RuleKind.{RuleKind}
 use Rattle.threshold_table.proofs.Lawful.{found-lawful}
 use Rattle.threshold_table.proofs.Readings.{rule-lawful}
 use Rattle.toml.specs.Data.{Members}
-use Rattle.glass_main.specs.LawfulRequests.{IsLawfulPlanned, AreLawfulBanks, AreLawfulPlans}
+use Rattle.glass_main.specs.LawfulRequests.{IsLawfulPlanned, AreLawfulBanks, AreLawfulPlans, AreLawfulBanked}
 use Rattle.glass_main.specs.ManyBanks.{PlannedBanks, bank_count, bank_plans}
-use Rattle.glass_main.specs.Request.{and_then, told_as, bytes_at, banked, run_file_at, rules_at, swaps_at, couplings_from, couplings_at, plan_after_rules, plan_after_file, plan_at, bonds_in, stored_at, banks_by, banks_after_tables, banks_after_rules, banks_after_file, plans_after_file, plans_at}
+use Rattle.glass_main.specs.Request.{and_then, told_as, bytes_at, banked, run_file_at, rules_at, swaps_at, couplings_from, couplings_at, plan_after_rules, plan_after_file, plan_at, bonds_in, stored_at, banks_by, banks_after_tables, banks_after_rules, banks_after_file, plans_after_file, plans_at, cross_plans_at}
 use Rattle.glass_main.specs.declared.planned.Planned.{Planned}
 use Rattle.glass_main.specs.declared.plans.Plans.{Plans}
 use Rattle.glass_main.specs.declared.plans.Plans.TheVariants.{One, Banks}
@@ -245,3 +245,40 @@ unfolding plans_at plans_after_file
 plans-lawful many name files plans is =
     let file = stepped (run_file_at many name files) (λ file. plans_after_file file files) plans is in
     by-samples file.0 files plans (nat_le file.0.orders.samples 64) refl (file-read many name files file.0 file.1).0 file.2
+
+-- ---- two states
+
+states-lawful : (file : RunFile) (rules : RuleView) (swaps : List (List ℕ)) (given : Result (ℕ → Bonds) CouplingsRefused) (planned : PlannedBanks)
+    → IsLawfulRunFile file → AreTables rules swaps → banks_by file rules swaps given ≡ Ok planned → AreLawfulBanked planned
+unfolding bank_plans
+states-lawful file rules swaps (Ok bonds) planned lawful tables is =
+    let make : ℕ → Plan = λ g. plan_with file rules swaps (couplings_with file.lattice (bank_of g bonds)) in
+    let n = bank_count file.orders.samples in
+    let plans = table make n in
+    let shape = all-shape file rules swaps (Ok bonds) n plans refl in
+    let made : PlannedBanks = record { plans = plans; orders = file.orders } in
+    let own : AreLawfulBanked made = record {
+      plans = all-table IsLawfulPlan make n (λ g within. plan-lawful file rules swaps (bank_of g bonds) lawful tables);
+      shape = record { size = file.lattice; slots = length rules.rows; shape = shape.0 };
+      count = shape.1;
+      orders = lawful.orders;
+    } in
+    subst AreLawfulBanked (same-ok made planned is) own
+states-lawful file rules swaps (Err e) planned lawful tables is = absurd cc
+
+states-read : (file : RunFile) (files : Files) (planned : PlannedBanks) → IsLawfulRunFile file → banks_after_file file files ≡ Ok planned → AreLawfulBanked planned
+unfolding banks_after_file banks_after_rules banks_after_tables
+states-read file files planned lawful is =
+    let r = stepped (rules_at file files) (λ rules. banks_after_rules file rules files) planned is in
+    let s = stepped (swaps_at file r.0 files) (λ swaps. banks_after_tables file r.0 swaps files) planned r.2 in
+    let given : List ℕ → Result (ℕ → Bonds) CouplingsRefused = λ bytes. bonds_in file.couplings file.lattice file.seed bytes in
+    let b = stepped (stored_at file.couplings files) (λ bytes. told_as refused.Couplings (banks_by file r.0 s.0 (given bytes))) planned s.2 in
+    states-lawful file r.0 s.0 (given b.0) planned lawful (tables-read file files r.0 s.0 r.1 s.1)
+    (told-ok refused.Couplings (banks_by file r.0 s.0 (given b.0)) planned b.2)
+
+-- the plans of two states
+pub crossed-lawful : (name : List ℕ) (files : Files) (planned : PlannedBanks) → cross_plans_at name files ≡ Ok planned → AreLawfulBanked planned
+unfolding cross_plans_at
+crossed-lawful name files planned is =
+    let file = stepped (run_file_at true name files) (λ file. banks_after_file file files) planned is in
+    states-read file.0 files planned (file-read true name files file.0 file.1).0 file.2

@@ -12,12 +12,14 @@ use Rattle.run_plan.specs.Amounts.{amount_refusal}
 use Rattle.scalar_rule.specs.declared.sample.Sample.{Sample}
 use Rattle.glass_main.specs.Beginnings.{Beginning, Level, Uneven, opened_by, begins_at, resumed_by}
 use Rattle.glass_main.specs.CheckpointBytes.{AreBytes, ResumesBytes, ReadsBytes}
-use Rattle.command_words.specs.CommandLine.{LinesOrder, Command, Plain, Check, Run, Average, Demo, Lines, Potts, Age, Measure, command_of}
+use Rattle.command_words.specs.CommandLine.{LinesOrder, Command, Plain, Check, Run, Average, Demo, Lines, Potts, Age, Measure, Cross, command_of}
 use Rattle.command_words.specs.MeasureWords.{MeasureOrder, run_to_measure}
 use Rattle.glass_main.specs.LawfulRequests.{IsLawfulPlanned, AreLawfulBanks, AreLawfulPlans, AreLawfulBanked, IsLawfulRun, IsLawfulRunOfBanks, IsLawfulMeasuring, IsLawfulWork}
+use Rattle.command_words.specs.CrossWords.{CrossOrder}
+use Rattle.glass_main.specs.CrossRun.{CrossedStates, seeded}
 use Rattle.glass_main.specs.ManyBanks.{PlannedBanks, banks_opened_by, banks_resumed_by, starts_at, banks_amount_refusal}
 use Rattle.glass_main.specs.MeasureRun.{banks_of, level_resumed_by}
-use Rattle.glass_main.specs.Request.{Work, CheckWork, RunWork, BanksWork, AverageWork, LinesWork, AgeWork, MeasureWork, banked_at, level_beginning_at, measured_until, measure_from, measure_at, and_then, told_as, bytes_in, bytes_at, plan_at, plans_at, read_at, beginning_at, banks_beginning_at, run_work, banks_work, until_of, run_from, banks_from, run_of, run_at, has_banks, averages_at, stand_at, saved_at, request_for, request}
+use Rattle.glass_main.specs.Request.{Work, CheckWork, RunWork, BanksWork, AverageWork, LinesWork, AgeWork, MeasureWork, banked_at, level_beginning_at, measured_until, measure_from, measure_at, CrossWork, cross_plans_at, first_at, second_at, crossed_after, crossed_at, and_then, told_as, bytes_in, bytes_at, plan_at, plans_at, read_at, beginning_at, banks_beginning_at, run_work, banks_work, until_of, run_from, banks_from, run_of, run_at, has_banks, averages_at, stand_at, saved_at, request_for, request}
 use Rattle.command_words.specs.RunWords.{RunOrder, Until, MaySay, values_in}
 use Rattle.glass_main.specs.StopLaws.{IsEncodingOf, IsBeginning, reached_by}
 use Rattle.glass_main.specs.ResumeLaws.{AreBeginnings}
@@ -31,7 +33,7 @@ use Rattle.glass_main.specs.declared.role.Role.TheVariants as roles
 use Rattle.glass_main.specs.declared.refusal.Refusal.{Refusal}
 use Rattle.glass_main.specs.declared.refusal.Refusal.TheVariants as refused
 use Rattle.glass_main.proofs.BanksGoOn.{banks-at, first-at, opened-at}
-use Rattle.glass_main.proofs.LawfulPlans.{told-ok, one-lawful, plans-lawful}
+use Rattle.glass_main.proofs.LawfulPlans.{told-ok, one-lawful, plans-lawful, crossed-lawful}
 use Rattle.glass_main.proofs.LevelStarts.{banked-lawful, some-plans, accepted-level}
 use Rattle.glass_main.proofs.OneOfBanks.{stepped, same-ok}
 use Rattle.glass_main.proofs.ReadBytes.{held-is}
@@ -204,6 +206,15 @@ lines-lawful order files saved is =
     let b = stepped (stand_at p.0.plan order.checkpoint files) (λ base. Ok (made p.0 base)) saved p.2 in
     subst (λ (s : SavedState). IsLawfulPlanned s.planned) (same-ok (made p.0 b.0) saved b.2) (one-lawful order.run files p.0 p.1)
 
+crossed-states-lawful : (order : CrossOrder) (files : Files) (crossed : CrossedStates) → crossed_at order files ≡ Ok crossed → AreLawfulBanked crossed.planned
+unfolding crossed_at crossed_after
+crossed-states-lawful order files crossed is =
+    let made : PlannedBanks → List Stand → List Stand → CrossedStates = λ planned first second. record { planned = planned; seed = order.seed; first = first; second = second } in
+    let p = stepped (cross_plans_at order.run files) (λ planned. crossed_after order planned files) crossed is in
+    let f = stepped (first_at p.0.plans order.first files) (λ first. and_then (second_at (seeded order.seed p.0.plans) order.second files) (λ second. Ok (made p.0 first second))) crossed p.2 in
+    let s = stepped (second_at (seeded order.seed p.0.plans) order.second files) (λ second. Ok (made p.0 f.0 second)) crossed f.2 in
+    subst (λ (c : CrossedStates). AreLawfulBanked c.planned) (same-ok (made p.0 f.0 s.0) crossed s.2) (crossed-lawful order.run files p.0 p.1)
+
 asked-lawful : (words : List (List ℕ)) (command : Option Command) (held : Option Files) → command_of words ≡ command → ReadsBytes command held
     → IfSome (request_for command held) (λ asked. IfOk asked IsLawfulWork)
 asked-lawful words None held is bytes = tt
@@ -240,6 +251,11 @@ asked-lawful words (Some (Measure order)) (Some files) is bytes =
     if-done (measure_at order files)
     (λ work made. let p = stepped (banked_at order.run files) (λ planned. measure_from order planned files) work made in
     measure-lawful order files p.0 work (measure-short words order is) bytes (banked-read order.run files p.0 p.1) p.2)
+asked-lawful words (Some (Cross order)) None is bytes = tt
+asked-lawful words (Some (Cross order)) (Some files) is bytes =
+    if-done (and_then (crossed_at order files) (λ crossed. Ok (CrossWork crossed)))
+    (λ work made. let c = stepped (crossed_at order files) (λ crossed. Ok (CrossWork crossed)) work made in
+    subst IsLawfulWork (same-ok (CrossWork c.0) work c.2) (crossed-states-lawful order files c.0 c.1))
 
 -- whatever the words and the files are, where the checkpoint that is read has bytes
 pub request-lawful : (words : List (List ℕ)) (held : Option Files) → ReadsBytes (command_of words) held → IfSome (request words held) (λ asked. IfOk asked IsLawfulWork)

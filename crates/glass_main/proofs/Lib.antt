@@ -17,6 +17,9 @@ pub mod ReadStops
 pub mod ReadRuns
 pub mod BanksGoOn
 pub mod SavedStates
+pub mod CrossedStates
+pub mod CrossedPlans
+pub mod CrossedSteps
 pub mod Reports
 pub mod BankedFiles
 pub mod BankPlans

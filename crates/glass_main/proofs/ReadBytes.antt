@@ -59,6 +59,7 @@ role-some roles.SwapTable is = omega (arith, is)
 role-some roles.Couplings is = omega (arith, is)
 role-some roles.Checkpoint is = omega (arith, is)
 role-some roles.Report is = omega (arith, is)
+role-some roles.SecondCheckpoint is = omega (arith, is)
 
 refusal-some : (told : Refusal) → refusal_status told ≡ 0 → ⊥
 refusal-some refused.Words is = omega (arith, is)
@@ -70,6 +71,7 @@ refusal-some (refused.Swaps e) is = omega (arith, is)
 refusal-some (refused.Couplings e) is = omega (arith, is)
 refusal-some (refused.Checkpoint e) is = omega (arith, is)
 refusal-some (refused.Report e) is = omega (arith, is)
+refusal-some (refused.SecondCheckpoint e) is = omega (arith, is)
 
 pub done-of : (ending : Ending) → status_of ending ≡ 0 → ending ≡ Done
 done-of Done is = refl

@@ -36,6 +36,7 @@ amount-tells held lengths (refused.Swaps e) h = tt
 amount-tells held lengths (refused.Couplings e) h = tt
 amount-tells held lengths (refused.Checkpoint e) h = tt
 amount-tells held lengths (refused.Report e) h = tt
+amount-tells held lengths (refused.SecondCheckpoint e) h = tt
 
 -- a checkpoint is no run file
 pub no-run-file : (name : Option (List ℕ)) → FetchesCheckpoint name roles.RunFile → ⊥

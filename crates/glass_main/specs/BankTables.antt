@@ -25,6 +25,19 @@ abbrev pub swaps_read : Result ReadSwaps Ending → Result (List (List ℕ)) End
 swaps_read (Ok read) = Ok read.swaps
 swaps_read (Err ending) = Err ending
 
+-- a run file with another seed
+abbrev pub file_with_seed : ℕ → RunFile → RunFile
+file_with_seed seed file = record {
+  lattice = file.lattice;
+  kind = file.kind;
+  rules = file.rules;
+  swaps = file.swaps;
+  couplings = file.couplings;
+  sweeps = file.sweeps;
+  seed = seed;
+  orders = file.orders;
+}
+
 -- a bank's couplings, where J of each sample is given or refused
 abbrev pub couplings_by : ℕ → ℕ → Result (ℕ → Bonds) CouplingsRefused → Result CouplingsView CouplingsRefused
 couplings_by l g (Ok bonds) = Ok (couplings_with l (bank_of g bonds))

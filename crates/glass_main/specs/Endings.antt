@@ -25,9 +25,12 @@ use Rattle.sample_average.specs.declared.refused.ReportRefused.TheVariants as re
 use Rattle.scalar_rule.specs.Plan as rule
 use Rattle.command_words.specs.RunWords.{RunOrder}
 use Rattle.command_words.specs.MeasureWords.{run_to_measure}
-use Rattle.command_words.specs.CommandLine.{Command, Plain, Check, Run, Average, Demo, Lines, Potts, Age, Measure}
+use Rattle.command_words.specs.CommandLine.{Command, Plain, Check, Run, Average, Demo, Lines, Potts, Age, Measure, Cross}
 use Rattle.glass_main.specs.MeasureRun.{level_banks_refusal}
-use Rattle.glass_main.specs.Request.{limit_of, and_then, banked, IsAccepted, run_file_at, rules_at, swaps_at, tables_at, plan_at, plans_at, has_banks}
+use Rattle.glass_main.specs.Request.{limit_of, and_then, banked, IsAccepted, run_file_at, rules_at, swaps_at, tables_at, plan_at, plans_at, has_banks, cross_plans_at, first_at}
+use Rattle.command_words.specs.CrossWords.{CrossOrder}
+use Rattle.glass_main.specs.CrossRun.{states_decoded}
+use Rattle.glass_main.specs.ManyBanks.{PlannedBanks}
 use Rattle.glass_main.specs.declared.role.Role.{Role}
 use Rattle.glass_main.specs.declared.role.Role.TheVariants as roles
 use Rattle.glass_main.specs.declared.refusal.Refusal.{Refusal}
@@ -79,6 +82,7 @@ IsOfFile fetches (refused.Swaps e) = fetches roles.SwapTable × IsOfSwaps e
 IsOfFile fetches (refused.Couplings e) = fetches roles.Couplings × IsOfCouplings e
 IsOfFile fetches (refused.Checkpoint e) = fetches roles.Checkpoint × IsOfCheckpoint e
 IsOfFile fetches (refused.Report e) = ⊥
+IsOfFile fetches (refused.SecondCheckpoint e) = fetches roles.SecondCheckpoint × IsOfCheckpoint e
 
 -- a refusal of a report, of which averages in so many blocks are asked for
 abbrev pub IsOfAverages : ℕ → Refusal → Type 0
@@ -101,6 +105,12 @@ IsOfOneEpoch told = Unit {0}
 abbrev pub IsOfLevel : Refusal → Type 0
 IsOfLevel (refused.Checkpoint e) = (plans : List rule.Plan) × (until : ℕ) × (bytes : List ℕ) × (level_banks_refusal plans until bytes ≡ Some e)
 IsOfLevel told = Unit {0}
+
+-- of the checkpoint of a state at one epoch, of one bank or of several: some bytes are refused so, for some plans
+abbrev pub IsOfStates : Refusal → Type 0
+IsOfStates (refused.Checkpoint e) = (plans : List rule.Plan) × (bytes : List ℕ) × (states_decoded plans bytes ≡ Err e)
+IsOfStates (refused.SecondCheckpoint e) = (plans : List rule.Plan) × (bytes : List ℕ) × (states_decoded plans bytes ≡ Err e)
+IsOfStates told = Unit {0}
 
 -- a length that is told is of a file that the store holds: that file is at least so long, where the files are observable. Where the store
 -- says beforehand which length a fetch of that file tells, it is that one
@@ -131,6 +141,7 @@ IsReachedAfterRules file rules held roles.SwapTable = Unit {0}
 IsReachedAfterRules file rules held roles.Report = ⊥
 IsReachedAfterRules file rules held roles.Couplings = IfSome (option_map (swaps_at file rules) held) IsAccepted
 IsReachedAfterRules file rules held roles.Checkpoint = ⊥
+IsReachedAfterRules file rules held roles.SecondCheckpoint = ⊥
 
 -- which tables and couplings of a run file
 abbrev pub IsReachedAfter : RunFile → Option Files → Role → Type 0
@@ -140,6 +151,7 @@ IsReachedAfter file held roles.SwapTable = IfSome (option_map (rules_at file) he
 IsReachedAfter file held roles.Report = ⊥
 IsReachedAfter file held roles.Couplings = IfSome (option_map (tables_at file) held) IsAccepted
 IsReachedAfter file held roles.Checkpoint = ⊥
+IsReachedAfter file held roles.SecondCheckpoint = ⊥
 
 -- which files from a run file's name on, for a command that runs many banks or but one
 abbrev pub IsReached : Bool → List ℕ → Option Files → Role → Type 0
@@ -151,6 +163,7 @@ IsReached many name held roles.Report = ⊥
 IsReached many name held roles.Couplings =
     IfSome (option_map (λ files. and_then (run_file_at many name files) (λ file. tables_at file files)) held) IsAccepted
 IsReached many name held roles.Checkpoint = ⊥
+IsReached many name held roles.SecondCheckpoint = ⊥
 
 -- the checkpoint, where one is named
 pub record FetchesCheckpoint (name : Option (List ℕ)) (role : Role) : Type 0 where
@@ -167,6 +180,23 @@ abbrev pub IsReachedSaved : List ℕ → Option Files → Role → Type 0
 IsReachedSaved name held roles.Checkpoint = IfSome (option_map (plan_at name) held) IsAccepted
 IsReachedSaved name held role = IsReached false name held role
 
+-- which checkpoints of two states whose plans are read: the second one behind the first
+abbrev pub IsReachedStates : CrossOrder → PlannedBanks → Option Files → Role → Type 0
+IsReachedStates order planned held roles.RunFile = ⊥
+IsReachedStates order planned held roles.RuleTable = ⊥
+IsReachedStates order planned held roles.SwapTable = ⊥
+IsReachedStates order planned held roles.Couplings = ⊥
+IsReachedStates order planned held roles.Checkpoint = Unit {0}
+IsReachedStates order planned held roles.Report = ⊥
+IsReachedStates order planned held roles.SecondCheckpoint = IfSome (option_map (first_at planned.plans order.first) held) IsAccepted
+
+-- and which files before them
+abbrev pub IsReachedCrossed : CrossOrder → Option Files → Role → Type 0
+IsReachedCrossed order held roles.Checkpoint = IfSome (option_map (cross_plans_at order.run) held) IsAccepted
+IsReachedCrossed order held roles.SecondCheckpoint =
+    IfSome (option_map (λ files. and_then (cross_plans_at order.run files) (λ planned. first_at planned.plans order.first files)) held) IsAccepted
+IsReachedCrossed order held role = IsReached true order.run held role
+
 -- ---- commands
 
 -- the files that a command fetches, at which the store may fail: `plain`, `demo` and `potts` fetch none
@@ -180,10 +210,11 @@ MayFetch (Lines order) held role = IsReachedSaved order.run held role
 MayFetch (Potts order) held role = ⊥
 MayFetch (Age order) held role = IsReached false order.run held role
 MayFetch (Measure order) held role = IsReached true order.run held role ⊎ IsResumed (run_to_measure order) held role
+MayFetch (Cross order) held role = IsReachedCrossed order held role
 
--- what a command may be refused for: `plain`, `demo` and `potts` read no file, and are never refused; `check`, `lines`, `age`, `measure` and a
--- run are for a file that they fetch, of which no step before refuses; no amount is asked for but by a run; `lines` and `measure` read a
--- checkpoint at one epoch alone; `check`, `measure`, and a run that isn't to stop between epochs, take many banks
+-- what a command may be refused for: `plain`, `demo` and `potts` read no file, and are never refused; `check`, `lines`, `age`, `measure`,
+-- `cross` and a run are for a file that they fetch, of which no step before refuses; no amount is asked for but by a run; `lines`, `measure`
+-- and `cross` read checkpoints at one epoch alone; `check`, `measure`, `cross`, and a run that isn't to stop between epochs, take many banks
 abbrev pub MayRefuse : Command → Option Files → Refusal → Type 0
 MayRefuse (Plain order) held told = ⊥
 MayRefuse (Check name) held told = IsOfFile (MayFetch (Check name) held) told × IsOfBanked true told
@@ -194,6 +225,7 @@ MayRefuse (Lines order) held told = IsOfFile (MayFetch (Lines order) held) told 
 MayRefuse (Potts order) held told = ⊥
 MayRefuse (Age order) held told = IsOfFile (MayFetch (Age order) held) told
 MayRefuse (Measure order) held told = IsOfFile (MayFetch (Measure order) held) told × IsOfBanked true told × IsOfLevel told
+MayRefuse (Cross order) held told = IsOfFile (MayFetch (Cross order) held) told × IsOfBanked true told × IsOfStates told
 
 -- the commands that may fail at their checkpoint: runs that save one, also where they are measured
 abbrev pub MaySave : Command → Type 0
@@ -206,6 +238,7 @@ MaySave (Lines order) = ⊥
 MaySave (Potts order) = ⊥
 MaySave (Age order) = ⊥
 MaySave (Measure order) = order.save ≢ None
+MaySave (Cross order) = ⊥
 
 -- how a command may end, where the store holds these files
 abbrev pub MayEnd : Command → Option Files → Ending → Type 0
@@ -228,6 +261,7 @@ ReadsNoFile (Some (Lines order)) = ⊥
 ReadsNoFile (Some (Potts order)) = Unit {0}
 ReadsNoFile (Some (Age order)) = ⊥
 ReadsNoFile (Some (Measure order)) = ⊥
+ReadsNoFile (Some (Cross order)) = ⊥
 
 -- words that are no command are refused as such, and no others
 abbrev pub Reads : Option Command → Option Files → Ending → Type 0

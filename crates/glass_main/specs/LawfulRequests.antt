@@ -8,7 +8,7 @@ use Rattle.scalar_rule.specs.declared.sample.Sample.{Sample}
 use Rattle.spin_model.specs.Limits.{last_epoch}
 use Rattle.glass_main.specs.Beginnings.{Beginning, begins_at}
 use Rattle.glass_main.specs.ManyBanks.{PlannedBanks, bank_count, starts_at, banks_amount_refusal}
-use Rattle.glass_main.specs.Request.{Work, PlainWork, CheckWork, RunWork, BanksWork, AverageWork, DemoWork, LinesWork, PottsWork, AgeWork, MeasureWork}
+use Rattle.glass_main.specs.Request.{Work, PlainWork, CheckWork, RunWork, BanksWork, AverageWork, DemoWork, LinesWork, PottsWork, AgeWork, MeasureWork, CrossWork}
 use Rattle.glass_main.specs.ResumeLaws.{AreBankPlans, AreBeginnings}
 use Rattle.glass_main.specs.StopLaws.{IsBeginning, reached_by}
 use Rattle.glass_main.specs.declared.planned.Planned.{Planned}
@@ -80,3 +80,4 @@ IsLawfulWork (LinesWork saved) = IsLawfulPlanned saved.planned
 IsLawfulWork (PottsWork order) = Unit {0}
 IsLawfulWork (AgeWork planned wait times) = IsLawfulPlanned planned
 IsLawfulWork (MeasureWork planned starts until) = IsLawfulMeasuring planned starts until
+IsLawfulWork (CrossWork crossed) = AreLawfulBanked crossed.planned

@@ -4,6 +4,7 @@ pub mod PottsRun
 pub mod AgeRun
 pub mod ManyBanks
 pub mod MeasureRun
+pub mod CrossRun
 pub mod Beginnings
 pub mod Stops
 pub mod Outside
@@ -22,6 +23,7 @@ pub mod NamedStarts
 pub mod KeptPlans
 pub mod Gathers
 pub mod BankTables
+pub mod CrossedPlans
 pub mod Resumes
 pub mod KeptMeasure
 pub mod Opened

@@ -16,7 +16,7 @@ use Rattle.sample_average.specs.declared.refused.ReportRefused.TheVariants as re
 use Rattle.glass_main.specs.declared.role.Role.{Role}
 use Rattle.glass_main.specs.declared.role.Role.TheVariants as roles
 use Rattle.glass_main.specs.declared.refusal.Refusal.{Refusal}
-use Rattle.glass_main.specs.declared.refusal.Refusal.TheVariants.{Words, Absent, TooLong, Plan, Rules, Swaps, Couplings, Checkpoint, Report}
+use Rattle.glass_main.specs.declared.refusal.Refusal.TheVariants.{Words, Absent, TooLong, Plan, Rules, Swaps, Couplings, Checkpoint, Report, SecondCheckpoint}
 use Rattle.glass_main.specs.declared.ending.Ending.{Ending}
 use Rattle.glass_main.specs.declared.ending.Ending.TheVariants.{Done, Refused, Unread, Unwritten, Unsaved, NoMemory}
 
@@ -28,6 +28,7 @@ role_name roles.SwapTable = codes "swap table"
 role_name roles.Couplings = codes "couplings file"
 role_name roles.Checkpoint = codes "checkpoint"
 role_name roles.Report = codes "report"
+role_name roles.SecondCheckpoint = codes "second checkpoint"
 
 unfoldable pub memory_line : List ℕ
 memory_line = codes "glass: no memory\n"
@@ -82,33 +83,33 @@ couplings_line (couplings.Digest stored computed) =
     file_front roles.Couplings ++ codes " is damaged: " ++ encode_lower stored ++ codes " stored, " ++ encode_lower computed ++ codes " computed\n"
 couplings_line couplings.NoMemory = memory_line
 
--- why a checkpoint was refused
-unfoldable pub checkpoint_line : CheckpointRefused → List ℕ
-checkpoint_line (checkpoint.Short len) = file_front roles.Checkpoint ++ codes " is too short: " ++ decimal len ++ codes " bytes\n"
-checkpoint_line checkpoint.Magic = file_front roles.Checkpoint ++ codes " is of another kind\n"
-checkpoint_line (checkpoint.Shape size slots) =
-    file_front roles.Checkpoint ++ codes " has size " ++ decimal size ++ codes " and " ++ decimal slots ++ codes " slots\n"
-checkpoint_line (checkpoint.Length found wanted) =
-    file_front roles.Checkpoint ++ codes " has " ++ decimal found ++ codes " bytes, not " ++ decimal wanted ++ codes "\n"
-checkpoint_line (checkpoint.Digest stored computed) =
-    file_front roles.Checkpoint ++ codes " is damaged: " ++ encode_lower stored ++ codes " stored, " ++ encode_lower computed ++ codes " computed\n"
-checkpoint_line (checkpoint.OtherPlan stored mine) =
-    file_front roles.Checkpoint ++ codes " is of another plan: " ++ encode_lower stored ++ codes " stored, " ++ encode_lower mine ++ codes " here\n"
-checkpoint_line (checkpoint.Replicas slot copy sample) =
-    file_front roles.Checkpoint ++ codes " has a wrong replica at slot " ++ decimal slot ++ codes ", copy " ++ decimal copy
+-- why a checkpoint was refused, that of this role
+unfoldable pub checkpoint_line : Role → CheckpointRefused → List ℕ
+checkpoint_line role (checkpoint.Short len) = file_front role ++ codes " is too short: " ++ decimal len ++ codes " bytes\n"
+checkpoint_line role checkpoint.Magic = file_front role ++ codes " is of another kind\n"
+checkpoint_line role (checkpoint.Shape size slots) =
+    file_front role ++ codes " has size " ++ decimal size ++ codes " and " ++ decimal slots ++ codes " slots\n"
+checkpoint_line role (checkpoint.Length found wanted) =
+    file_front role ++ codes " has " ++ decimal found ++ codes " bytes, not " ++ decimal wanted ++ codes "\n"
+checkpoint_line role (checkpoint.Digest stored computed) =
+    file_front role ++ codes " is damaged: " ++ encode_lower stored ++ codes " stored, " ++ encode_lower computed ++ codes " computed\n"
+checkpoint_line role (checkpoint.OtherPlan stored mine) =
+    file_front role ++ codes " is of another plan: " ++ encode_lower stored ++ codes " stored, " ++ encode_lower mine ++ codes " here\n"
+checkpoint_line role (checkpoint.Replicas slot copy sample) =
+    file_front role ++ codes " has a wrong replica at slot " ++ decimal slot ++ codes ", copy " ++ decimal copy
     ++ codes ", sample " ++ decimal sample ++ codes "\n"
-checkpoint_line (checkpoint.Late epoch until) =
-    file_front roles.Checkpoint ++ codes " is at epoch " ++ decimal epoch ++ codes ", past " ++ decimal until ++ codes "\n"
-checkpoint_line checkpoint.NoMemory = memory_line
-checkpoint_line (checkpoint.Places slot) = file_front roles.Checkpoint ++ codes " has a wrong place at slot " ++ decimal slot ++ codes "\n"
-checkpoint_line (checkpoint.Orders samples every) =
-    file_front roles.Checkpoint ++ codes " is of samples=" ++ decimal samples ++ codes " every=" ++ decimal every ++ codes "\n"
-checkpoint_line (checkpoint.Pending found wanted) =
-    file_front roles.Checkpoint ++ codes " has " ++ decimal found ++ codes " pending records, not " ++ decimal wanted ++ codes "\n"
-checkpoint_line (checkpoint.BankCount found wanted) =
-    file_front roles.Checkpoint ++ codes " has " ++ decimal found ++ codes " banks, not " ++ decimal wanted ++ codes "\n"
-checkpoint_line (checkpoint.BankEpoch bank epoch first) =
-    file_front roles.Checkpoint ++ codes " has bank " ++ decimal bank ++ codes " at epoch " ++ decimal epoch ++ codes ", not " ++ decimal first ++ codes "\n"
+checkpoint_line role (checkpoint.Late epoch until) =
+    file_front role ++ codes " is at epoch " ++ decimal epoch ++ codes ", past " ++ decimal until ++ codes "\n"
+checkpoint_line role checkpoint.NoMemory = memory_line
+checkpoint_line role (checkpoint.Places slot) = file_front role ++ codes " has a wrong place at slot " ++ decimal slot ++ codes "\n"
+checkpoint_line role (checkpoint.Orders samples every) =
+    file_front role ++ codes " is of samples=" ++ decimal samples ++ codes " every=" ++ decimal every ++ codes "\n"
+checkpoint_line role (checkpoint.Pending found wanted) =
+    file_front role ++ codes " has " ++ decimal found ++ codes " pending records, not " ++ decimal wanted ++ codes "\n"
+checkpoint_line role (checkpoint.BankCount found wanted) =
+    file_front role ++ codes " has " ++ decimal found ++ codes " banks, not " ++ decimal wanted ++ codes "\n"
+checkpoint_line role (checkpoint.BankEpoch bank epoch first) =
+    file_front role ++ codes " has bank " ++ decimal bank ++ codes " at epoch " ++ decimal epoch ++ codes ", not " ++ decimal first ++ codes "\n"
 
 -- why a report was refused
 unfoldable pub report_line : ReportRefused → List ℕ
@@ -125,8 +126,9 @@ refusal_line (Plan refused) = plan_line refused
 refusal_line (Rules refused) = table_line roles.RuleTable refused
 refusal_line (Swaps refused) = table_line roles.SwapTable refused
 refusal_line (Couplings refused) = couplings_line refused
-refusal_line (Checkpoint refused) = checkpoint_line refused
+refusal_line (Checkpoint refused) = checkpoint_line roles.Checkpoint refused
 refusal_line (Report refused) = report_line refused
+refusal_line (SecondCheckpoint refused) = checkpoint_line roles.SecondCheckpoint refused
 refusal_line (Absent role) = file_front role ++ codes " is not held\n"
 
 -- the line of an ending

@@ -30,13 +30,15 @@ use Rattle.sample_average.specs.Averages.{AveragesView, averages_text}
 use Rattle.sample_average.specs.ReadReport.{averages_in, most_report_bytes}
 use Rattle.command_words.specs.RunWords.{RunOrder}
 use Rattle.command_words.specs.MeasureWords.{MeasureOrder, run_to_measure}
-use Rattle.command_words.specs.CommandLine.{PlainOrder, AverageOrder, LinesOrder, Command, Plain, Check, Run, Average, Demo, Lines, Potts, Age, Measure, command_of}
+use Rattle.command_words.specs.CommandLine.{PlainOrder, AverageOrder, LinesOrder, Command, Plain, Check, Run, Average, Demo, Lines, Potts, Age, Measure, Cross, command_of}
+use Rattle.command_words.specs.CrossWords.{CrossOrder}
 use Rattle.glass_main.specs.PottsRun.{potts_report}
 use Rattle.command_words.specs.PottsWords.{PottsOrder}
 use Rattle.glass_main.specs.AgeRun.{age_text}
 use Rattle.glass_main.specs.Beginnings.{Beginning, opened_by, resumed_by, begins_at}
 use Rattle.glass_main.specs.ManyBanks.{PlannedBanks, bank_count, bank_plans, banks_opened_by, banks_resumed_by, starts_at, banks_amount_refusal, banks_text, banks_at, banks_bytes}
 use Rattle.glass_main.specs.MeasureRun.{banks_of, level_resumed_by, measured_text, measured_bytes}
+use Rattle.glass_main.specs.CrossRun.{CrossedStates, crossed_text, seeded, states_decoded}
 use Rattle.glass_main.specs.Stops.{RunGives}
 use Rattle.glass_main.specs.Texts.{plain_text, check_text, demo_text, saved_text}
 use Rattle.glass_main.specs.declared.planned.Planned.{Planned}
@@ -62,6 +64,7 @@ pub data Work : Type 0 where
   PottsWork : PottsOrder → Work
   AgeWork : Planned → ℕ → List ℕ → Work
   MeasureWork : PlannedBanks → List (ℕ → Sample) → ℕ → Work
+  CrossWork : CrossedStates → Work
 
 -- what holds of the text that the work prints, and of the checkpoint that it saves where it is asked to; the states of a run's
 -- checkpoint fit, so that a run which goes on from it has them
@@ -78,6 +81,7 @@ Gives (PottsWork order) P = P (potts_report order) []
 Gives (AgeWork planned wait times) P = P (age_text planned wait times) []
 Gives (MeasureWork planned starts until) P =
     AreBanks until planned.plans (banks_at planned.plans starts until) × P (measured_text planned starts until) (measured_bytes planned starts until)
+Gives (CrossWork crossed) P = P (crossed_text crossed) []
 
 -- ---- steps
 
@@ -104,6 +108,7 @@ limit_of roles.SwapTable = 4194304
 limit_of roles.Couplings = 25165872
 limit_of roles.Checkpoint = longest_checkpoint
 limit_of roles.Report = most_report_bytes
+limit_of roles.SecondCheckpoint = longest_checkpoint
 
 -- the bytes of a file, unless the name isn't held or they are too many
 abbrev pub bytes_in : Role → Option (List ℕ) → Result (List ℕ) Refusal
@@ -310,6 +315,29 @@ saved_at order files =
     and_then (stand_at planned.plan order.checkpoint files) (λ base.
     Ok (record { planned = planned; base = base })))
 
+-- the plans of two saved states: that of each bank, also of the only one
+unfoldable pub cross_plans_at : List ℕ → Files → Result PlannedBanks Refusal
+cross_plans_at name files = and_then (run_file_at true name files) (λ file. banks_after_file file files)
+
+-- the states of the first checkpoint, and of the second one
+unfoldable pub first_at : List Plan → List ℕ → Files → Result (List Stand) Refusal
+first_at plans name files =
+    and_then (bytes_at roles.Checkpoint name files) (λ bytes. told_as refused.Checkpoint (states_decoded plans bytes))
+
+unfoldable pub second_at : List Plan → List ℕ → Files → Result (List Stand) Refusal
+second_at plans name files =
+    and_then (bytes_at roles.SecondCheckpoint name files) (λ bytes. told_as refused.SecondCheckpoint (states_decoded plans bytes))
+
+-- both, the second under the plans with its seed and all else the same
+unfoldable pub crossed_after : CrossOrder → PlannedBanks → Files → Result CrossedStates Refusal
+crossed_after order planned files =
+    and_then (first_at planned.plans order.first files) (λ first.
+    and_then (second_at (seeded order.seed planned.plans) order.second files) (λ second.
+    Ok (record { planned = planned; seed = order.seed; first = first; second = second })))
+
+unfoldable pub crossed_at : CrossOrder → Files → Result CrossedStates Refusal
+crossed_at order files = and_then (cross_plans_at order.run files) (λ planned. crossed_after order planned files)
+
 -- ---- requests
 
 -- what a command asks for; none where it depends on files that aren't observable
@@ -323,6 +351,7 @@ request_of (Lines order) files = option_map (λ held. and_then (saved_at order h
 request_of (Potts order) files = Some (Ok (PottsWork order))
 request_of (Age order) files = option_map (λ held. and_then (plan_at order.run held) (λ planned. Ok (AgeWork planned order.wait order.times))) files
 request_of (Measure order) files = option_map (measure_at order) files
+request_of (Cross order) files = option_map (λ held. and_then (crossed_at order held) (λ crossed. Ok (CrossWork crossed))) files
 
 -- the same of words that may be no command
 abbrev pub request_for : Option Command → Option Files → Option (Result Work Refusal)

@@ -8,9 +8,9 @@ use Rattle.glass_main.specs.Outside.{Output, Store}
 use Rattle.glass_main.specs.Request.{Work, limit_of, IsAccepted, Gives, GivesAsked, request_for}
 use Rattle.glass_main.specs.Lines.{line_of}
 use Rattle.glass_main.specs.declared.role.Role.{Role}
-use Rattle.glass_main.specs.declared.role.Role.TheVariants.{RunFile, RuleTable, SwapTable, Couplings as CouplingsFile, Checkpoint as CheckpointFile, Report as ReportFile}
+use Rattle.glass_main.specs.declared.role.Role.TheVariants.{RunFile, RuleTable, SwapTable, Couplings as CouplingsFile, Checkpoint as CheckpointFile, Report as ReportFile, SecondCheckpoint as SecondFile}
 use Rattle.glass_main.specs.declared.refusal.Refusal.{Refusal}
-use Rattle.glass_main.specs.declared.refusal.Refusal.TheVariants.{Words, Absent, TooLong, Plan, Rules, Swaps, Couplings, Checkpoint, Report}
+use Rattle.glass_main.specs.declared.refusal.Refusal.TheVariants.{Words, Absent, TooLong, Plan, Rules, Swaps, Couplings, Checkpoint, Report, SecondCheckpoint}
 use Rattle.glass_main.specs.declared.ending.Ending.{Ending}
 use Rattle.glass_main.specs.declared.ending.Ending.TheVariants.{Done, Refused, Unread, Unwritten, Unsaved, NoMemory}
 
@@ -24,6 +24,7 @@ role_status SwapTable = 4
 role_status CouplingsFile = 5
 role_status CheckpointFile = 6
 role_status ReportFile = 12
+role_status SecondFile = 6
 
 -- of a refusal
 abbrev pub refusal_status : Refusal → ℕ
@@ -36,6 +37,7 @@ refusal_status (Swaps refused) = 4
 refusal_status (Couplings refused) = 5
 refusal_status (Checkpoint refused) = 6
 refusal_status (Report refused) = 12
+refusal_status (SecondCheckpoint refused) = 6
 
 -- of an ending
 abbrev pub status_of : Ending → ℕ
@@ -60,6 +62,7 @@ IsTold (Swaps refused) told = told ≡ Swaps refused
 IsTold (Couplings refused) told = told ≡ Couplings refused
 IsTold (Checkpoint refused) told = told ≡ Checkpoint refused
 IsTold (Report refused) told = told ≡ Report refused
+IsTold (SecondCheckpoint refused) told = told ≡ SecondCheckpoint refused
 
 -- what is asked for is refused, and this is told
 abbrev pub IsRefusedBy : {A : Type 0} → Result A Refusal → Refusal → Type 0

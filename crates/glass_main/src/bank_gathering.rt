@@ -148,7 +148,7 @@ fn read_banks(
         (model.bonds_in file.now.couplings file.now.lattice file.now.seed stored.now)) }
     ensures cause { IfErr result (λ e. ¬ (e ≡ CouplingsRefused.NoMemory) → couplings_in file.now.lattice 0 stored.now ≡ Err e) }
 {
-    match plans_of(alloc, file, rules, swaps, stored) {
+    match plans_of(alloc, file, rules, swaps, stored, file.seed) {
         Ok(plans) => Ok(PlannedBanks {
             plans,
             orders: file.orders,
@@ -157,9 +157,9 @@ fn read_banks(
     }
 }
 
-// Fetches the couplings file that a source names; no bytes where it names none.
+/// Fetches the couplings file that a source names; no bytes where it names none.
 #[tactic(auto, unfolding(crate::specs::Request::stored_at))]
-fn gather_stored<H: Shelf>(
+pub(crate) fn gather_stored<H: Shelf>(
     alloc: Global,
     shelf: &mut H,
     source: &CouplingSource,

@@ -8,7 +8,7 @@ ghost use Rattle.run_plan.specs.PlanOf.{plan_with};
 ghost use Rattle.run_plan.specs.RunFile.{IsLawfulRunFile};
 ghost use Rattle.spin_model.specs.Couplings.{random};
 ghost use Rattle.threshold_table.specs.Tables.{rule_table, swap_table};
-ghost use Rattle.glass_main.specs.BankTables.{couplings_by, plan_by, plans_by};
+ghost use Rattle.glass_main.specs.BankTables.{couplings_by, file_with_seed, plan_by, plans_by};
 ghost use Rattle.glass_main.specs.ManyBanks.{bank_count};
 ghost use Rattle.glass_main.specs.Request as model;
 
@@ -22,27 +22,29 @@ use std::alloc::Global;
 use std::sync::Arc;
 use threshold_table::{RuleTable, SwapTable, read_rule, read_swap};
 
-/// The plan of each bank of a run file with these tables, by the bytes of the couplings file where one
-/// is named.
+/// The plan of each bank of a run file with these tables and this seed, by the bytes of the couplings file
+/// where one is named. Random couplings are those of the run file's own seed.
 pub(crate) fn plans_of(
     alloc: Global,
     file: &RunFile,
     rules: &ReadRules,
     swaps: &ReadSwaps,
     stored: &[u8],
+    seed: u64,
 ) -> Result<Vec<Arc<Plan, Global>>, CouplingsRefused>
     requires lawful { IsLawfulRunFile file.now }
+    requires seed { seed ≤ 9223372036854775807 }
     requires rules { rule_table file.now.kind rules.now.bytes ≡ Ok rules.now.rules }
     requires swaps { swap_table (length rules.now.rules.rows) swaps.now.bytes ≡ Ok swaps.now.swaps }
     requires pairs { length swaps.now.swaps + 1 ≡ length rules.now.rules.rows }
     ensures { Gives CouplingsRefused.NoMemory (λ plans. map arc_value plans.items) result
-        (plans_by file.now rules.now.rules swaps.now.swaps (bank_count file.now.orders.samples)
+        (plans_by (file_with_seed seed file.now) rules.now.rules swaps.now.swaps (bank_count file.now.orders.samples)
         (model.bonds_in file.now.couplings file.now.lattice file.now.seed stored.now)) }
 {
     let banks = bank_count(file.orders.samples);
     let mut plans = Vec::with_capacity(alloc, banks as usize)?;
     'banks: for bank in 0..banks {
-        plans.push(bank_plan(alloc, file, rules, swaps, stored, bank)?)?;
+        plans.push(bank_plan(alloc, file, rules, swaps, stored, seed, bank)?)?;
     }
     Ok(plans)
 }
@@ -63,19 +65,21 @@ fn bank_plan(
     rules: &ReadRules,
     swaps: &ReadSwaps,
     stored: &[u8],
+    seed: u64,
     bank: u32,
 ) -> Result<Arc<Plan, Global>, CouplingsRefused>
     requires lawful { IsLawfulRunFile file.now }
+    requires seed { seed ≤ 9223372036854775807 }
     requires rules { rule_table file.now.kind rules.now.bytes ≡ Ok rules.now.rules }
     requires swaps { swap_table (length rules.now.rules.rows) swaps.now.bytes ≡ Ok swaps.now.swaps }
     requires pairs { length swaps.now.swaps + 1 ≡ length rules.now.rules.rows }
     requires bank { bank < 4 }
     ensures { Gives CouplingsRefused.NoMemory arc_value result
-        (plan_by file.now rules.now.rules swaps.now.swaps bank
+        (plan_by (file_with_seed seed file.now) rules.now.rules swaps.now.swaps bank
         (model.bonds_in file.now.couplings file.now.lattice file.now.seed stored.now)) }
 {
     let couplings = bank_couplings(alloc, file, stored, bank)?;
-    let plan = plan_of(alloc, file, rules, swaps, couplings)?;
+    let plan = plan_of(alloc, file, rules, swaps, couplings, seed)?;
     Ok(plan)
 }
 
@@ -86,14 +90,16 @@ fn plan_of(
     rules: &ReadRules,
     swaps: &ReadSwaps,
     couplings: Couplings,
+    seed: u64,
 ) -> Result<Arc<Plan, Global>, NoMemory>
     requires lawful { IsLawfulRunFile file.now }
+    requires seed { seed ≤ 9223372036854775807 }
     requires rules { rule_table file.now.kind rules.now.bytes ≡ Ok rules.now.rules }
     requires swaps { swap_table (length rules.now.rules.rows) swaps.now.bytes ≡ Ok swaps.now.swaps }
     requires pairs { length swaps.now.swaps + 1 ≡ length rules.now.rules.rows }
     requires size { couplings.size ≡ file.now.lattice }
     ensures { IfOk result (λ plan. arc_value plan
-        ≡ plan_with file.now rules.now.rules swaps.now.swaps couplings) }
+        ≡ plan_with (file_with_seed seed file.now) rules.now.rules swaps.now.swaps couplings) }
 {
     let own_rules = rules_again(alloc, file, rules)?;
     let own_swaps = swaps_again(alloc, &rules.rules, swaps)?;
@@ -103,7 +109,7 @@ fn plan_of(
         own_swaps,
         couplings,
         file.sweeps,
-        file.seed,
+        seed,
     );
     Ok(Arc::new(alloc, plan)?)
 }

@@ -15,12 +15,11 @@ use crate::role::Role;
 use glass_edges::{Line, Sink};
 use run_checkpoint::CheckpointRefused;
 
-/// Writes why the checkpoint was refused.
+/// Writes why a checkpoint was refused, that of this role.
 #[tactic(auto, unfolding(crate::specs::Lines::checkpoint_line, crate::specs::Lines::memory_line))]
-pub(crate) fn say_checkpoint<E: Sink>(err: &mut E, refused: &CheckpointRefused)
-    ensures { Says (checkpoint_line refused.now) (output E.Sink err.old) (output E.Sink err.new) }
+pub(crate) fn say_checkpoint<E: Sink>(err: &mut E, file: Role, refused: &CheckpointRefused)
+    ensures { Says (checkpoint_line file refused.now) (output E.Sink err.old) (output E.Sink err.new) }
 {
-    let file = Role::Checkpoint;
     match *refused {
         CheckpointRefused::Short { len } => {
             say_file_number(err, file, b" is too short: ", len, b" bytes\n");
@@ -34,14 +33,18 @@ pub(crate) fn say_checkpoint<E: Sink>(err: &mut E, refused: &CheckpointRefused)
             say_other_number(err, file, found, b" bytes, not ", wanted);
         }
         CheckpointRefused::Digest { stored, computed } => say_damage(err, file, &stored, &computed),
-        CheckpointRefused::OtherPlan { stored, mine } => say_other_plan(err, &stored, &mine),
-        CheckpointRefused::Replicas { slot, copy, sample } => say_label(err, slot, copy, sample),
+        CheckpointRefused::OtherPlan { stored, mine } => {
+            say_other_plan(err, file, &stored, &mine);
+        }
+        CheckpointRefused::Replicas { slot, copy, sample } => {
+            say_label(err, file, slot, copy, sample);
+        }
         CheckpointRefused::Late { epoch, until } => {
             let numbers = Numbers::of(epoch, until);
             say_file_numbers(err, file, numbers, b" is at epoch ", b", past ", b"\n");
         }
         CheckpointRefused::NoMemory => say(err, b"glass: no memory\n"),
-        CheckpointRefused::Places { slot } => say_place(err, slot),
+        CheckpointRefused::Places { slot } => say_place(err, file, slot),
         CheckpointRefused::Orders { samples, every } => {
             let numbers = Numbers::of(samples as u64, every);
             say_file_numbers(err, file, numbers, b" is of samples=", b" every=", b"\n");
@@ -52,34 +55,36 @@ pub(crate) fn say_checkpoint<E: Sink>(err: &mut E, refused: &CheckpointRefused)
         CheckpointRefused::BankCount { found, wanted } => {
             say_other_number(err, file, found as u64, b" banks, not ", wanted as u64);
         }
-        CheckpointRefused::BankEpoch { bank, epoch, first } => say_bank(err, bank, epoch, first),
+        CheckpointRefused::BankEpoch { bank, epoch, first } => {
+            say_bank(err, file, bank, epoch, first);
+        }
     }
 }
 
-fn say_other_plan<E: Sink>(err: &mut E, stored: &[u8; 32], mine: &[u8; 32])
-    ensures { Says (file_front Role.Checkpoint ++ codes " is of another plan: " ++ encode_lower stored.now
+fn say_other_plan<E: Sink>(err: &mut E, file: Role, stored: &[u8; 32], mine: &[u8; 32])
+    ensures { Says (file_front file ++ codes " is of another plan: " ++ encode_lower stored.now
         ++ codes " stored, " ++ encode_lower mine.now ++ codes " here\n")
         (output E.Sink err.old) (output E.Sink err.new) }
 {
     let before = b" is of another plan: ";
-    say_digests(err, Role::Checkpoint, before, stored, mine, b" here\n");
+    say_digests(err, file, before, stored, mine, b" here\n");
 }
 
-fn say_place<E: Sink>(err: &mut E, slot: u32)
-    ensures { Says (file_front Role.Checkpoint ++ codes " has a wrong place at slot " ++ decimal slot
+fn say_place<E: Sink>(err: &mut E, file: Role, slot: u32)
+    ensures { Says (file_front file ++ codes " has a wrong place at slot " ++ decimal slot
         ++ codes "\n") (output E.Sink err.old) (output E.Sink err.new) }
 {
     let before = b" has a wrong place at slot ";
-    say_file_number(err, Role::Checkpoint, before, slot as u64, b"\n");
+    say_file_number(err, file, before, slot as u64, b"\n");
 }
 
-fn say_label<E: Sink>(err: &mut E, slot: u32, copy: u32, sample: u32)
-    ensures { Says (file_front Role.Checkpoint ++ codes " has a wrong replica at slot " ++ decimal slot
+fn say_label<E: Sink>(err: &mut E, file: Role, slot: u32, copy: u32, sample: u32)
+    ensures { Says (file_front file ++ codes " has a wrong replica at slot " ++ decimal slot
         ++ codes ", copy " ++ decimal copy ++ codes ", sample " ++ decimal sample ++ codes "\n")
         (output E.Sink err.old) (output E.Sink err.new) }
 {
     let mut line = Line::new();
-    add_file(&mut line, Role::Checkpoint);
+    add_file(&mut line, file);
     line.add(b" has a wrong replica at slot ");
     line.number(slot as u64);
     line.add(b", copy ");
@@ -87,13 +92,13 @@ fn say_label<E: Sink>(err: &mut E, slot: u32, copy: u32, sample: u32)
     say_number(err, &mut line, b", sample ", sample as u64, b"\n");
 }
 
-fn say_bank<E: Sink>(err: &mut E, bank: u32, epoch: u64, first: u64)
-    ensures { Says (file_front Role.Checkpoint ++ codes " has bank " ++ decimal bank
+fn say_bank<E: Sink>(err: &mut E, file: Role, bank: u32, epoch: u64, first: u64)
+    ensures { Says (file_front file ++ codes " has bank " ++ decimal bank
         ++ codes " at epoch " ++ decimal epoch ++ codes ", not " ++ decimal first ++ codes "\n")
         (output E.Sink err.old) (output E.Sink err.new) }
 {
     let mut line = Line::new();
-    add_file(&mut line, Role::Checkpoint);
+    add_file(&mut line, file);
     line.add(b" has bank ");
     line.number(bank as u64);
     line.add(b" at epoch ");

@@ -8,7 +8,7 @@ ghost use Rattle.run_plan.specs.RunFile.{run_file, IsLawfulRunFile, AreLawfulOrd
 ghost use Rattle.threshold_table.specs.Tables.{rule_table, swap_table};
 ghost use Rattle.glass_main.specs.BankTables.{rules_read, swaps_read};
 ghost use Rattle.glass_main.specs.CheckpointBytes.{AreBytes};
-ghost use Rattle.glass_main.specs.Endings.{IsOfBanked, IsOfLevel, IsOfOneEpoch, IsReached, IsReachedAfter, IsReachedAfterRules};
+ghost use Rattle.glass_main.specs.Endings.{IsOfBanked, IsOfLevel, IsOfOneEpoch, IsOfStates, IsReached, IsReachedAfter, IsReachedAfterRules};
 ghost use Rattle.glass_main.specs.Gathers.{Gathers, Fetches, gathered};
 ghost use Rattle.glass_main.specs.Outside.{store};
 ghost use Rattle.glass_main.specs.Request as model;
@@ -260,6 +260,7 @@ pub(crate) fn gather_bytes<H: Shelf>(
     // A fetch is refused for no format, and so for none of a checkpoint that is not at one epoch, of one bank or of several.
     ensures level { IfErr result (λ ending. IfRefused ending IsOfOneEpoch) }
     ensures levels { IfErr result (λ ending. IfRefused ending IsOfLevel) }
+    ensures states { IfErr result (λ ending. IfRefused ending IsOfStates) }
     ensures banks { (many : Bool) → IfErr result (λ ending. IfRefused ending (IsOfBanked many)) }
     ensures bytes { IfOk result AreBytes }
 {
@@ -279,6 +280,7 @@ fn fetch_bytes<H: Shelf>(
         (Fetches role) result (store H.Shelf shelf.old) (store H.Shelf shelf.new) }
     ensures level { IfErr result (λ ending. IfRefused ending IsOfOneEpoch) }
     ensures levels { IfErr result (λ ending. IfRefused ending IsOfLevel) }
+    ensures states { IfErr result (λ ending. IfRefused ending IsOfStates) }
     ensures banks { (many : Bool) → IfErr result (λ ending. IfRefused ending (IsOfBanked many)) }
 {
     gathered(role, shelf.fetch(alloc, name, role.limit()))

@@ -58,8 +58,9 @@ fn say_refusal<E: Sink>(err: &mut E, refusal: &Refusal)
         Refusal::Rules(refused) => say_table(err, Role::RuleTable, refused),
         Refusal::Swaps(refused) => say_table(err, Role::SwapTable, refused),
         Refusal::Couplings(refused) => say_couplings(err, refused),
-        Refusal::Checkpoint(refused) => say_checkpoint(err, refused),
+        Refusal::Checkpoint(refused) => say_checkpoint(err, Role::Checkpoint, refused),
         Refusal::Report(refused) => say_report(err, refused),
+        Refusal::SecondCheckpoint(refused) => say_checkpoint(err, Role::SecondCheckpoint, refused),
     }
 }
 
@@ -81,7 +82,7 @@ fn say_role<E: Sink>(err: &mut E, before: &[u8], role: Role, after: &[u8])
 pub(crate) fn add_file(line: &mut Line, role: Role)
     requires { line.old ≡ [] }
     ensures text { line.new ≡ file_front role }
-    ensures short { length line.new ≤ 25 }
+    ensures short { length line.new ≤ 28 }
 {
     line.add(b"glass: the ");
     line.add(role.name());

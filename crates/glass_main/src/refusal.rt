@@ -31,6 +31,8 @@ pub enum Refusal {
     Checkpoint(CheckpointRefused),
     /// The report is refused.
     Report(ReportRefused),
+    /// The checkpoint of the second of two states is refused.
+    SecondCheckpoint(CheckpointRefused),
 }
 
 /// The exit status of a refusal.
@@ -47,6 +49,7 @@ pub(crate) fn refusal_status(refusal: &Refusal) -> u8
         Refusal::Couplings(_) => 5,
         Refusal::Checkpoint(_) => 6,
         Refusal::Report(_) => 12,
+        Refusal::SecondCheckpoint(_) => 6,
     }
 }
 
@@ -60,5 +63,6 @@ fn role_status(role: Role) -> u8
         Role::Couplings => 5,
         Role::Checkpoint => 6,
         Role::Report => 12,
+        Role::SecondCheckpoint => 6,
     }
 }

@@ -16,6 +16,8 @@ pub enum Role {
     Couplings,
     Checkpoint,
     Report,
+    /// The checkpoint of the second of two states.
+    SecondCheckpoint,
 }
 
 impl Role {
@@ -23,7 +25,7 @@ impl Role {
     #[tactic(auto, unfolding(crate::specs::Lines::role_name))]
     pub(crate) fn name(self) -> &'static [u8]
         ensures name { result.now ≡ role_name self }
-        ensures short { length result.now ≤ 14 }
+        ensures short { length result.now ≤ 17 }
     {
         match self {
             Role::RunFile => b"run file",
@@ -32,6 +34,7 @@ impl Role {
             Role::Couplings => b"couplings file",
             Role::Checkpoint => b"checkpoint",
             Role::Report => b"report",
+            Role::SecondCheckpoint => b"second checkpoint",
         }
     }
 
@@ -46,6 +49,7 @@ impl Role {
             Role::Couplings => 25165872,
             Role::Checkpoint => LONGEST_CHECKPOINT,
             Role::Report => MOST_REPORT_BYTES,
+            Role::SecondCheckpoint => LONGEST_CHECKPOINT,
         }
     }
 }

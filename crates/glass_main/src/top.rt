@@ -4,9 +4,10 @@ ghost use Rattle.std.specs.Prelude.{◌≡◌, ◌↔◌, Some, None, IfSome, If
 ghost use Rattle.glass_main.specs.CheckpointBytes.{ReadsBytes};
 ghost use Rattle.command_words.specs.CommandLine.{Run, Measure, command_of, saved_name};
 ghost use Rattle.command_words.specs.MeasureWords.{MeasureOrder, SaysMeasure};
+ghost use Rattle.glass_main.specs.CrossedPlans.{HasLawfulSeed};
 ghost use Rattle.glass_main.specs.Endings.{ReadsNoFile};
 ghost use Rattle.glass_main.specs.LawfulRequests.{IsLawfulWork};
-ghost use Rattle.glass_main.specs.NamedStarts.{Starts};
+ghost use Rattle.glass_main.specs.NamedStarts.{Seconds, Starts};
 ghost use Rattle.glass_main.specs.Outside.{output, store};
 ghost use Rattle.glass_main.specs.Request.{request};
 ghost use Rattle.command_words.specs.RunWords.{RunOrder, SaysRun};
@@ -17,6 +18,7 @@ use crate::age::age;
 use crate::average::average;
 use crate::check::check;
 use crate::correlation::correlation_lines;
+use crate::cross::cross;
 use crate::demo::demo;
 use crate::ending::{Ending, status};
 use crate::lines::tell;
@@ -39,7 +41,7 @@ use std::thread::Threads;
 /// - 3: the run file is refused, or the amount that a run would print
 /// - 4: a table is refused
 /// - 5: the couplings file is refused
-/// - 6: the checkpoint is refused
+/// - 6: a checkpoint is refused
 /// - 7: the store holds no file of the name that is read next
 /// - 8: the store failed at a file
 /// - 9: the output failed
@@ -100,6 +102,9 @@ pub fn glass<R: Threads + Wait + Sync, H: Shelf, O: Sink, E: Sink, G: Gate + Syn
     // is named the opening states.
     ensures starts { result ≡ 0 → Starts (command_of (texts words.now)) (H.holds shelf.old) }
 
+    // And the second state of two is the one whose encoding the bytes of its checkpoint are.
+    ensures seconds { result ≡ 0 → Seconds (command_of (texts words.now)) (H.holds shelf.old) }
+
     // Where the store did not fail a refusal is told, and where the output did not either the work is
     // done, but for lack of memory.
     ensures complete { IfSome (request (texts words.now) (H.holds shelf.old)) (λ asked.
@@ -125,6 +130,7 @@ fn answer<R: Threads + Wait + Sync, H: Shelf, O: Sink, G: Gate + Sync>(
         (output O.Sink out.old) (output O.Sink out.new) }
     ensures untouched { ReadsNoFile (command_of (texts words.now)) → shelf.new ≡ shelf.old }
     ensures bytes { result ≡ Ending.Done → ReadsBytes (command_of (texts words.now)) (H.holds shelf.old) }
+    ensures seed { HasLawfulSeed (command_of (texts words.now)) }
 {
     match read_words(words) {
         None => Ending::Refused(Refusal::Words),
@@ -137,5 +143,6 @@ fn answer<R: Threads + Wait + Sync, H: Shelf, O: Sink, G: Gate + Sync>(
         Some(Command::Potts(order)) => potts(alloc, shelf, out, &order),
         Some(Command::Age(order)) => age(rt, alloc, shelf, out, &order),
         Some(Command::Measure(order)) => measure(rt, alloc, shelf, out, gate, &order),
+        Some(Command::Cross(order)) => cross(alloc, shelf, out, &order),
     }
 }

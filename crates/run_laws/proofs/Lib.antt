@@ -8,6 +8,7 @@ pub mod AcceptedParts
 pub mod CheckpointLengths
 pub mod NextRuns
 mod Packing
+mod Measures
 mod Seals
 mod RunsOfBanks
 mod StopsOfRuns

@@ -3,6 +3,7 @@ pub mod LengthLaws
 pub mod NextRuns
 pub mod LawfulRuns
 pub mod PackingLaws
+pub mod MeasureLaws
 pub mod SealLaws
 pub mod RunsOfBanks
 pub mod StopsOfRuns

@@ -3,6 +3,7 @@
 ghost use Rattle.run_laws.specs.AmountLaws.{PartsAreAccepted};
 ghost use Rattle.run_laws.specs.LawfulRuns.{BanksReportsAreLawful, EndedReportsAreLawful, RunReportsAreLawful, StoppedReportsAreLawful};
 ghost use Rattle.run_laws.specs.LengthLaws.{SavedCheckpointsAreShort};
+ghost use Rattle.run_laws.specs.MeasureLaws.{SumsSaveAsRuns};
 ghost use Rattle.run_laws.specs.NextRuns.{LawfulRunsGoOn};
 ghost use Rattle.run_laws.specs.PackingLaws.{OrdersDontReachCheckpoints, PackingChangesNothing};
 ghost use Rattle.run_laws.specs.RunsOfBanks.{RunsOfBanksAddUp};
@@ -161,4 +162,10 @@ pub fn changed_bytes_are_refused()
 /// SHA-256.
 pub fn other_plans_are_refused()
     ensures { OtherPlansAreRefused }
+{}
+
+/// A run that is measured has the checkpoint of the run from the same states, and asks for the same with other
+/// workers and pieces.
+pub fn sums_save_as_runs()
+    ensures { SumsSaveAsRuns }
 {}

@@ -11,5 +11,5 @@ pub use laws::{
     runs_of_banks_add_up, samples_are_of_their_banks, samples_below_64_are_of_one_bank,
     saved_banks_are_read, saved_banks_go_on, saved_checkpoints_are_short, saved_runs_are_read,
     saved_runs_go_on, saved_stops_are_read, stopped_reports_are_lawful, stopped_runs_add_up,
-    stops_of_runs_add_up,
+    stops_of_runs_add_up, sums_save_as_runs,
 };

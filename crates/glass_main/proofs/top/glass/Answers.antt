@@ -2,7 +2,7 @@ use Rattle.std.proofs.Common.{sym, ◌∙◌}
 use Rattle.command_words.specs.Words.{texts}
 use Rattle.command_words.specs.CommandLine.{command_of}
 use Rattle.glass_main.proofs.Completing.{completes}
-use Rattle.glass_main.proofs.EncodedStarts.{request-starts}
+use Rattle.glass_main.proofs.EncodedStarts.{request-starts, request-seconds}
 use Rattle.glass_main.proofs.LawfulRequests.{request-lawful}
 use Rattle.glass_main.proofs.ReadBytes.{done-of}
 use Rattle.command_words.proofs.SaidCommands.{command_of-run, command_of-measure}
@@ -29,3 +29,8 @@ pub returns-clause-starts : goal.returns-clause-starts
 returns-clause-starts g c = λ zero.
     let done = done-of c.answer-ending.result (sym c.status.ensures ∙ zero) in
     request-starts (command_of (texts c.args.words.now)) (g.H.Shelf.holds c.args.shelf.now) (c.answer-ending.ensures.bytes done)
+
+pub returns-clause-seconds : goal.returns-clause-seconds
+returns-clause-seconds g c = λ zero.
+    let done = done-of c.answer-ending.result (sym c.status.ensures ∙ zero) in
+    request-seconds (command_of (texts c.args.words.now)) (g.H.Shelf.holds c.args.shelf.now) c.answer-ending.ensures.seed (c.answer-ending.ensures.bytes done)
