@@ -15,3 +15,4 @@ pub mod FileBytes
 pub mod FolderSteps
 pub mod Saves
 pub mod StoreView
+pub mod TakenBytes

@@ -28,6 +28,7 @@ mod shelf;
 mod sink;
 mod stream_sink;
 mod system_folders;
+mod taken_bytes;
 
 pub use all_bytes::put_all;
 pub use decimal::{is_numeral, value_of};
