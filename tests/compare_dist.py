@@ -63,13 +63,19 @@ def built(processor: str, top: Path, kit: Path, room: Path) -> bytes:
     return made.read_bytes()
 
 
+def earlier(top: Path) -> str:
+    """A word on libraries of checks before `rt ci`, which gives them back at its end: they have a stamp."""
+    stamped = sorted(path.parents[2].name for path in top.glob("crates/*/out/rlib/stamp"))
+    return f"; {stamped[0]} has a library of an earlier check in out/, so compare in a fresh clone" if stamped else ""
+
+
 def compare(processor: str, data: bytes, manifest: Dict, top: Path) -> None:
     """Refuses a program of dist/ that is not this one."""
     kept = dist.whole_file(manifest, processor, top).read_bytes()
     if data != kept:
         at = next((at for at, pair in enumerate(zip(data, kept)) if pair[0] != pair[1]), min(len(data), len(kept)))
         raise Wrong(f"{dist.file_of(processor, top).name} has {len(kept)} bytes, and what its sources give has {len(data)}; "
-                    f"they differ first at byte {at + 1}; it was built with {manifest['kit']}")
+                    f"they differ first at byte {at + 1}; it was built with {manifest['kit']}{earlier(top)}")
 
 
 def held(top: Path, kit: Path, manifest: Dict) -> None:
@@ -151,12 +157,21 @@ def other_program(top: Path) -> None:
     dist.write_manifest("a kit", "0123456789abcdef", top)
 
 
+def over_earlier(top: Path) -> None:
+    """The same, where a check before `rt ci` left a library."""
+    other_program(top)
+    (top / "crates/low/out/rlib/stamp").write_text("", encoding="utf-8")
+
+
 def self_test() -> int:
     checks = Checks("compare_dist")
     checks.same("programs of their sources", told(lambda top: None), "the same")
     checks.same("another program", told(other_program),
                 "glass-x86-64-v3 has 21 bytes, and what its sources give has 21; they differ first at byte 21; "
                 "it was built with a kit")
+    checks.same("another program, over the library of an earlier check", told(over_earlier),
+                "glass-x86-64-v3 has 21 bytes, and what its sources give has 21; they differ first at byte 21; "
+                "it was built with a kit; low has a library of an earlier check in out/, so compare in a fresh clone")
     checks.same("a damaged file", told(lambda top: dist.file_of(dist.PORTABLE, top).write_bytes(b"program for x86-64 ")),
                 "the SHA-256 of dist/glass-x86-64 is not that of its manifest")
     checks.same("no proved library", told(lambda top: os.remove(top / "crates/low/out/rlib/low.rlib")),
