@@ -29,7 +29,7 @@ AreAtTimes plans times states = (j : ℕ) → j < length states → BanksFit (ti
 pub record AreKept (plans : List Plan) (times : List ℕ) (base : List Stand) (states : List (List Stand)) : Type 0 where
   pub count : length states ≡ length times
   pub fit : AreAtTimes plans times states
-  pub kept : (g b j : ℕ) (d : Plan) (none : Stand) → g < length plans → b < 64 → j < length times
+  pub each : (g b j : ℕ) (d : Plan) (none : Stand) → g < length plans → b < 64 → j < length times
       → sample_at (slice_index_or plans g d) none states g b j
       ≡ kept_state (slice_index_or plans g d) (sample_in (slice_index_or plans g d) none base g b) times j
 
@@ -37,7 +37,7 @@ pub record AreKept (plans : List Plan) (times : List ℕ) (base : List Stand) (s
 pub record AreGoneOn (plans : List Plan) (times : List ℕ) (held states : List (List Stand)) : Type 0 where
   pub count : length states ≡ length times
   pub fit : AreAtTimes plans times states
-  pub held : take (length held) states ≡ held
-  pub gone_on : (g b j : ℕ) (d : Plan) (none : Stand) → g < length plans → b < 64 → j < length times
+  pub stay : take (length held) states ≡ held
+  pub each : (g b j : ℕ) (d : Plan) (none : Stand) → g < length plans → b < 64 → j < length times
       → sample_at (slice_index_or plans g d) none states g b j
       ≡ gone_on (slice_index_or plans g d) times (length held) (sample_at (slice_index_or plans g d) none held g b) j

@@ -1,10 +1,10 @@
 //! The sweeps of banks.
 
 ghost use Rattle.std.specs.Arc.{arc_value};
-ghost use Rattle.std.specs.Prelude.{◌≡◌, ◌<◌, ◌≤◌, IfOk, length, map, slice_index};
+ghost use Rattle.std.specs.Prelude.{◌≡◌, ◌≤◌, IfOk, map};
 ghost use Rattle.plane_sweep.specs.Packed.{StandFits};
 ghost use Rattle.quenched_run.specs.Quenches.{AreInTime};
-ghost use Rattle.quenched_run.specs.Steps.{AreStill, IsStill};
+ghost use Rattle.quenched_run.specs.Steps.{AreStill, CanSweep, IsStill, IsStillBank};
 ghost use Rattle.spin_model.specs.Limits.{last_epoch};
 
 use crate::quench::Quench;
@@ -18,7 +18,7 @@ use std::thread;
 use std::thread::Threads;
 
 /// Takes banks to an epoch, by sweeps without exchange. The workers share the slots of a bank, and where there
-/// are more workers than slots, so many banks go side by side. Takes no memory.
+/// are more workers than slots, more than one bank has its turn at a time. Takes no memory.
 pub(crate) fn sweep_banks<R: Threads + Sync>(
     rt: &R,
     quench: &Quench,
@@ -36,16 +36,30 @@ pub(crate) fn sweep_banks<R: Threads + Sync>(
         banks,
         beside as usize,
         &|bank, stand| -> ()
-            requires { (bank < length quench.now.plans.now)
-                × StandFits (arc_value (slice_index quench.now.plans.now bank)) stand.now
-                × (stand.now.epoch ≤ time) × (time ≤ last_epoch) }
-            ensures { IsStill (arc_value (slice_index quench.entry.now.plans.now bank)) time stand.entry.now stand.exit.now }
-        { sweep_bank(rt, stand, &quench.plans[bank], time, quench.workers, quench.pieces) },
+            requires { CanSweep (map arc_value quench.now.plans.now) time bank stand.now × (time ≤ last_epoch) }
+            ensures { IsStillBank (map arc_value quench.entry.now.plans.now) time bank stand.entry.now stand.exit.now }
+        { sweep_one(rt, quench, stand, bank, time) },
     );
 }
 
-/// Takes a bank to an epoch.
-pub(crate) fn sweep_bank<R: Threads + Sync>(
+// Takes one of the banks to an epoch, by its plan.
+fn sweep_one<R: Threads + Sync>(
+    rt: &R,
+    quench: &Quench,
+    stand: &mut Stand,
+    bank: usize,
+    time: u64,
+)
+    requires can { CanSweep (map arc_value quench.now.plans.now) time bank stand.old }
+    requires time { time ≤ last_epoch }
+    ensures { IsStillBank (map arc_value quench.now.plans.now) time bank stand.old stand.new }
+{
+    let plan = &quench.plans[bank];
+    sweep_bank(rt, stand, plan, time, quench.workers, quench.pieces);
+}
+
+// Takes a bank to an epoch.
+fn sweep_bank<R: Threads + Sync>(
     rt: &R,
     stand: &mut Stand,
     plan: &Plan,

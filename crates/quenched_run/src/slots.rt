@@ -2,7 +2,8 @@
 
 ghost use Rattle.std.specs.Prelude.{◌≡◌, ◌<◌, ◌≤◌, All, length};
 ghost use Rattle.plane_sweep.specs.Packed.{FitsDuo};
-ghost use Rattle.quenched_run.specs.Steps.{AreStillSlots, IsStillSlot};
+ghost use Rattle.plane_sweep.specs.Storing.{Changed};
+ghost use Rattle.quenched_run.specs.Steps.{IsStillSlot};
 ghost use Rattle.scalar_rule.specs.Plan.{slots_of};
 
 use plane_sweep::{Duo, sweep_duo_often};
@@ -14,8 +15,7 @@ use std::thread::Threads;
 /// 32 bits.
 const MOST_EPOCHS: u64 = 4000;
 
-/// The sweeps of so many epochs in all slots of a bank, of which so many workers take those that follow each
-/// other. Takes no memory.
+/// The sweeps of so many epochs in all slots of a bank. Each worker has slots that follow each other.
 pub(crate) fn sweep_slots<R: Threads + Sync>(
     rt: &R,
     slots: &mut [Duo],
@@ -29,27 +29,25 @@ pub(crate) fn sweep_slots<R: Threads + Sync>(
     requires some_workers { 1 ≤ workers }
     requires some_pieces { 1 ≤ pieces }
     requires few_pieces { pieces ≤ 16 }
-    ensures { AreStillSlots plan.now epochs slots.old slots.new }
+    ensures { Changed (IsStillSlot plan.now epochs) (slots_of plan.now) slots.old slots.new }
 {
-    // A plan has few slots.
-    let _ = plan.slots();
     thread::for_each_mut(
         rt,
         slots,
         workers as usize,
         &|t, duo| -> ()
-            requires { (t < slots_of plan.now) × FitsDuo plan.now.size duo.now }
+            requires { (t < slots_of plan.now) × FitsDuo plan.now.size duo.now × (1 ≤ pieces) × (pieces ≤ 16) }
             ensures { IsStillSlot plan.entry.now epochs t duo.entry.now duo.exit.now }
-        { sweep_slot(rt, duo, plan, t as u32, pieces, epochs) },
+        { sweep_slot(rt, duo, plan, t, pieces, epochs) },
     );
 }
 
-/// The sweeps of so many epochs in both replicas of a slot.
-pub(crate) fn sweep_slot<R: Threads + Sync>(
+// The sweeps of so many epochs in both replicas of a slot.
+fn sweep_slot<R: Threads + Sync>(
     rt: &R,
     duo: &mut Duo,
     plan: &Plan,
-    slot: u32,
+    slot: usize,
     pieces: u32,
     epochs: u64,
 )
@@ -59,11 +57,14 @@ pub(crate) fn sweep_slot<R: Threads + Sync>(
     requires few_pieces { pieces ≤ 16 }
     ensures { IsStillSlot plan.now epochs slot duo.old duo.new }
 {
+    // A plan has few slots.
+    let _ = plan.slots();
+    let slot = slot as u32;
+    let rest = (epochs % MOST_EPOCHS) as u32;
+    sweep_epochs(rt, duo, plan, slot, pieces, rest);
     'calls: for k in 0..epochs / MOST_EPOCHS {
         sweep_epochs(rt, duo, plan, slot, pieces, MOST_EPOCHS as u32);
     }
-    let rest = (epochs % MOST_EPOCHS) as u32;
-    sweep_epochs(rt, duo, plan, slot, pieces, rest);
 }
 
 // Those of so few epochs that one call sweeps them.
