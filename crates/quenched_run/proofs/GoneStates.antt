@@ -1,4 +1,5 @@
 -- The states of a quench that goes on, one after the other.
+use Rattle.std.specs.Prelude.{Result, Ok, Err, IfOk}
 use Rattle.std.proofs.Common.{◌≡◌, inl, inr, ℕ, zero, suc, ◌+◌, ◌-◌, ◌<◌, ◌≤◌, List, [], ◌∷◌, ◌++◌, length, take, get_or, ap, refl, sym, subst, ◌∙◌, arith}
 use Rattle.std.proofs.lemmas.Bool.{cases_lt}
 use Rattle.std.proofs.lemmas.List.{get_or_append_left, get_or_push, length_push, take-append-le, take_all}
@@ -148,3 +149,8 @@ kept-from plans times base first states are begin swept gone = record {
       λ i less. subst (λ k. own k ≡ kept_state plan s times k) (let only : 0 ≡ i = omega (arith, less) in only) ((step-of plans (time_at times 0) base first g d none (fit-long begin.epoch plans base begin.fit) swept within).states b small) in
       gone.each g b j d none within small below ∙ states-go-on plan s times 1 j own are begun (omega arith) below one;
 }
+
+pub kept-if : {E : Type 0} (plans : List Plan) (times : List ℕ) (base first : List Stand) (r : Result (List (List Stand)) E) → AreQuenchTimes times
+    → AreInTime plans (time_at times 0) base → AreStill plans (time_at times 0) base first → IfOk r (AreGoneOn plans times (first ∷ [])) → IfOk r (AreKept plans times base)
+kept-if plans times base first (Ok states) are begin swept gone = kept-from plans times base first states are begin swept gone
+kept-if plans times base first (Err e) are begin swept gone = tt

@@ -31,9 +31,7 @@ pub fn begin<R: Threads + Sync>(
     ensures { IfOk result (AreKept (map arc_value quench.now.plans.now) quench.now.times.now base) }
 {
     let mut states = Vec::with_capacity(alloc, quench.times.len())?;
-    let mut first = base;
-    sweep_banks(rt, quench, first.as_mut_slice(), quench.times[0]);
-    states.push(first)?;
+    states.push(swept_on(rt, quench, base, quench.times[0]))?;
     go_on(rt, alloc, quench, Items::of(states))
 }
 
@@ -74,7 +72,22 @@ fn next_state<R: Threads + Sync>(
     requires time { time ≤ last_epoch }
     ensures { IfOk result (AreStill (map arc_value quench.now.plans.now) time last.now) }
 {
-    let mut next = copied_banks(alloc, last)?;
-    sweep_banks(rt, quench, next.as_mut_slice(), time);
-    Ok(next)
+    let copies = copied_banks(alloc, last)?;
+    Ok(swept_on(rt, quench, copies, time))
+}
+
+// A state at an epoch to which it is swept.
+fn swept_on<R: Threads + Sync>(
+    rt: &R,
+    quench: &Quench,
+    state: Items<Stand>,
+    time: u64,
+) -> Items<Stand>
+    requires fit { AreInTime (map arc_value quench.now.plans.now) time state }
+    requires time { time ≤ last_epoch }
+    ensures { AreStill (map arc_value quench.now.plans.now) time state result }
+{
+    let mut swept = state;
+    sweep_banks(rt, quench, swept.as_mut_slice(), time);
+    swept
 }
