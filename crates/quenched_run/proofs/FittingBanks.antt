@@ -1,5 +1,5 @@
 -- Banks that fit their plans, one by one.
-use Rattle.std.proofs.Common.{◌≡◌, ℕ, zero, suc, ◌+◌, ◌<◌, ◌≤◌, List, [], ◌∷◌, length, get_or, ap, refl, sym, ◌∙◌, arith}
+use Rattle.std.proofs.Common.{◌≡◌, ℕ, zero, suc, ◌<◌, List, [], ◌∷◌, length, get_or, ap, refl, sym, ◌∙◌, arith}
 use Rattle.scalar_rule.specs.Plan.{Plan}
 use Rattle.plane_sweep.specs.Packed.{StandFits}
 use Rattle.plane_sweep.specs.declared.stand.Stand.{Stand}

@@ -1,6 +1,5 @@
 -- Packed slots and banks after sweeps without exchange.
-use Rattle.std.specs.Prelude.{All}
-use Rattle.std.proofs.Common.{◌≡◌, ℕ, ◌+◌, ◌-◌, ◌<◌, ◌≤◌, List, [], length, map, get_or, ap, refl, sym, subst, ◌∙◌, arith}
+use Rattle.std.proofs.Common.{◌≡◌, ℕ, ◌+◌, ◌-◌, ◌<◌, ◌≤◌, List, [], length, map, ap, refl, sym, subst, ◌∙◌, arith}
 use Rattle.std.proofs.lemmas.List.{get_or-map, length-map}
 use Rattle.spin_model.specs.Limits.{last_epoch}
 use Rattle.spin_model.specs.Steps.{table}
@@ -8,7 +7,6 @@ use Rattle.spin_model.proofs.Tables.{get_or-table, table-of_items}
 use Rattle.scalar_rule.specs.Epoch.{slot_at}
 use Rattle.scalar_rule.specs.Plan.{Plan, slots_of}
 use Rattle.scalar_rule.specs.declared.plain_copy.PlainCopy.{PlainCopy}
-use Rattle.scalar_rule.specs.declared.sample.PlainPair.{PlainPair}
 use Rattle.scalar_rule.specs.declared.sample.PlainSlot.{PlainSlot}
 use Rattle.scalar_rule.specs.declared.sample.Sample.{Sample}
 use Rattle.plane_sweep.specs.Packed.{part, part_pair, part_slot, FitsDuo, PermutesLabels, StandFits}

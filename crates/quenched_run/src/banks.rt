@@ -43,13 +43,7 @@ pub(crate) fn sweep_banks<R: Threads + Sync>(
 }
 
 // Takes one of the banks to an epoch, by its plan.
-fn sweep_one<R: Threads + Sync>(
-    rt: &R,
-    quench: &Quench,
-    stand: &mut Stand,
-    bank: usize,
-    time: u64,
-)
+fn sweep_one<R: Threads + Sync>(rt: &R, quench: &Quench, stand: &mut Stand, bank: usize, time: u64)
     requires can { CanSweep (map arc_value quench.now.plans.now) time bank stand.old }
     requires time { time ≤ last_epoch }
     ensures { IsStillBank (map arc_value quench.now.plans.now) time bank stand.old stand.new }

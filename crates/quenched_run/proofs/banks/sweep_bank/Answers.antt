@@ -1,8 +1,7 @@
-use Rattle.std.proofs.Common.{◌-◌, List, subst, sym, ◌∙◌}
+use Rattle.std.proofs.Common.{◌-◌, List, subst, sym}
 use Rattle.scalar_rule.proofs.PlaneSweeps.{written_over}
 use Rattle.plane_sweep.specs.Storing.{Changed}
 use Rattle.plane_sweep.specs.declared.replica.Duo.{Duo}
-use Rattle.plane_sweep.specs.declared.stand.Stand.{Stand}
 use Rattle.scalar_rule.specs.Plan.{slots_of}
 use Rattle.quenched_run.specs.Steps.{IsStill, IsStillSlot}
 use Rattle.quenched_run.proofs.StillBanks.{bank-still}
