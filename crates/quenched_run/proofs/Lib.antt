@@ -1,0 +1,3 @@
+mod StillBanks
+mod FittingBanks
+pub mod GoneStates
