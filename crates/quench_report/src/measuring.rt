@@ -48,15 +48,8 @@ impl QuenchRoom {
         requires times { times ≤ 32 }
         ensures { IfOk result (HasRoom slots times) }
     {
-        let mut made = Vec::with_capacity(alloc, slots as usize)?;
-        'slots: for slot in 0..slots {
-            made.push(KeptSums {
-                state: StateSums::none(),
-                pairs: empty_pairs(alloc, times)?,
-            })?;
-        }
         Ok(QuenchRoom {
-            slots: Items::of(made),
+            slots: empty_slots(alloc, slots as usize, times)?,
         })
     }
 
@@ -76,10 +69,8 @@ impl QuenchRoom {
         ensures room { (few times : ℕ) → HasRoom few times self.old → HasRoom few times self.new }
         ensures same { states.new ≡ states.old }
     {
-        'slots: for slot in 0..slots as usize {
-            let place = SlotPlace { state, bank, slot };
-            measure_slot(self.slots.at_mut(slot), states, plan, place);
-        }
+        let room = &mut self.slots;
+        measure_slots(room, states, plan, slots, state, bank);
     }
 
     /// The sums of a slot.
@@ -89,6 +80,22 @@ impl QuenchRoom {
     {
         self.slots.at(slot)
     }
+}
+
+// The sums of as many slots, all of them 0.
+fn empty_slots(alloc: Global, slots: usize, times: usize) -> Result<Items<KeptSums>, NoMemory>
+    requires slots { slots ≤ 32 }
+    requires times { times ≤ 32 }
+    ensures { IfOk result (HasRoom slots times) }
+{
+    let mut room = Vec::with_capacity(alloc, slots)?;
+    'slots: for made in 0..slots {
+        room.push(KeptSums {
+            state: StateSums::none(),
+            pairs: empty_pairs(alloc, times)?,
+        })?;
+    }
+    Ok(Items::of(room))
 }
 
 // Sums for each time but the last, all of them 0.
@@ -102,6 +109,28 @@ fn empty_pairs(alloc: Global, times: usize) -> Result<Items<PairSums>, NoMemory>
         pairs.push(PairSums::none())?;
     }
     Ok(Items::of(pairs))
+}
+
+// Measures each slot of a bank of a kept state, and it with each earlier one.
+fn measure_slots(
+    room: &mut Items<KeptSums>,
+    states: &mut [Items<Stand>],
+    plan: &Plan,
+    slots: u32,
+    state: usize,
+    bank: usize,
+)
+    requires state { state < length states.old }
+    requires banks { All (HasBank plan.now.size slots bank) states.old }
+    requires room { HasRoom slots (state + 1) room.old }
+    ensures held { HoldBank plan.now states.old state bank room.new slots }
+    ensures room { (few times : ℕ) → HasRoom few times room.old → HasRoom few times room.new }
+    ensures same { states.new ≡ states.old }
+{
+    'slots: for slot in 0..slots as usize {
+        let place = SlotPlace { state, bank, slot };
+        measure_slot(room.at_mut(slot), states, plan, place);
+    }
 }
 
 // Measures a slot of a kept state, and it with each earlier one.
