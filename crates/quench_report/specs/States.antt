@@ -32,9 +32,9 @@ state_at states j = slice_index_or states j []
 abbrev pub kept_among : ℕ → List (List Stand) → ℕ → ℕ → Sample
 kept_among l states b j = sample_among l (state_at states j) b
 
--- the plan of sample b, which is that of its bank
-abbrev pub plan_among : List Plan → ℕ → Plan
-plan_among plans b = slice_index_or plans (b / 64) nothing
+-- the plan of bank g
+abbrev pub bank_plan : List Plan → ℕ → Plan
+bank_plan plans g = slice_index_or plans g nothing
   where
     nothing : Plan
     nothing = record {
@@ -45,6 +45,10 @@ plan_among plans b = slice_index_or plans (b / 64) nothing
       sweeps = 0;
       seed = 0;
     }
+
+-- that of sample b
+abbrev pub plan_among : List Plan → ℕ → Plan
+plan_among plans b = bank_plan plans (b / 64)
 
 -- a state for each time, and a plan for each bank: the banks have all samples, and all slots, which fit the lattice of the plans
 pub record AreKept (h : QuenchHeading) (plans : List Plan) (states : List (List Stand)) : Type 0 where

@@ -10,9 +10,3 @@ states-init g c = record { added = fronts-none (window-none _ _); room = c.requi
 
 pub states-preserved : goal.states-preserved
 states-preserved g c = ?
-
-pub returns-in_err-add_state : goal.returns-in_err-add_state
-returns-in_err-add_state g c = ?
-
-pub returns : goal.returns
-returns g c = ?
