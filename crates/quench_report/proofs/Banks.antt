@@ -1,8 +1,8 @@
 -- Banks and slots of kept states, and the room for their sums.
-use Rattle.std.proofs.Common.{inl, inr, ◌≡◌, ℕ, ◌+◌, ◌/◌, ◌<◌, ◌≤◌, List, [], ◌∷◌, ◌++◌, length, set, get_or, ap, refl, subst, sym, ◌∙◌, arith}
+use Rattle.std.proofs.Common.{inl, inr, ◌≡◌, ℕ, ◌+◌, ◌/◌, ◌<◌, ◌≤◌, List, [], ◌∷◌, ◌++◌, length, set, get_or, subst, sym, arith}
 use Rattle.std.specs.Prelude.{All}
 use Rattle.std.proofs.lemmas.Bool.{cases_lt}
-use Rattle.std.proofs.lemmas.List.{length-set, get_or-set_same, get_or-set_other}
+use Rattle.std.proofs.lemmas.List.{length-set, length_push, get_or-set_same, get_or-set_other}
 use Rattle.std.proofs.lemmas.List.Elements.{All-nil, All-push, All-set}
 use Rattle.scalar_rule.specs.Plan.{Plan}
 use Rattle.plane_sweep.specs.declared.stand.Stand.{Stand}
@@ -45,7 +45,7 @@ room-none times = record { slots = omega arith; pairs = All-nil (λ (sums : Kept
 pub room-more : (times n : ℕ) (room : List KeptSums) (sums : KeptSums) → length room ≡ n → HasRoom n times room → times ≤ length sums.pairs + 1
     → HasRoom (n + 1) times (room ++ sums ∷ [])
 room-more times n room sums sized has long =
-    record { slots = grind arith; pairs = All-push (λ (s : KeptSums). times ≤ length s.pairs + 1) room sums has.pairs long }
+    record { slots = omega (arith, length_push room sums, sized); pairs = All-push (λ (s : KeptSums). times ≤ length s.pairs + 1) room sums has.pairs long }
 
 -- for fewer times
 pub room-fewer : (slots times few : ℕ) (room : List KeptSums) → HasRoom slots times room → few ≤ times → HasRoom slots few room

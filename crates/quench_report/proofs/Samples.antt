@@ -1,5 +1,5 @@
 -- The text of the states by their banks, and by the samples that they are.
-use Rattle.std.proofs.Common.{◌≡◌, ℕ, ◌+◌, ◌-◌, ◌/◌, ◌%◌, ◌<◌, ◌≤◌, List, ◌++◌, length, refl, ap, ap₂, subst, sym, ◌∙◌, arith}
+use Rattle.std.proofs.Common.{◌≡◌, ℕ, ◌+◌, ◌-◌, ◌/◌, ◌%◌, ◌<◌, ◌≤◌, List, [], ◌++◌, length, refl, ap, ap₂, sym, ◌∙◌, arith}
 use Rattle.std.specs.Prelude.{codes, flat_map}
 use Rattle.spin_model.specs.Steps.{table}
 use Rattle.spin_model.proofs.Joined.{joined-same}
@@ -13,7 +13,7 @@ use Rattle.measured_sums.specs.MeasuredSums.{observed_in}
 use Rattle.quenched_states.specs.Copies.{two_time_field}
 use Rattle.quenched_states.specs.KeptStates.{time_at}
 use Rattle.quenched_states.specs.QuenchText.{QuenchHeading, pair_line, quench_heading_line, quench_text, sample_lines, slot_lines, state_line, state_seen, state_fields, time_lines}
-use Rattle.copies_report.specs.States.{bank_at, slot_among}
+use Rattle.copies_report.specs.States.{bank_at}
 use Rattle.copies_report.proofs.Printed.{slot-read}
 use Rattle.quench_report.specs.Held.{bank_fields, bank_seen, of_earlier, of_sample, slot_in}
 use Rattle.quench_report.specs.States.{kept_among, kept_fields, kept_seen, plan_among, state_at, AreKept, TextIsTheSamples}
@@ -72,7 +72,7 @@ sample-shown h plans states j b are below within =
     (λ i. part_slot plan.size (b % 64) (slot_in states i (b / 64) t)) (λ i. slot_at (kept_among h.size states b i).slots t) refl refl
     (λ i most.
     let here : i < length states = omega (arith, are.times, below, most) in
-    let banks = are.banks i _ here in
-    let count = (are.slots i _ here (b / 64) _ (omega (arith, banks, are.samples, within))).count in
+    let banks = are.banks i [] here in
+    let count = (are.slots i [] here (b / 64) (record { epoch = 0; slots = []; pairs = [] }) (omega (arith, banks, are.samples, within))).count in
     ap (λ (l : ℕ). part_slot l (b % 64) (slot_in states i (b / 64) t)) size
     ∙ sym (slot-read h.size (b % 64) (bank_at (state_at states i) (b / 64)) t (omega (arith, count, inside)))))

@@ -1,10 +1,9 @@
 -- The lines of the numbers that are held are those of the states.
-use Rattle.std.proofs.Common.{◌≡◌, ℕ, ◌+◌, ◌/◌, ◌%◌, ◌<◌, List, ◌++◌, refl, ap, arith}
-use Rattle.std.specs.Prelude.{codes, decimal, flat_map, slice_index_or, ℤ, []}
+use Rattle.std.proofs.Common.{◌≡◌, ℕ, ◌+◌, ◌/◌, ◌%◌, ◌<◌, ◌++◌, refl, ap, arith}
+use Rattle.std.specs.Prelude.{codes, slice_index_or, ℤ, []}
 use Rattle.std.specs.Fmt.{signed_decimal}
-use Rattle.spin_model.specs.Steps.{table}
 use Rattle.spin_model.proofs.Joined.{joined-same}
-use Rattle.measured_sums.specs.OverlapField.{Field, total_overlap, link_overlap, distance_correlation}
+use Rattle.measured_sums.specs.OverlapField.{Field, distance_correlation}
 use Rattle.measured_sums.specs.MeasuredSums.{Observed}
 use Rattle.plane_sums.specs.Correlations.{signed_at}
 use Rattle.quenched_states.specs.QuenchText.{pair_line, state_line}

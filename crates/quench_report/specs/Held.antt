@@ -33,8 +33,8 @@ pub record HasSlot (l w t : ℕ) (stands : List Stand) : Type 0 where
   pub fits : FitsDuo l (slot_among (bank_at stands w).slots t)
 
 -- there is room for so many slots, and in each for all times but the last
-pub record HasRoom (slots times : ℕ) (room : List KeptSums) : Type 0 where
-  pub slots : slots ≤ length room
+pub record HasRoom (count times : ℕ) (room : List KeptSums) : Type 0 where
+  pub slots : count ≤ length room
   pub pairs : All (λ (sums : KeptSums). times ≤ length sums.pairs + 1) room
 
 -- ---- what a bank has in its samples

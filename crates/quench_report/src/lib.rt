@@ -10,4 +10,3 @@ mod writer;
 pub use head::QuenchHead;
 pub use measuring::QuenchRoom;
 pub use writer::{text_is_the_samples, write_quench};
-

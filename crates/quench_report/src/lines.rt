@@ -80,9 +80,9 @@ fn fill_state(line: &mut Line, sums: &StateSums, lattice: Lattice, place: LinePl
     line.number(place.sample as u64);
     line.add(b",");
     line.number(place.slot as u64);
-    add_value(line, number_at(&sums.first_energies, b));
-    add_value(line, number_at(&sums.second_energies, b));
-    add_value(line, number_at(&sums.overlaps, b));
+    add_number(line, &sums.first_energies, b);
+    add_number(line, &sums.second_energies, b);
+    add_number(line, &sums.overlaps, b);
     fill_distances(line, &sums.distances, b, lattice.size() / 2);
     line.add(b"\n");
 }
@@ -97,8 +97,18 @@ fn fill_distances(line: &mut Line, sums: &[[i32; 64]; 32], b: usize, count: u32)
     ensures short { length line.new ≤ length line.old + 21 * count }
 {
     'distances: for k in 0..count as usize {
-        add_value(line, number_at(&sums[k], b));
+        add_number(line, &sums[k], b);
     }
+}
+
+// Adds a sample's number behind a comma.
+fn add_number(line: &mut Line, numbers: &[i32; 64], b: usize)
+    requires sample { b < 64 }
+    requires room { length line.old + 21 ≤ line_room }
+    ensures value { line.new ≡ line.old ++ (codes "," ++ signed_decimal (signed_at numbers.now b)) }
+    ensures short { length line.new ≤ length line.old + 21 }
+{
+    add_value(line, number_at(numbers, b));
 }
 
 // Adds the line of two states.
@@ -116,9 +126,9 @@ fn fill_pair(line: &mut Line, sums: &PairSums, waited: u64, place: LinePlace)
     line.number(place.sample as u64);
     line.add(b",");
     line.number(place.slot as u64);
-    add_value(line, number_at(&sums.first_overlaps, b));
-    add_value(line, number_at(&sums.second_overlaps, b));
-    add_value(line, number_at(&sums.first_links, b));
-    add_value(line, number_at(&sums.second_links, b));
+    add_number(line, &sums.first_overlaps, b);
+    add_number(line, &sums.second_overlaps, b);
+    add_number(line, &sums.first_links, b);
+    add_number(line, &sums.second_links, b);
     line.add(b"\n");
 }

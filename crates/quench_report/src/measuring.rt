@@ -134,12 +134,7 @@ fn measure_slots(
 }
 
 // Measures a slot of a kept state, and it with each earlier one.
-fn measure_slot(
-    sums: &mut KeptSums,
-    states: &mut [Items<Stand>],
-    plan: &Plan,
-    place: SlotPlace,
-)
+fn measure_slot(sums: &mut KeptSums, states: &mut [Items<Stand>], plan: &Plan, place: SlotPlace)
     requires state { place.state < length states.old }
     requires slots { All (HasSlot plan.now.size place.bank place.slot) states.old }
     requires room { place.state ≤ length sums.old.pairs }

@@ -1,6 +1,6 @@
 -- The numbers that are held are those of the state.
 use Rattle.std.proofs.Common.{List, ℕ, ◌++◌, ap, refl, ◌∙◌}
-use Rattle.glass_edges.proofs.Writing.{fronts-failed, fronts-placed}
+use Rattle.glass_edges.proofs.Writing.{fronts-placed}
 use Rattle.quench_report.proofs.Shown.{state-shown}
 use Rattle.quench_report.proofs.lines.add_state_line.Goals as goal
 

@@ -1,5 +1,5 @@
 -- Each line is of the sums that are held.
-use Rattle.std.proofs.Common.{◌≡◌, ℕ, List, ◌++◌, ◌%◌, flat_map, get_or, ap, ap₂, subst, sym, ◌∙◌, arith}
+use Rattle.std.proofs.Common.{◌≡◌, ℕ, ◌++◌, ◌%◌, flat_map, ap, subst, sym, ◌∙◌, arith}
 use Rattle.std.proofs.lemmas.List.{get_or_default}
 use Rattle.glass_edges.proofs.Writing.{fronts-none, fronts-more, fronts-stopped, fronts-same}
 use Rattle.spin_model.specs.Steps.{table}

@@ -1,4 +1,4 @@
-use Rattle.std.proofs.Common.{◌≡◌, ℕ, ◌++◌, flat_map, ap, subst, sym, ◌∙◌, arith}
+use Rattle.std.proofs.Common.{◌≡◌, ℕ, ◌++◌, flat_map, ap, subst, sym, arith}
 use Rattle.glass_edges.proofs.Writing.{fronts-none, fronts-more, fronts-stopped, fronts-same}
 use Rattle.spin_model.specs.Steps.{table}
 use Rattle.spin_model.proofs.Joined.{joined-zero, joined-more, joined-at}

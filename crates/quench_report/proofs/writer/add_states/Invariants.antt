@@ -1,8 +1,7 @@
 -- The states from the first one that was not held are added, and all are as before.
-use Rattle.std.proofs.Common.{◌≡◌, ◌+◌, ◌-◌, ◌++◌, length, map, flat_map}
+use Rattle.std.proofs.Common.{◌≡◌, ◌++◌, length, map}
 use Rattle.std.specs.Arc.{arc_value}
 use Rattle.glass_edges.specs.Writes.{HasPutFront}
-use Rattle.spin_model.specs.Steps.{table}
 use Rattle.quenched_states.specs.QuenchText.{lines_between}
 use Rattle.quench_report.specs.Held.{HasRoom}
 use Rattle.quench_report.specs.States.{heading_of, kept_fields, kept_seen}
