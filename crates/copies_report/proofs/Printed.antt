@@ -29,7 +29,7 @@ unfolding table
 pairs-numbered item = refl
 
 -- a slot of a sample is that of its bank
-pub slot-read : (l b : ℕ) (stand : Stand) (t : ℕ) → t < length stand.slots → slot_at (part l b stand).slots t ≡ part_slot l b (slot_among stand.slots t)
+slot-read : (l b : ℕ) (stand : Stand) (t : ℕ) → t < length stand.slots → slot_at (part l b stand).slots t ≡ part_slot l b (slot_among stand.slots t)
 unfolding part
 slot-read l b stand t below =
     let copy : PlainCopy = record { spins = []; wheels = []; replica = 0 } in

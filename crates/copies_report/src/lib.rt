@@ -9,7 +9,5 @@ mod pairs;
 mod writer;
 
 pub use head::CopiesHead;
-pub use lines::add_value;
 pub use measuring::CopiesRoom;
-pub use numbers::number_at;
 pub use writer::write_copies;

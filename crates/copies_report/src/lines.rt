@@ -93,8 +93,8 @@ fn fill_values(line: &mut Line, numbers: &[i64])
     }
 }
 
-/// Adds a number behind a comma.
-pub fn add_value(line: &mut Line, number: i64)
+// Adds a number behind a comma.
+fn add_value(line: &mut Line, number: i64)
     requires { length line.old + 21 ≤ line_room }
     ensures value { line.new ≡ line.old ++ (codes "," ++ signed_decimal number) }
     ensures short { length line.new ≤ length line.old + 21 }

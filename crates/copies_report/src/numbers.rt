@@ -13,9 +13,8 @@ pub(crate) fn totals_of(sums: &FieldSums, b: usize) -> [i64; 2]
     [number_at(&sums.overlaps, b), number_at(&sums.links, b)]
 }
 
-/// The number of a sample, of one for each of 64.
 #[inline(always)]
-pub fn number_at(numbers: &[i32; 64], b: usize) -> i64
+fn number_at(numbers: &[i32; 64], b: usize) -> i64
     requires { b < 64 }
     ensures { result ≡ signed_at numbers.now b }
 {

@@ -1,10 +1,12 @@
 -- The text of the states by their banks, and by the samples that they are.
 use Rattle.std.proofs.Common.{◌≡◌, ℕ, ◌+◌, ◌-◌, ◌/◌, ◌%◌, ◌<◌, ◌≤◌, List, [], ◌++◌, length, refl, ap, ap₂, sym, ◌∙◌, arith}
 use Rattle.std.specs.Prelude.{codes, flat_map}
+use Rattle.std.proofs.lemmas.List.{get_or-map}
 use Rattle.spin_model.specs.Steps.{table}
 use Rattle.spin_model.proofs.Joined.{joined-same}
 use Rattle.scalar_rule.specs.Plan.{Plan}
 use Rattle.scalar_rule.specs.Epoch.{slot_at}
+use Rattle.scalar_rule.specs.declared.plain_copy.PlainCopy.{PlainCopy}
 use Rattle.scalar_rule.specs.declared.sample.PlainSlot.{PlainSlot}
 use Rattle.scalar_rule.specs.declared.sample.Sample.{Sample}
 use Rattle.plane_sweep.specs.Packed.{part, part_slot}
@@ -13,8 +15,7 @@ use Rattle.measured_sums.specs.MeasuredSums.{observed_in}
 use Rattle.quenched_states.specs.Copies.{two_time_field}
 use Rattle.quenched_states.specs.KeptStates.{time_at}
 use Rattle.quenched_states.specs.QuenchText.{QuenchHeading, pair_line, quench_heading_line, quench_text, sample_lines, slot_lines, state_line, state_seen, state_fields, time_lines}
-use Rattle.copies_report.specs.States.{bank_at}
-use Rattle.copies_report.proofs.Printed.{slot-read}
+use Rattle.copies_report.specs.States.{bank_at, slot_among}
 use Rattle.quench_report.specs.Held.{bank_fields, bank_seen, of_earlier, of_sample, slot_in}
 use Rattle.quench_report.specs.States.{kept_among, kept_fields, kept_seen, plan_among, state_at, AreKept, TextIsTheSamples}
 use Rattle.quench_report.proofs.Banks.{plan-size}
@@ -57,6 +58,14 @@ text-same h plans states plan kept plans_are states_are =
     (λ i most. ap (λ (s : Sample). slot_at s.slots t) (states_are b i within (omega (arith, below, most))))))))
 
 -- ---- the banks
+
+-- a slot of a sample is that of its bank
+slot-read : (l b : ℕ) (stand : Stand) (t : ℕ) → t < length stand.slots → slot_at (part l b stand).slots t ≡ part_slot l b (slot_among stand.slots t)
+unfolding part
+slot-read l b stand t below =
+    let copy : PlainCopy = record { spins = []; wheels = []; replica = 0 } in
+    let slot : PlainSlot = record { first = copy; second = copy } in
+    get_or-map (part_slot l b) stand.slots t _ slot below
 
 -- the lines of a sample are those of its bank
 pub sample-shown : (h : QuenchHeading) (plans : List Plan) (states : List (List Stand)) (j b : ℕ) → AreKept h plans states → j < length h.times → b < h.samples

@@ -12,7 +12,6 @@ ghost use Rattle.quenched_sums.specs.Told.{TellsPair, TellsState};
 ghost use Rattle.quench_report.specs.Numbers.{pair_numbers, state_numbers};
 ghost use Rattle.spin_model.specs.Steps.{table};
 
-use copies_report::{add_value, number_at};
 use glass_edges::{Fault, Line, Sink};
 use lattice_geometry::Lattice;
 use quenched_sums::{PairSums, StateSums};
@@ -108,7 +107,16 @@ fn add_number(line: &mut Line, numbers: &[i32; 64], b: usize)
     ensures value { line.new ≡ line.old ++ (codes "," ++ signed_decimal (signed_at numbers.now b)) }
     ensures short { length line.new ≤ length line.old + 21 }
 {
-    add_value(line, number_at(numbers, b));
+    line.add(b",");
+    line.signed(number_at(numbers, b));
+}
+
+#[inline(always)]
+fn number_at(numbers: &[i32; 64], b: usize) -> i64
+    requires { b < 64 }
+    ensures { result ≡ signed_at numbers.now b }
+{
+    numbers[b] as i64
 }
 
 // Adds the line of two states.
