@@ -1,5 +1,5 @@
 -- How the states from which a quench goes on are read: with the tests of a checkpoint at one epoch, and with words for what refuses them.
-use Rattle.std.specs.Prelude.{◌≡◌, ◌<◌, ◌≤◌, ℕ, List, [], ◌∷◌, map, length, slice_index_or, option_map, Result, ◌⊎◌}
+use Rattle.std.specs.Prelude.{◌≡◌, ◌<◌, ◌≤◌, ℕ, List, [], ◌∷◌, map, length, slice_index_or, Option, option_map, Result, ◌⊎◌}
 use Rattle.glass_edges.specs.Refusals.{unless}
 use Rattle.kept_frame.specs.declared.refused.KeptRefused.TheVariants as kept
 use Rattle.kept_states.specs.Levels.{level_len, level_banks_refusal, level_banks_in, stands_at, stands_encoding}

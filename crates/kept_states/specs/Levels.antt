@@ -1,12 +1,13 @@
 -- The checkpoint of a state at one epoch: of one bank of 64 samples that of the bank, of several that of the banks. Each bank has a plan of
 -- its own.
-use Rattle.std.specs.Prelude.{◌≡◌, ◌≤◌, ℕ, List, [], ◌∷◌, drop, Option, Result}
+use Rattle.std.specs.Prelude.{◌≡◌, ◌≤◌, ℕ, ◌+◌, List, [], ◌∷◌, drop, Option, Result}
 use Rattle.glass_edges.specs.Refusals.{unless}
 use Rattle.plane_sweep.specs.declared.stand.Stand.{Stand}
 use Rattle.run_checkpoint.specs.BankDecoding.{banks_refusal, banks_in}
 use Rattle.run_checkpoint.specs.BankEncoding.{bank_len, banks_len, banks_parts, banks_encoding, BanksFit}
 use Rattle.run_checkpoint.specs.Decoding.{level_refusal}
 use Rattle.run_checkpoint.specs.Encoding.{encoding}
+use Rattle.run_checkpoint.specs.Lengths.{encoding_len}
 use Rattle.run_checkpoint.specs.Reading.{stand_in}
 use Rattle.run_checkpoint.specs.declared.refused.CheckpointRefused.{CheckpointRefused}
 use Rattle.scalar_rule.specs.Plan.{Plan, slots_of}
@@ -25,9 +26,13 @@ stands_encoding plans stands = level_encoding plans (banks_parts plans stands)
 
 -- the number of its bytes
 unfoldable pub level_len : List Plan → ℕ
-level_len [] = 0
 level_len (plan ∷ []) = bank_len (plan ∷ [])
-level_len (plan ∷ next ∷ plans) = banks_len (plan ∷ next ∷ plans)
+level_len plans = banks_len plans
+
+-- how long the checkpoints of the banks are, one behind the other
+unfoldable pub banks_spare : List Plan → ℕ
+banks_spare [] = 0
+banks_spare (plan ∷ plans) = encoding_len plan.size (slots_of plan) + banks_spare plans
 
 -- ---- what is read
 

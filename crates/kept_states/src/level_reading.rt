@@ -1,7 +1,7 @@
 //! Reading of the checkpoint of a state at one epoch, of one bank of 64 samples or of several.
 
 ghost use Rattle.std.specs.Arc.{arc_value};
-ghost use Rattle.std.specs.Prelude.{◌≡◌, ◌≤◌, [], ◌∷◌, map, length, All, IfOk};
+ghost use Rattle.std.specs.Prelude.{◌≡◌, ◌≤◌, [], ◌∷◌, map, length, IfOk};
 ghost use Rattle.glass_edges.specs.Refusals.{GivesAfterTests};
 ghost use Rattle.kept_states.specs.Levels.{level_len, level_banks_decoded, IsLevelCheckpoint};
 ghost use Rattle.quenched_states.specs.KeptBytes.{longest_kept};
@@ -54,15 +54,28 @@ pub fn decode_level(
     ensures exact { GivesAfterTests refused.NoMemory (λ stands. stands) result (level_banks_decoded (map arc_value plans.now) until bytes.now) }
 {
     if plans.len() == 1 {
-        let stand = decode(alloc, &plans[0], until, bytes)?;
-        Ok(alone(alloc, stand)?)
+        decode_one(alloc, &plans[0], until, bytes)
     } else {
         let stands = decode_banks(alloc, plans, until, bytes)?;
         Ok(Items::of(stands))
     }
 }
 
-// The state of the only bank.
+// That of the only bank.
+fn decode_one(
+    alloc: Global,
+    plan: &Plan,
+    until: u64,
+    bytes: &[u8],
+) -> Result<Items<Stand>, CheckpointRefused>
+    ensures found { IfOk result (IsLevelCheckpoint (plan.now ∷ []) until bytes.now) }
+    ensures exact { GivesAfterTests refused.NoMemory (λ stands. stands) result (level_banks_decoded (plan.now ∷ []) until bytes.now) }
+{
+    let stand = decode(alloc, plan, until, bytes)?;
+    Ok(alone(alloc, stand)?)
+}
+
+// A list of one state.
 fn alone(alloc: Global, stand: Stand) -> Result<Items<Stand>, NoMemory>
     ensures { IfOk result (λ stands. stands ≡ stand ∷ []) }
 {

@@ -1,11 +1,11 @@
 //! Room for the checkpoint of a state at one epoch.
 
 ghost use Rattle.std.specs.Arc.{arc_value};
-ghost use Rattle.std.specs.Prelude.{◌≡◌, ◌+◌, ◌*◌, ◌≤◌, [], ◌++◌, map, length, replicate, IfOk};
-ghost use Rattle.kept_states.specs.Levels.{stands_encoding, AreLevel};
-ghost use Rattle.kept_states.specs.Rooms.{HoldsLevel};
+ghost use Rattle.std.specs.Prelude.{◌≡◌, ◌+◌, ◌≤◌, false, [], ◌++◌, map, length, replicate, IfOk};
+ghost use Rattle.kept_states.specs.Levels.{level_len, banks_spare, stands_encoding, AreLevel};
+ghost use Rattle.kept_states.specs.Rooms.{HaveSlots, HoldsLevel};
 ghost use Rattle.plane_sweep.specs.Packed.{part, StandFits};
-ghost use Rattle.run_checkpoint.specs.BankEncoding.{bank_len, banks_bytes, banks_parts, HaveOneShape};
+ghost use Rattle.run_checkpoint.specs.BankEncoding.{banks_bytes, banks_parts, HaveOneShape};
 ghost use Rattle.run_checkpoint.specs.Encoding.{encoding};
 ghost use Rattle.run_checkpoint.specs.Lengths.{encoding_len};
 ghost use Rattle.scalar_rule.specs.Plan.{slots_of};
@@ -33,7 +33,7 @@ impl Model for LevelRoom {
 
     ghost Value = { LevelRoomView };
 
-    ghost use Rattle.kept_states.specs.Rooms.{level_view};
+    ghost use Rattle.kept_states.specs.LevelRooms.{level_view};
 
     ghost view = { level_view };
 
@@ -71,56 +71,70 @@ impl LevelRoom {
     }
 
     /// Writes the checkpoint of a state instead of what was written, bank by bank. Takes no memory.
-    pub(crate) fn write(&mut self, plans: &[Arc<Plan, Global>], banks: Items<Stand>)
+    pub(crate) fn write(&mut self, plans: &[Arc<Plan, Global>], stands: Items<Stand>)
         requires some { 1 ≤ length plans.now }
         requires few { length plans.now ≤ 4 }
         requires room { HoldsLevel (map arc_value plans.now) self.old.limit self.old.slots }
-        requires fit { AreLevel (map arc_value plans.now) banks }
-        ensures bytes { self.new.bytes ≡ stands_encoding (map arc_value plans.now) banks }
+        requires fit { AreLevel (map arc_value plans.now) stands }
+        ensures bytes { self.new.bytes ≡ stands_encoding (map arc_value plans.now) stands }
+        ensures len { length self.new.bytes ≡ level_len (map arc_value plans.now) }
         ensures limit { self.new.limit ≡ self.old.limit }
         ensures slots { self.new.slots ≡ self.old.slots }
     {
         self.bytes.clear();
         if plans.len() == 1 {
-            self.put_banks(plans, banks);
+            put_banks(&mut self.bytes, &mut self.bank, plans, stands);
         } else {
             begin_banks(plans.len() as u32, &mut self.bytes);
-            self.put_banks(plans, banks);
+            put_banks(&mut self.bytes, &mut self.bank, plans, stands);
             end_banks(&mut self.bytes);
         }
     }
+}
 
-    // Puts the checkpoints of the banks, one behind the other.
-    fn put_banks(&mut self, plans: &[Arc<Plan, Global>], banks: Items<Stand>)
-        requires few { length plans.now ≤ 4 }
-        requires room { length self.old.bytes + bank_len (map arc_value plans.now) * length plans.now ≤ self.old.limit }
-        requires holds { HoldsLevel (map arc_value plans.now) self.old.limit self.old.slots }
-        requires fit { AreLevel (map arc_value plans.now) banks }
-        ensures bytes { self.new.bytes ≡ self.old.bytes ++ banks_bytes (map arc_value plans.now) (banks_parts (map arc_value plans.now) banks) }
-        ensures limit { self.new.limit ≡ self.old.limit }
-        ensures slots { self.new.slots ≡ self.old.slots }
-    {
-        let mut g = 0;
-        'banks: for bank in banks.into_vec() {
-            self.put_bank(&plans[g], bank);
-            g += 1;
-        }
+// Puts the checkpoints of the banks, one behind the other.
+fn put_banks(
+    bytes: &mut Room,
+    bank: &mut RaggedStand,
+    plans: &[Arc<Plan, Global>],
+    stands: Items<Stand>,
+)
+    requires few { length plans.now ≤ 4 }
+    requires slots { HaveSlots (length bank.old.places) (map arc_value plans.now) }
+    requires pending { bank.old.pending ≡ [] }
+    requires fit { AreLevel (map arc_value plans.now) stands }
+    requires spare { banks_spare (map arc_value plans.now) ≤ bytes.old.spare }
+    ensures bytes { bytes.new.bytes ≡ bytes.old.bytes ++ banks_bytes (map arc_value plans.now) (banks_parts (map arc_value plans.now) stands) }
+    ensures len { length bytes.new.bytes ≡ length bytes.old.bytes + banks_spare (map arc_value plans.now) }
+    ensures spare { bytes.new.spare + banks_spare (map arc_value plans.now) ≡ bytes.old.spare }
+    ensures slots { length bank.new.places ≡ length bank.old.places }
+    ensures pending { bank.new.pending ≡ [] }
+{
+    let mut g = 0;
+    'banks: for stand in stands.into_vec() {
+        put_bank(bytes, bank, &plans[g], stand);
+        g += 1;
     }
+}
 
-    // Puts that of one bank.
-    fn put_bank(&mut self, plan: &Plan, bank: Stand)
-        requires fits { StandFits plan.now bank }
-        requires slots { slots_of plan.now ≡ self.old.slots }
-        requires room { length self.old.bytes + encoding_len plan.now.size (slots_of plan.now) ≤ self.old.limit }
-        ensures bytes { self.new.bytes ≡ self.old.bytes ++ encoding plan.now (λ b. part plan.now.size b bank) }
-        ensures limit { self.new.limit ≡ self.old.limit }
-        ensures slots { self.new.slots ≡ self.old.slots }
-    {
-        rest_at(&mut self.bank.places, bank.epoch);
-        self.bank.slots = bank.slots;
-        self.bank.pairs = bank.pairs;
-        encode(&Kind::Level, &self.bank, plan, &mut self.bytes);
-    }
+// Puts that of one bank.
+fn put_bank(bytes: &mut Room, bank: &mut RaggedStand, plan: &Plan, stand: Stand)
+    requires slots { slots_of plan.now ≡ length bank.old.places }
+    requires pending { bank.old.pending ≡ [] }
+    requires fits { StandFits plan.now stand }
+    requires spare { encoding_len plan.now.size (slots_of plan.now) ≤ bytes.old.spare }
+    ensures bytes { bytes.new.bytes ≡ bytes.old.bytes ++ encoding plan.now (λ b. part plan.now.size b stand) }
+    ensures len { length bytes.new.bytes ≡ length bytes.old.bytes + encoding_len plan.now.size (slots_of plan.now) }
+    ensures spare { bytes.new.spare + encoding_len plan.now.size (slots_of plan.now) ≡ bytes.old.spare }
+    ensures slots { length bank.new.places ≡ length bank.old.places }
+    ensures pending { bank.new.pending ≡ [] }
+{
+    // A plan has a slot.
+    let _ = plan.lattice();
+    rest_at(&mut bank.places, stand.epoch);
+    bank.slots = stand.slots;
+    bank.pairs = stand.pairs;
+    encode(&Kind::Level, bank, plan, bytes);
 }
 
 // A place for each of so many slots.

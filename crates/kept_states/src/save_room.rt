@@ -32,7 +32,7 @@ impl Model for SaveRoom {
 
     ghost Value = { SaveRoomView };
 
-    ghost use Rattle.kept_states.specs.Rooms.{save_view};
+    ghost use Rattle.kept_states.specs.SaveRooms.{save_view};
 
     ghost view = { save_view };
 }
@@ -77,23 +77,28 @@ impl SaveRoom {
         ensures { self.new.bytes ≡ stands_kept (map arc_value plans.now) states }
     {
         self.kept.begin(states.len() as u32);
-        self.put_states(plans, states);
+        put_states(&mut self.kept, &mut self.level, plans, states);
         self.kept.end();
     }
+}
 
-    // Puts the checkpoints of the states, one behind the other.
-    fn put_states(&mut self, plans: &[Arc<Plan, Global>], states: Items<Items<Stand>>)
-        requires some { 1 ≤ length plans.now }
-        requires few { length plans.now ≤ 4 }
-        requires level { HoldsLevel (map arc_value plans.now) self.old.level self.old.slots }
-        requires spare { length states * level_len (map arc_value plans.now) ≤ self.old.spare }
-        requires fit { (j : ℕ) → j < length states → AreLevel (map arc_value plans.now) (slice_index_or states j []) }
-        ensures bytes { self.new.bytes ≡ self.old.bytes ++ flat_map (stands_encoding (map arc_value plans.now)) states }
-        ensures spare { self.new.spare + length states * level_len (map arc_value plans.now) ≡ self.old.spare }
-    {
-        'states: for banks in states.into_vec() {
-            self.level.write(plans, banks);
-            self.kept.put(self.level.bytes());
-        }
+// Puts the checkpoints of the states, one behind the other.
+fn put_states(
+    kept: &mut KeptRoom,
+    level: &mut LevelRoom,
+    plans: &[Arc<Plan, Global>],
+    states: Items<Items<Stand>>,
+)
+    requires some { 1 ≤ length plans.now }
+    requires few { length plans.now ≤ 4 }
+    requires level { HoldsLevel (map arc_value plans.now) level.old.limit level.old.slots }
+    requires spare { length states * level_len (map arc_value plans.now) ≤ kept.old.spare }
+    requires fit { (j : ℕ) → j < length states → AreLevel (map arc_value plans.now) (slice_index_or states j []) }
+    ensures bytes { kept.new.bytes ≡ kept.old.bytes ++ flat_map (stands_encoding (map arc_value plans.now)) states }
+    ensures spare { kept.new.spare + length states * level_len (map arc_value plans.now) ≡ kept.old.spare }
+{
+    'states: for banks in states.into_vec() {
+        level.write(plans, banks);
+        kept.put(level.bytes());
     }
 }
