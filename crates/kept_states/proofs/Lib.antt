@@ -1,0 +1,4 @@
+pub mod Levels
+pub mod LevelClauses
+pub mod Refusals
+pub mod KeptClauses
