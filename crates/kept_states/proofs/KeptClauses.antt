@@ -1,9 +1,9 @@
 -- What is read are states at their times, of which the bytes are; and the bytes of such states are read.
-use Rattle.std.specs.Prelude.{All, ◌&&◌, ◌==◌, nat_le, option_map, IfOk, IfErr, ◌⊎◌}
-use Rattle.std.proofs.Common.{◌≡◌, ℕ, zero, suc, ◌+◌, ◌*◌, ◌<◌, ◌≤◌, Bool, true, false, cond, List, [], ◌∷◌, map, length, take, drop, get_or, Option, Some, None, Result, Ok, Err, refl, sym, ap, subst, ◌∙◌, arith, inl, inr}
+use Rattle.std.specs.Prelude.{All, nat_le, option_map, IfOk, IfErr, ◌⊎◌}
+use Rattle.std.proofs.Common.{◌≡◌, ℕ, zero, suc, ◌+◌, ◌*◌, ◌<◌, ◌≤◌, Bool, true, false, cond, List, [], ◌∷◌, map, length, get_or, Option, Some, None, Result, Ok, Err, refl, sym, ap, subst, ◌∙◌, arith, inl, inr}
 use Rattle.std.proofs.lemmas.Bool.{and_parts, leb-true}
 use Rattle.std.proofs.lemmas.List.{get_or-map, length-map}
-use Rattle.glass_edges.specs.Refusals.{or_else, unless, Gives}
+use Rattle.glass_edges.specs.Refusals.{or_else, Gives}
 use Rattle.glass_edges.proofs.FirstRefusals.{if-none, or-later, or-none, unless-ok}
 use Rattle.glass_edges.proofs.NumberBytes.{IsBytes, bytes-drop, bytes-take}
 use Rattle.kept_states.specs.KeptReading.{level_tests, told, states_refusal, kept_stands_in, kept_decoded, stands_kept, AreBytesOf, AreKeptStates}
@@ -96,8 +96,11 @@ module _ (plans : List Plan) (times bytes : List ℕ) (some : 1 ≤ length plans
   bytes-are false kept =
       let one = in-one kept in
       let own = ap (λ (xs : List (List ℕ)). get_or xs 0 []) one in
-      inr (level_banks_in plans bytes, ap (λ (xs : List (List ℕ)). map (level_banks_in plans) xs) one,
-          sym own ∙ (each 0 (omega (arith, ap length one))).0.bytes_are ∙ ap (λ (x : List ℕ). stands_encoding plans (level_banks_in plans x)) own)
+      inr (
+        level_banks_in plans bytes,
+        ap (λ (xs : List (List ℕ)). map (level_banks_in plans) xs) one,
+        sym own ∙ (each 0 (omega (arith, ap length one))).0.bytes_are ∙ ap (λ (x : List ℕ). stands_encoding plans (level_banks_in plans x)) own,
+      )
 
   pub none-kept : AreKeptStates plans times bytes (kept_stands_in plans bytes)
   none-kept =

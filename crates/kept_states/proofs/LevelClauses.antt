@@ -1,5 +1,5 @@
 -- The reader of one bank's checkpoint and that of several answer as one.
-use Rattle.std.proofs.Common.{◌≡◌, ℕ, ◌<◌, List, [], ◌∷◌, length, map, get_or, Option, Some, None, Result, Ok, Err, refl, ap, ◌∙◌, arith}
+use Rattle.std.proofs.Common.{◌≡◌, ℕ, List, [], ◌∷◌, length, map, get_or, Option, Some, None, Result, Ok, Err, refl, ap, arith}
 use Rattle.glass_edges.specs.Refusals.{unless, GivesAfterTests}
 use Rattle.kept_states.specs.Levels.{level_banks_refusal, level_banks_in, level_banks_decoded}
 use Rattle.plane_sweep.specs.declared.stand.Stand.{Stand}

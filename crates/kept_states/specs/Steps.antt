@@ -1,5 +1,5 @@
 -- What the steps of the reader say: for proofs alone.
-use Rattle.std.specs.Prelude.{ℕ, ◌==◌, if◌then◌else◌, List, map, length, Option, Some, None, option_map, Result}
+use Rattle.std.specs.Prelude.{ℕ, ◌==◌, if◌then◌else◌, List, map, Option, Some, None, Result}
 use Rattle.glass_edges.specs.Refusals.{or_else, first_found, unless}
 use Rattle.kept_frame.specs.declared.refused.KeptRefused.{KeptRefused}
 use Rattle.kept_frame.specs.declared.refused.KeptRefused.TheVariants as kept

@@ -1,16 +1,11 @@
-//! The states that a quench keeps, as bytes: read from them, and written as them.
+//! The states that a quench keeps, as bytes: one checkpoint at one epoch is read, of one bank of 64 samples or of
+//! several, and laws on the bytes of all.
 #![tactic(auto)]
 
-mod kept_reading;
+mod laws;
 mod level_reading;
-mod level_room;
 mod refused;
-mod save_room;
 
-pub use kept_reading::decode_kept;
+pub use laws::{kept_states_are_found, kept_states_are_read_again};
 pub use level_reading::{decode_level, level_length};
 pub use refused::KeptStatesRefused;
-pub use save_room::SaveRoom;
-
-#[cfg(test)]
-mod tests;

@@ -1,5 +1,5 @@
 -- The only bank's state, as a list of one.
-use Rattle.std.proofs.Common.{◌≡◌, List, [], ◌∷◌, Ok, ap, subst, sym, ◌∙◌}
+use Rattle.std.proofs.Common.{List, [], ◌∷◌, Ok, ap, subst, sym, ◌∙◌}
 use Rattle.std.proofs.lemmas.Result.{err_from_is_err_and}
 use Rattle.kept_states.specs.Levels.{IsLevelCheckpoint}
 use Rattle.kept_states.proofs.LevelClauses.{gives-same, gives-none, one-read, one-refused}
@@ -20,11 +20,11 @@ returns-in_err-alone-clause-exact c =
     gives-none checkpoint.NoMemory (λ (s : List Stand). s) c.from_residual-in_err-alone.result p.0 (c.in_ok-stand.stand ∷ []) _ p.1 p.2
     (one-read c.args.plan.now c.args.until c.args.bytes.now c.in_ok-stand.stand c.in_ok-stand.ensures.exact)
 
-pub returns-in_ok-alone-clause-found : goal.returns-in_ok-alone-clause-found
-returns-in_ok-alone-clause-found c =
+pub returns-clause-found : goal.returns-clause-found
+returns-clause-found c =
     let C : List Stand → Type 0 = λ stands. IsLevelCheckpoint (c.args.plan.now ∷ []) c.args.until c.args.bytes.now stands in
     subst C (sym c.in_ok-alone.ensures) (one-checkpoint c.args.plan.now c.args.until c.args.bytes.now c.in_ok-stand.stand c.in_ok-stand.ensures.found)
 
-pub returns-in_ok-alone-clause-exact : goal.returns-in_ok-alone-clause-exact
-returns-in_ok-alone-clause-exact c =
+pub returns-clause-exact : goal.returns-clause-exact
+returns-clause-exact c =
     one-read c.args.plan.now c.args.until c.args.bytes.now c.in_ok-stand.stand c.in_ok-stand.ensures.exact ∙ ap (λ (s : List Stand). Ok s) (sym c.in_ok-alone.ensures)
