@@ -37,16 +37,22 @@ class Layer:
         self.spins = 1.0 - 2.0 * (configurations[:, None] >> np.arange(side * side) & 1)
         self.orbits = list(orbits(side))
 
+    def row(self, beta, r):
+        """The row of T that belongs to a configuration."""
+        import numpy as np
+
+        return np.exp(beta * (self.spins @ self.spins[r] - (self.energies + self.energies[r]) / 2))
+
     def step(self, beta, values):
-        """T applied to a vector."""
+        """T applied to a vector: bonds to the next layer are four sites at a time, half a byte of a configuration."""
         import numpy as np
 
         half = np.exp(-beta * self.energies / 2)
-        found = half * values
-        for site in range(self.side ** 2):
-            pairs = found.reshape(-1, 2, 2 ** site)
-            found = (np.exp(beta) * pairs + np.exp(-beta) * pairs[:, ::-1]).reshape(-1)
-        return half * found
+        alike = 4 - 2 * np.array([[bin(a ^ b).count("1") for a in range(16)] for b in range(16)])
+        found = (half * values).reshape([16] * (self.side ** 2 // 4))
+        for _ in found.shape:
+            found = np.tensordot(found, np.exp(beta * alike), axes=(0, 0))
+        return half * found.reshape(-1)
 
     def together(self, one, other):
         """By displacement (y, x) the sum over a layer's sites of a value there and another one at the displaced site."""
@@ -62,12 +68,13 @@ def correlations(layer, beta):
 
     total, found = 0.0, np.zeros((LAYERS // 2 + 1, layer.side, layer.side))
     for r, many in layer.orbits:
-        powers = [np.eye(1, len(layer.energies), r)[0]]
-        for _ in range(LAYERS):
-            powers.append(layer.step(beta, powers[-1]))
-        total += many * powers[LAYERS][r]
-        for k in range(LAYERS // 2 + 1):
-            found[k] += many * layer.together(layer.spins[r], (powers[k] * powers[LAYERS - k]) @ layer.spins)
+        one = layer.row(beta, r)
+        two = layer.step(beta, one)
+        three = layer.step(beta, two)
+        back = two @ two
+        total += many * back
+        for k, others in enumerate((back * layer.spins[r], (one * three) @ layer.spins, (two * two) @ layer.spins)):
+            found[k] += many * layer.together(layer.spins[r], others)
     found = found / (total * layer.side ** 2)
     # One configuration stands for those that mirrors and a change of the axes make of it.
     found = (found + np.roll(found[:, ::-1], 1, 1)) / 2
@@ -77,8 +84,13 @@ def correlations(layer, beta):
 
 
 def mean_energy(layer, beta):
-    """Of a lattice whose three directions are alike."""
-    return -3 * layer.side ** 3 * correlations(layer, beta)[0, 0, 1]
+    """Of a lattice whose three directions are alike: 3/2 of the energy within the layers."""
+    total = within = 0.0
+    for r, many in layer.orbits:
+        two = layer.step(beta, layer.row(beta, r))
+        total += many * (two @ two)
+        within += many * (two @ two) * layer.energies[r]
+    return 1.5 * LAYERS * within / total
 
 
 def means(layer, beta):
