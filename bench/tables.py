@@ -130,6 +130,11 @@ def span(what: str, unit: str) -> Callable[[Row], str]:
     return cell
 
 
+def megabytes(what: str) -> Callable[[Row], str]:
+    """A cell with kB of 1024 bytes as MB of a million."""
+    return lambda row: f"{1.024 * float(row[what]) / 1000:.1f}"
+
+
 def least_to_most(values: Sequence[float]) -> str:
     """Numbers to a tenth, from the least to the greatest."""
     shown = in_order(f"{value:.1f}" for value in sorted(values))
@@ -175,6 +180,11 @@ TABLES: Dict[str, Union[Table, Listed, Made]] = {
         (value_of("size"), "size"), (span("metropolis", "ps"), "a by Metropolis, ps"),
         (span("heat_bath", "ps"), "a by heat bath, ps"), (span("epoch", "us"), "c, microseconds"),
         (span("start", "s"), "start, seconds")), (), COST, True),
+    "memory": Listed("memory", (
+        (value_of("size"), "size"), (value_of("slots"), "temperatures"), (megabytes("run_kb"), "`run`, MB"),
+        (megabytes("one_bin_kb"), "`measure` with one bin, MB"), (megabytes("six_bins_kb"), "with six bins, MB"),
+        (lambda row: f"{1.024 * float(row['bin_kb']):.1f}", "a bin and temperature, kB"),
+        (megabytes("worker_kb"), "a further worker, MB")), (), COST, True),
     "speed": Made(front_table, FRONT),
     **{f"tried_{subject}": tried(subject) for subject in ("sweep", "runs", "workers", "sums", "potts", "gate", "every")},
 }

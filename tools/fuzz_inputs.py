@@ -9,9 +9,11 @@ documents say of those bytes.
 
 Inputs are grown from lawful ones by cuts, repeats, flipped bits, numbers at their bounds, pieces of other inputs and
 sealed changes, whose digest is made anew. Each goes through `glass check`, `glass run --until` or both, some through
-`glass measure`, a report through `glass average`. expected_runs.py, and of sums reference/measure.py, tell independently
-of the program the status, the line and the text, and what a saved checkpoint holds: so a changed byte never gives status 0 with another digest or report than its own. No run ends by
-a signal, and each line is one of docs/specification/messages.md. The same count and seed give the same inputs.
+`glass measure` or, with a second checkpoint, `glass cross`, a report through `glass average`. expected_runs.py, and of
+the other two commands reference/measure.py and reference/cross.py, tell independently of the program the status, the line
+and the text, and what a saved checkpoint holds: so a changed byte never gives status 0 with another digest or report than
+its own. No run ends by a signal, and each line is one of docs/specification/messages.md. The same count and seed give the
+same inputs.
 
 GLASS names the program; else it is that of tests/program.sh. Status 0 where every run was held to, 1 where one was not,
 2 where nothing could be run."""
@@ -33,17 +35,22 @@ import input_growth
 import input_judge
 from make_tables import OneLineParser, Refusal
 from reference.answers import NOT_TOLD
+from reference.cross import ended as crossed
 from reference.measure import ended as measured
 
 TOP = Path(__file__).resolve().parent.parent
 SECONDS = 60
+SEED, OTHER_SEED = 20240611, 20240612
+# The words that may stand in the place of the second seed, and in that of a file's name.
+SEED_WORDS = ["0", "7", "9223372036854775807", "9223372036854775808", "-1", "007", "0x7", "", "seed"]
+NAME_WORDS = ["absent", ".", "--until", "", "n" * 256, "run.toml"]
 RUN = """size = {size}
 rule = "{rule}"
 rules = "rules.csv"
 swaps = "swaps.csv"
 couplings = "{source}"
 sweeps = 1
-seed = 20240611
+seed = {seed}
 samples = {samples}
 epochs = 3
 every = {every}
@@ -68,7 +75,7 @@ def lawful_files(study):
     swaps = ["3149642683, 2309737966, 1693807842", "4294967296"][:slots - 1]
     of_file = 65 if size == 6 or samples > 64 else 1
     bonds = [couplings.random_sample(size, 5, b, couplings.probability("1/2")) for b in range(of_file)]
-    run = RUN.format(size=size, rule=rule, source=source, samples=samples, every=every, start=start)
+    run = RUN.format(size=size, rule=rule, source=source, seed=SEED, samples=samples, every=every, start=start)
     return {"run.toml": run.encode(), "rules.csv": ("\n".join(rows[:slots]) + "\n").encode(),
             "swaps.csv": "".join(line + "\n" for line in swaps).encode(), "j.bin": couplings.file_bytes(size, bonds)}
 
@@ -81,13 +88,12 @@ class Study:
         self.samples, self.every = study[4], study[5]
         folder.mkdir()
         self.files = lawful_files(study)
+        run = self.files["run.toml"]
+        # States of equal couplings and another seed, but where couplings are those of the seed.
+        self.write({**self.files, "run.toml": run.replace(f"seed = {SEED}".encode(), f"seed = {OTHER_SEED}".encode())})
+        self.seconds = [self.saved(epoch) for epoch in (0, 2)]
         self.write(self.files)
-        self.bases = []
-        for epoch in range(4):
-            ended = self.call("run", "run.toml", "--until", str(epoch), "--save", "base")
-            if ended.returncode != 0:
-                raise Refusal(f"a lawful run ended with status {ended.returncode}: {ended.stderr.decode()}")
-            self.bases.append((folder / "base").read_bytes())
+        self.bases = [self.saved(epoch) for epoch in range(4)]
         self.reports = [self.call("run", "run.toml", "--until", until).stdout for until in ("0", "1", "3")]
         if self.samples > 64:
             # Two banks at different epochs, and one bank alone.
@@ -98,6 +104,13 @@ class Study:
         else:
             self.bases += [input_growth.uneven(rng, self.bases[epoch], self.size, self.slots, self.samples, self.every)
                            for epoch in (0, 1, 1, 2, 2)]
+
+    def saved(self, epoch):
+        """The checkpoint of the lawful run at an epoch."""
+        ended = self.call("run", "run.toml", "--until", str(epoch), "--save", "base")
+        if ended.returncode != 0:
+            raise Refusal(f"a lawful run ended with status {ended.returncode}: {ended.stderr.decode()}")
+        return (self.folder / "base").read_bytes()
 
     def write(self, files):
         for name, stored in files.items():
@@ -163,23 +176,27 @@ class Fuzzer:
         """One input, by its number, and what becomes of it."""
         rng = random.Random(f"{seed} {number}")
         study = rng.choice(self.studies)
-        kind = rng.choices(("run.toml", "rules.csv", "swaps.csv", "j.bin", "base"), (5, 3, 2, 4, 6))[0]
+        kind = rng.choices(("run.toml", "rules.csv", "swaps.csv", "j.bin", "base", "second"), (5, 3, 2, 4, 6, 1))[0]
         if kind == "j.bin" and b"file:" not in study.files["run.toml"]:
             study = rng.choice([it for it in self.studies if b"file:" in it.files["run.toml"]])
-        changed = {"base": rng.choice(study.bases)}
+        changed = {"base": rng.choice(study.bases), "second": rng.choice(study.bases + 2 * study.seconds)}
         for name in [kind] + ([rng.choice(sorted(study.files))] if rng.random() < 0.1 else []):
-            others = study.bases if name == "base" else [it.files[name] for it in self.studies]
+            is_state = name in ("base", "second")
+            others = study.bases + study.seconds if is_state else [it.files[name] for it in self.studies]
             stored = changed.get(name) or study.files.get(name, b"")
-            changed[name] = input_growth.grown(rng, name, stored, others, study.size, study.slots)
+            changed[name] = input_growth.grown(rng, "base" if is_state else name, stored, others, study.size, study.slots)
         study.write(changed)
         os.chdir(study.folder)
         before = self.failed
-        if kind != "base":
+        if kind not in ("base", "second"):
             self.hold(number, study, ["check", "run.toml"], expected_runs.checked("run.toml"))
         if rng.random() < 0.1:
             words = ["run", "run.toml", "--stop-after", "0", "--save", "stopped"]
             self.hold(number, study, words, expected_runs.stopped("run.toml"))
-        self.hold_run(number, study, rng, changed["base"] if kind == "base" or rng.random() < 0.2 else None)
+        if kind != "second":
+            self.hold_run(number, study, rng, changed["base"] if kind == "base" or rng.random() < 0.2 else None)
+        if kind == "second" or rng.random() < 0.04:
+            self.hold_copies(number, study, rng)
         if self.failed > before or self.kept is not None:
             self.keep(number, study)
         study.write({name: study.files[name] for name in changed if name in study.files})
@@ -234,6 +251,16 @@ class Fuzzer:
         if wanted.status != NOT_TOLD:
             text = wanted.text.encode()
             self.hold(number, study, words, expected_runs.Verdict(wanted.status, wanted.line.encode(), b"", text, None, 0))
+
+    def hold_copies(self, number, study, rng):
+        """The copies of two states; one word in ten is another."""
+        words = ["cross", "run.toml", "base", rng.choice((str(SEED), str(OTHER_SEED), str(OTHER_SEED))), "second"]
+        if rng.random() < 0.1:
+            at = rng.randrange(1, 5)
+            words[at] = rng.choice(SEED_WORDS if at == 3 else NAME_WORDS)
+        wanted = crossed([word.encode() for word in words])
+        if wanted.status != NOT_TOLD:
+            self.hold(number, study, words, expected_runs.Verdict(wanted.status, wanted.line.encode(), b"", wanted.text.encode(), None, 0))
 
     def hold(self, number, study, words, verdict):
         self.runs += 1

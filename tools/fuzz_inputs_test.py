@@ -14,11 +14,12 @@ import input_judge
 import reference.definitions as rule
 from make_tables import Checks
 
-RUN = fuzz_inputs.RUN.replace("seed = 20240611", "seed = 7")
+RUN = fuzz_inputs.RUN.replace("{seed}", "7")
 TWO_SLOTS = {"run.toml": RUN.format(size=4, rule="heat", source="plus", samples=1, every=1, start="up").encode(),
              "rules.csv": b"4294967296,4294967296,4294967296,0,0,0,0\n0,0,0,0,0,0,4294967296\n", "swaps.csv": b"4294967296\n"}
 # Published values of this run: its plan's digest, and the last bytes of its checkpoints at epochs 1 and 2.
 PLAN = "d9aa15c363f754a61bc0ea79f1bbe78112219581fbe4f49adbdb771408c853e7"
+PLAN_OF_SEED_8 = "3f9d4ab5126fef021b27c5daf9f4bc88dd7391d73e72eaaeca8abf17e4e6add8"
 SEALS = {1: "f5061320742401e61d10bc117909495b597fa50026b573897d9c4c900297dbd3",
          2: "de1f29722e9c43a589222fc234412f6559ae06b16d13e1187ec06fde2629633c"}
 # One slot of 65 samples, the published digest of each bank's plan, and the length of a checkpoint of two banks.
@@ -72,6 +73,15 @@ def known_run(checks):
             checks.same(f"saved from {begun}", expected_runs.wrong_in_saved(file.read(), verdict.run, (0, 63)), None)
         with open("at1", "rb") as file:
             checks.same("saved too early", expected_runs.wrong_in_saved(file.read(), verdict.run, (0,)), "it is at epoch 1")
+
+
+def copies(checks):
+    """Of two states of the run above and of a second seed: the first line, and the published digests of both plans."""
+    found = fuzz_inputs.crossed([b"cross", b"run.toml", b"at1", b"7", b"at2"])
+    checks.same("four copies", (found.status, found.text.splitlines()[0], len(found.text.splitlines())),
+                (0, "cross 1 size=4 slots=2 samples=1 rule=heat seeds=7,7 epochs=1,2", 38))
+    checks.same("a state of another seed", fuzz_inputs.crossed([b"cross", b"run.toml", b"at1", b"8", b"at2"]).line,
+                f"glass: the second checkpoint is of another plan: {PLAN} stored, {PLAN_OF_SEED_8} here\n")
 
 
 def changed(stored, at, byte):
@@ -247,6 +257,7 @@ def self_test():
         os.chdir(folder)
         try:
             known_run(checks)
+            copies(checks)
             refusals(checks)
             uneven(checks)
             reports(checks)

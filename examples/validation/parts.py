@@ -1,5 +1,7 @@
 """The runs that the validation is made of: what each part simulates, and which values are taken of a run.
 
+A part's command is `run`, whose values are made of its rows, or `measure`, whose values are means of its sums.
+
 All runs of a part have seeds of their own, so values of different runs are independent. Ferromagnets are turned by
 gauges: J of a bond times a random sign of each of its two sites keeps the law of all energies. Under the heat bath it
 keeps samples with the same couplings from falling together by their shared random numbers; under Metropolis, which sees
@@ -21,18 +23,20 @@ import numpy as np  # noqa: E402
 from numpy.typing import NDArray  # noqa: E402
 
 from couplings import random_sample, turned  # noqa: E402
+from glass_analysis.sums import Means, structure  # noqa: E402
 
 Integers = NDArray[np.int64]
-# Of a run its energies by epoch, sample, slot and replica, and its overlaps by epoch, sample and slot; the sites.
-Values = Callable[[Integers, Integers, int], List[float]]
+# Of `run` the energies by epoch, sample, slot and replica, and the overlaps by epoch, sample and slot; the sites. Of
+# `measure` the means over samples and epochs, by slot.
+Values = Callable[..., List[float]]
 # Of a run's number the couplings of each sample, as tools/couplings.py has them.
 Couplings = Callable[[int], List[bytes]]
 
 
 class Part(NamedTuple):
     """`slots` are words of make_tables; `couplings` is None where the program draws them from the seed; the epochs
-    before `skip` are left out; `runs` is the number of runs of the whole validation; each starts with random spins, but
-    where `start` says up."""
+    before `skip` are left out, which is 0 or a power of two under `measure`; `runs` is the number of runs of the whole
+    validation; each starts with random spins, but where `start` says up."""
     name: str
     size: int
     rule: str
@@ -47,6 +51,7 @@ class Part(NamedTuple):
     heads: Tuple[str, ...]
     values: Values
     start: str = "random"
+    command: str = "run"
 
     def seed(self, run: int) -> int:
         """The generators' labels don't have the size, so each part has seeds of its own."""
@@ -105,6 +110,25 @@ def least_energies(energies: Integers, overlaps: Integers, sites: int) -> List[f
     return [float(least.min(axis=1).mean()) / sites, float((least[:, 0] != least[:, 1]).mean())]
 
 
+def sum_of(means: Means, name: str) -> NDArray[np.float64]:
+    """By slot the mean of a sum that a line of `measure` names, D1 being that of D(1)."""
+    if name[0] in "DF":
+        return means.lines("axis" if name[0] == "D" else "face")[..., int(name[1:])]
+    return means.of(name)
+
+
+def sums_by_slot(*names: str) -> Values:
+    return lambda means: [float(value) for slot in zip(*(sum_of(means, name) for name in names)) for value in slot]
+
+
+def of_transition(means: Means) -> List[float]:
+    """In the slots whose curves are looked at, so that figures are functions of their means over runs: the second and the
+    fourth moment of the overlap per site, and chi over the sites at the least wave vector along an axis and a face diagonal."""
+    sites = means.sites
+    found = (means.of("q2") / sites ** 2, means.of("q4") / sites ** 4, structure(means, "axis", 1) / sites, structure(means, "face", 1) / sites)
+    return [float(value) for slot in list(zip(*found))[:len(CURVES)] for value in slot]
+
+
 # ---------------------------------------------------------------- the parts
 
 # By inverse temperature the samples that are printed, the epochs, those that are left out, and the interval: where it is
@@ -112,6 +136,13 @@ def least_energies(energies: Integers, overlaps: Integers, sites: int) -> List[f
 NISHIMORI = {0.2: (16, 2000, 100, 2), 0.4: (16, 2000, 100, 2), 0.6: (256, 60, 20, 4), 0.9: (256, 60, 20, 4)}
 CRITICAL_BETA = "0.221654626"
 TRANSITION = "1.1019"
+# Of each run of the study at the transition the temperatures whose values are kept, and the hotter ones that speed it up.
+CURVES = ("1.05", TRANSITION, "1.155", "1.21", "1.265", "1.32", "1.38", "1.44")
+HOTTER = ("1.505", "1.57", "1.64", "1.715")
+KEPT = ("q2", "q4", "axis", "face")
+# Of the sums of an epoch those that are compared with exact ones.
+FERROMAGNET_SUMS = ("E", "E2", "E01", "A", "q2", "D0", "D1", "D2", "F0", "F1", "F2")
+INDEPENDENT_SUMS = ("E", "E2", "E01", "A", "A2", "q", "q2", "q4", "Eq2", "Eq4", *(f"{family}{r}" for family in "DF" for r in range(5)))
 
 
 def betas(*values: object) -> Tuple[str, ...]:
@@ -141,7 +172,29 @@ def all_parts() -> List[Part]:
     parts += [Part(f"ground_{size}", size, "metropolis", even("0.4", "2", slots, size), None, 256, 10, epochs, epochs // 4,
                    epochs // 20, runs, ("least", "one_replica"), least_energies)
               for size, slots, epochs, runs in ((4, 8, 400, 400), (6, 16, 1000, 100))]
-    return parts
+    return parts + parts_of_sums() + parts_at_the_transition()
+
+
+def parts_of_sums() -> List[Part]:
+    """Those whose sums are known exactly. At an inverse temperature so small all thresholds are one half, and spins are
+    independent after one sweep; with equal draws all samples have the same ones then, so one is printed."""
+    parts = [Part("sums_ferromagnet_4", 4, "heat", betas(0.3, 0.22165463, 0.2, 0.1), ferromagnets(4), 8, 2, 8192, 128, 4, 1000,
+                  tuple(f"{name}_{beta}" for beta in ("0.3", "0.22165463", "0.2", "0.1") for name in FERROMAGNET_SUMS),
+                  sums_by_slot(*FERROMAGNET_SUMS)),
+             Part("sums_independent_8", 8, "heat", betas("1e-11"), None, 1, 1, 4096, 0, 1, 1000, INDEPENDENT_SUMS, sums_by_slot(*INDEPENDENT_SUMS))]
+    # No run of rows has these couplings.
+    parts += [Part(name, 8, "heat", betas(0.6), lambda run: nishimori(0.6, 256)(run + 10 ** 6), 256, 1, epochs, 0, 1, 1000,
+                   ("E", "E2"), sums_by_slot("E", "E2"), "up") for name, epochs in (("sums_nishimori_8", 64), ("sums_nishimori_8_begin", 2))]
+    return [part._replace(command="measure") for part in parts]
+
+
+def parts_at_the_transition() -> List[Part]:
+    """Two hours of four processors: the spin glass at equal temperatures for each size."""
+    heads = tuple(f"{kept}_{temperature}" for temperature in CURVES for kept in KEPT)
+    return [Part(f"transition_{size}", size, "metropolis", ("--temperatures", *CURVES, *HOTTER), None, samples, 8, epochs, epochs // 4,
+                 epochs // 32, runs, heads, of_transition, command="measure")
+            for size, samples, epochs, runs in ((4, 256, 512, 250), (6, 256, 1024, 250), (8, 256, 2048, 250), (10, 256, 4096, 250),
+                                                (12, 64, 8192, 600), (16, 64, 16384, 400))]
 
 
 PARTS = all_parts()

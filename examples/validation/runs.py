@@ -24,17 +24,22 @@ from pathlib import Path
 from typing import List, NamedTuple, Sequence, Tuple
 
 sys.dont_write_bytecode = True
-from parts import BY_NAME, PARTS, Part, here  # noqa: E402
+from parts import BY_NAME, PARTS, Part, here, parts_at_the_transition  # noqa: E402
 
 from couplings import file_bytes  # noqa: E402
 from exit_status import status_of  # noqa: E402
 from glass_analysis import read_report  # noqa: E402
+from glass_analysis.sums import Means, per_sample  # noqa: E402
 from make_tables import OneLineParser, Refusal  # noqa: E402
+from measured_text import Measured, read_measured  # noqa: E402
 
 TOOLS = here.parent.parent / "tools"
 MEASURED = here / "seed_measured"
 # Of each value that over the whole run, and those over its first and second half.
 WHENS = ("", "_first", "_last")
+# The study at the transition takes hours, and is made where it is named.
+TRANSITION = tuple(part.name for part in parts_at_the_transition())
+OTHERS = tuple(name for name in BY_NAME if name not in TRANSITION)
 # What the independent program makes, and how many of its samples are one set of values; its runs are shorter.
 REFERENCE, SHORTER = {"ferromagnet_4": 1, "glasses_4": 3}, 10
 
@@ -90,12 +95,22 @@ def taken(part: Part, energies, overlaps) -> List[float]:  # type: ignore[no-unt
     return [float(values[n]) for n in range(len(part.heads)) for values in parts]
 
 
+def taken_of_sums(part: Part, measured: Measured) -> List[float]:
+    """Each value over the bins that are not left out, those but the last one, and the last one, which has half of the
+    epochs; ten digits of it."""
+    least, last = part.skip.bit_length(), measured.bins[-1]
+    parts = [part.values(Means(per_sample(measured, *ends).mean(axis=0), part.size)) for ends in ((least, last), (least, last - 1), (last, last))]
+    return [float(f"{values[n]:.10g}") for n in range(len(part.heads)) for values in parts]
+
+
 def of_program(part: Part, run: int, program: str) -> List[float]:
     with tempfile.TemporaryDirectory(dir=MEASURED) as name:
         folder = Path(name)
         write_run(part, run, folder)
         with open(folder / "report", "wb") as report:
-            subprocess.run([program, "run", "run.toml"], cwd=folder, stdout=report, check=True)
+            subprocess.run([program, part.command, "run.toml"], cwd=folder, stdout=report, check=True)
+        if part.command == "measure":
+            return taken_of_sums(part, read_measured(str(folder / "report")))
         records = read_report(str(folder / "report")).after(part.skip)
         return taken(part, records.energies, records.overlaps)
 
@@ -175,7 +190,9 @@ def main() -> int:
     parser.add_argument("share", type=float, metavar="SHARE", help="of the runs of the whole validation")
     parser.add_argument("--lanes", type=int, default=1, metavar="N", help="runs at one time (1)")
     parser.add_argument("--minutes", type=float, metavar="M", help="begin no run later")
-    parser.add_argument("--parts", nargs="+", default=list(BY_NAME), choices=list(BY_NAME), metavar="PART", help="these alone")
+    parser.add_argument("--parts", nargs="+", default=list(OTHERS), choices=list(BY_NAME), metavar="PART",
+                        help="these alone (all but those at the transition)")
+    parser.add_argument("--transition", dest="parts", action="store_const", const=list(TRANSITION), help="those at the transition")
     options = parser.parse_args()
     if not (0 < options.share <= 100 and 1 <= options.lanes <= 256):
         raise Refusal("a share above 0 is wanted, and --lanes from 1 to 256")

@@ -88,10 +88,15 @@ def susceptibility(means: Means) -> Numbers:
     return means.of("q2") / means.sites
 
 
+def length_by(ratio: Numbers, side: int) -> Numbers:
+    """The second-moment correlation length over the side, by chi(0) over chi(1); nan where that is below 1."""
+    with np.errstate(invalid="ignore"):
+        return np.sqrt(ratio - 1) / (2 * np.sin(np.pi / side)) / side
+
+
 def length_over_side(means: Means) -> Numbers:
-    """The second-moment correlation length over the side; nan where chi(0) is below chi(k)."""
     with np.errstate(invalid="ignore", divide="ignore"):
-        return np.sqrt(susceptibility(means) / structure(means, "axis", 1) - 1) / (2 * np.sin(np.pi / means.size)) / means.size
+        return length_by(susceptibility(means) / structure(means, "axis", 1), means.size)
 
 
 def r_12(means: Means) -> Numbers:
