@@ -10,6 +10,7 @@
     python3 tools/estimate.py walks report.txt --skip 2000 --run run.toml --feedback
     python3 tools/estimate.py lengths lines_1.txt lines_2.txt --plot lengths.png
     python3 tools/estimate.py export seed_*.txt --hdf5 study.h5
+    python3 tools/estimate.py cross copies_*.txt --run run.toml --csv copies.csv
 
 means          energy per site, q^2, spin-glass susceptibility V [q^2] and Binder ratio of each slot, and the specific
                heat where temperatures are known
@@ -28,6 +29,11 @@ Of texts of sums over runs by bins of epochs (docs/specification/measure.md), wi
 sums           energy, specific heat, link overlap, susceptibility, xi/L, R12, U4 and its slope of each slot, and P(q)
 bins           the same bin by bin, with the step to the next bin in its own errors: whether a run is equilibrated
 scaling        xi/L, R12 and U4 of several sizes, their crossings, and with --collapse T_c and nu of all sizes together
+squares        of two runs of equal couplings: U22, and variances of the samples' means, by products without bias
+
+Of texts of four copies (docs/specification/quench.md), with errors over pairs of runs and over samples:
+
+cross          U111, U1111, U22 and U4; of one pair chi, xi/L, R12 and the link overlap
 
 Errors are jackknife errors. Of several reports, which must differ in their seeds alone, each is a block; those
 whose manifests (tools/manifest.py) name couplings files are one block for each file. Of one report its samples
@@ -54,9 +60,11 @@ NEEDED = "numpy, scipy and matplotlib are needed: sudo apt-get install python3-n
 MODULES = {"means": "estimate_means", "reweight": "estimate_means", "overlaps": "estimate_means",
            "equilibration": "estimate_runs", "bracket": "estimate_runs", "times": "estimate_runs", "walks": "estimate_runs",
            "lengths": "estimate_files", "export": "estimate_files",
-           "sums": "estimate_sums", "bins": "estimate_sums", "scaling": "estimate_sums"}
-# Those of texts of sums over runs, which are no reports.
-OF_SUMS = ("sums", "bins", "scaling")
+           "sums": "estimate_sums", "bins": "estimate_sums", "scaling": "estimate_sums",
+           "squares": "estimate_copies", "cross": "estimate_copies"}
+# Those of texts of sums over runs, which are no reports, and of texts of four copies.
+OF_SUMS = ("sums", "bins", "scaling", "squares")
+OF_STATES = ("cross",)
 
 
 def add_own_words(command: str, words: argparse.ArgumentParser) -> None:
@@ -94,12 +102,25 @@ def add_words_of_sums(command: str, words: argparse.ArgumentParser) -> None:
     if command in ("sums", "bins"):
         words.add_argument("--slot", type=int, nargs="+", default=[], metavar="N",
                            help="these slots (0)" if command == "bins" else "also P(q) of these slots")
-    if command in ("sums", "scaling"):
+    if command in ("sums", "scaling", "squares"):
         words.add_argument("--from-bin", type=int, default=0, metavar="K", help="leave out the bins before this one")
         words.add_argument("--to-bin", type=int, metavar="K", help="leave out the bins behind this one")
+    if command == "squares":
+        words.add_argument("--second", nargs="+", metavar="FILE", help="texts of the same couplings and other seeds, in the order of the others")
+        add_csv(words)
     if command == "scaling":
         words.add_argument("--collapse", type=float, nargs=2, metavar=("T", "NU"),
                            help="also a collapse of all sizes, looked for from T_c and nu on")
+
+
+def add_csv(words: argparse.ArgumentParser) -> None:
+    words.add_argument("--csv", metavar="FILE", help="also write all figures as comma-separated text")
+
+
+def add_words_of_states(words: argparse.ArgumentParser) -> None:
+    add_run(words)
+    words.add_argument("--plot", metavar="FILE", help="write a figure: .png, .svg or .pdf")
+    add_csv(words)
 
 
 def parser_of_words() -> argparse.ArgumentParser:
@@ -113,6 +134,9 @@ def parser_of_words() -> argparse.ArgumentParser:
         words.set_defaults(blocks=None, plot=None)
         if command in OF_SUMS:
             add_words_of_sums(command, words)
+            continue
+        if command in OF_STATES:
+            add_words_of_states(words)
             continue
         if command != "lengths":
             words.add_argument("--skip", type=int, default=0, metavar="EPOCH", help="leave out the epochs before this one")
@@ -132,7 +156,7 @@ def main(words: Optional[Sequence[str]] = None) -> int:
         except ImportError:
             raise Refusal(NEEDED) from None
         command = getattr(importlib.import_module(MODULES[options.command]), options.command)
-        if options.command in ("lengths", *OF_SUMS):
+        if options.command in ("lengths", *OF_SUMS, *OF_STATES):
             command(options)
         else:
             from estimate_words import Words

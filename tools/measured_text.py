@@ -6,10 +6,10 @@ three or six times the squares, the classes to the number of epochs, and sums ob
 from __future__ import annotations
 
 import re
-from typing import BinaryIO, Dict, Iterable, Iterator, List, NamedTuple, Sequence, Tuple
+from typing import Dict, Iterable, Iterator, List, NamedTuple, Sequence, Tuple
 
 from make_tables import Refusal
-from text_lines import TextLines
+from text_lines import NumberLines, read_file
 
 MOMENTS = ("n", "E", "E2", "E01", "A", "A2", "q", "m", "q2", "q4", "Eq2", "Eq4")
 KINDS = ("sum", "hist", "axis", "face")
@@ -17,7 +17,6 @@ CLASSES, MOST_BINS, BANKS = 32, 31, 4
 COUNT = "(0|[1-9][0-9]{0,9})"
 HEADER = re.compile(f"measure 1 size={COUNT} slots={COUNT} samples={COUNT} rule=(heat|metropolis) every={COUNT} from={COUNT} "
                     f"to={COUNT} digest=([0-9a-f]{{64}})")
-NUMBER = re.compile("0|-?[1-9][0-9]{0,38}")
 
 
 class Heading(NamedTuple):
@@ -76,12 +75,7 @@ def faults(size: int, number: int, lines: Lines) -> Iterator[str]:
         yield "the overlaps are greater than the number of sites"
 
 
-class Reader(TextLines):
-    longest = 4096
-
-    def line(self) -> str:
-        return self.next_line().decode("ascii", "replace")
-
+class Reader(NumberLines):
     def heading(self) -> Heading:
         found = HEADER.fullmatch(self.line())
         if found is None:
@@ -92,14 +86,6 @@ class Reader(TextLines):
                 and heading.every >= 1 and heading.first <= heading.to < 2 ** 30):
             raise self.damaged("this is no first line of sums over a run")
         return heading
-
-    def numbers(self, kind: str, place: Tuple[int, int, int], count: int) -> Tuple[int, ...]:
-        fields = self.line().split(",")
-        if fields[:4] != [kind, *map(str, place)]:
-            raise self.damaged(f"the line {kind},{','.join(map(str, place))} is due")
-        if len(fields) != 4 + count or not all(map(NUMBER.fullmatch, fields[4:])):
-            raise self.damaged(f"{count} whole numbers are due")
-        return tuple(map(int, fields[4:]))
 
     def read(self) -> Measured:
         heading = self.heading()
@@ -113,21 +99,13 @@ class Reader(TextLines):
                                          zip(KINDS, (len(MOMENTS), CLASSES, distances, distances)))
                     for fault in faults(heading.size, number, lines[place]):
                         raise self.damaged(fault)
-        if self.line() != f"end,{heading.to}":
-            raise self.damaged(f"the line end,{heading.to} is due")
-        if self.stream.readline(1):
-            self.line_number += 1
-            raise self.damaged("the text has ended before this line")
+        self.end(f"end,{heading.to}")
         return Measured(self.name, heading, tuple(found), lines)
 
 
 def read_measured(name: str) -> Measured:
     """The sums of a file. Refusal where it is no such text."""
-    try:
-        with open(name, "rb") as stream:
-            return Reader(name, stream).read()
-    except OSError as fault:
-        raise Refusal(f"{name} can't be read: {fault.strerror}") from None
+    return read_file(name, lambda own, stream: Reader(own, stream).read())
 
 
 def text_of(measured: Measured) -> Iterator[str]:

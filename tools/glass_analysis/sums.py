@@ -176,11 +176,13 @@ class Told(NamedTuple):
     over_samples: Numbers
 
 
-def figure(study: Study, of: Function) -> Told:
-    def taken(values: Numbers) -> Numbers:
-        return of(Means(values, study.size))
+def told_of(parts: Numbers, of: Callable[[Numbers], Numbers]) -> Told:
+    """A function of means, of values by seed and sample."""
+    return Told(jackknife(parts.mean(axis=1), of), jackknife(parts.reshape(-1, *parts.shape[2:]), of).error)
 
-    return Told(jackknife(study.seeds(), taken), jackknife(study.samples(), taken).error)
+
+def figure(study: Study, of: Function) -> Told:
+    return told_of(study.parts, lambda values: of(Means(values, study.size)))
 
 
 class BinStep(NamedTuple):
