@@ -124,7 +124,7 @@ def print_sums(folder: Path) -> None:
     found += print_nishimori(folder)
     if found and not any(math.isnan(chance) for chance, _ in found):
         total, degrees, chance = chi_square(found)
-        print(f"\nChi-square of all exact means of sums: {total:.1f} with {degrees} degrees of freedom, probability {chance:.3f}.")
+        print(f"\nAll exact means of sums: chi-square {total:.1f} with {degrees} degrees of freedom, probability {chance:.3f}.")
 
 
 # ---------------------------------------------------------------- the transition
