@@ -1,9 +1,9 @@
 -- What is read are states at their times, of which the bytes are; and the bytes of such states are read.
-use Rattle.std.specs.Prelude.{All, nat_le, option_map, IfOk, IfErr, ◌⊎◌}
-use Rattle.std.proofs.Common.{◌≡◌, ℕ, zero, suc, ◌+◌, ◌*◌, ◌<◌, ◌≤◌, Bool, true, false, cond, List, [], ◌∷◌, map, length, get_or, Option, Some, None, Result, Ok, Err, refl, sym, ap, subst, ◌∙◌, arith, inl, inr}
+use Rattle.std.specs.Prelude.{All, ◌&&◌, ◌==◌, nat_le, option_map, IfOk, IfErr, ◌⊎◌}
+use Rattle.std.proofs.Common.{◌≡◌, ℕ, zero, suc, ◌+◌, ◌*◌, ◌<◌, ◌≤◌, Bool, true, false, cond, List, [], ◌∷◌, map, length, take, drop, get_or, Option, Some, None, Result, Ok, Err, refl, sym, ap, subst, ◌∙◌, arith, inl, inr}
 use Rattle.std.proofs.lemmas.Bool.{and_parts, leb-true}
 use Rattle.std.proofs.lemmas.List.{get_or-map, length-map}
-use Rattle.glass_edges.specs.Refusals.{or_else, Gives}
+use Rattle.glass_edges.specs.Refusals.{or_else, unless, Gives}
 use Rattle.glass_edges.proofs.FirstRefusals.{if-none, or-later, or-none, unless-ok}
 use Rattle.glass_edges.proofs.NumberBytes.{IsBytes, bytes-drop, bytes-take}
 use Rattle.kept_states.specs.KeptReading.{level_tests, told, states_refusal, kept_stands_in, kept_decoded, stands_kept, AreBytesOf, AreKeptStates}

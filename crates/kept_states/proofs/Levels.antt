@@ -1,7 +1,7 @@
 -- The checkpoint of packed states that fit is read as they are, and what is read is the checkpoint of what it is read as.
 use Rattle.std.specs.Prelude.{All}
 use Rattle.std.specs.Str.{bytes_eq}
-use Rattle.std.proofs.Common.{◌≡◌, ℕ, ◌+◌, ◌*◌, ◌<◌, ◌≤◌, false, List, [], ◌∷◌, ◌++◌, length, drop, take, get_or, None, refl, sym, ap, ap₂, subst, ◌∙◌, arith, append_assoc}
+use Rattle.std.proofs.Common.{◌≡◌, ℕ, ◌+◌, ◌*◌, ◌<◌, ◌≤◌, false, List, [], ◌∷◌, ◌++◌, length, drop, take, get_or, Option, Some, None, refl, sym, ap, ap₂, subst, ◌∙◌, arith, append_assoc}
 use Rattle.std.proofs.lemmas.List.{drop_at, length-append}
 use Rattle.std.proofs.lemmas.List.Elements.{All-head, All-tail}
 use Rattle.glass_edges.proofs.FirstRefusals.{or-none, unless-ok}
@@ -11,13 +11,14 @@ use Rattle.plane_sweep.specs.Packed.{part}
 use Rattle.plane_sweep.specs.declared.stand.Stand.{Stand}
 use Rattle.quenched_states.specs.KeptTests.{are_kept}
 use Rattle.quenched_states.specs.KeptBytes.{kept_kind}
-use Rattle.run_checkpoint.specs.BankDecoding.{banks_form, banks_refusal, banks_in, banks_decoded, AreEncoded}
+use Rattle.run_checkpoint.specs.BankDecoding.{banks_form, banks_refusal, banks_refused, banks_in, banks_decoded, epochs_refused, first_epoch, other_banks, AreEncoded}
 use Rattle.run_checkpoint.specs.BankEncoding.{banks_kind, banks_header, banks_bytes, banks_encoding, banks_parts, bank_len, banks_len, AreBanks, BanksFit, HaveOneShape}
 use Rattle.run_checkpoint.specs.Decoding.{level_layout, level_refusal, IsEncoded}
+use Rattle.run_checkpoint.specs.Encoding.{encoding}
 use Rattle.run_checkpoint.specs.Kinds.{level_kind, sealed}
 use Rattle.run_checkpoint.specs.Lengths.{encoding_len}
 use Rattle.run_checkpoint.specs.Reading.{stand_in}
-use Rattle.run_checkpoint.specs.Tests.{short, other_kind, form_refusal}
+use Rattle.run_checkpoint.specs.Tests.{short, other_kind, other_length, damaged, form_refusal}
 use Rattle.run_checkpoint.proofs.BankClauses.{length-banks_header, none-encoded, states-read}
 use Rattle.run_checkpoint.proofs.BankForm.{banks_packed, Lens, banks-again, banks-long}
 use Rattle.run_checkpoint.proofs.BankSteps.{shape-at, shape-len}
@@ -27,21 +28,6 @@ use Rattle.run_checkpoint.proofs.LevelForm.{encoding-packed, length-packed, pack
 use Rattle.run_checkpoint.proofs.Tested.{kind-is}
 use Rattle.scalar_rule.specs.Plan.{Plan, slots_of, IsLawfulPlan}
 use Rattle.sha2.specs.Sha256.{sha256}
-
--- ---- lengths
-
-pub len-one : (plans : List Plan) (first : Plan) → length plans ≡ 1 → level_len plans ≡ encoding_len (get_or plans 0 first).size (slots_of (get_or plans 0 first))
-unfolding level_len bank_len
-len-one [] first one = absurd (omega (arith, one))
-len-one (plan ∷ []) first one = refl
-len-one (plan ∷ next ∷ plans) first one = absurd (omega (arith, one))
-
-pub len-many : (plans : List Plan) (first : Plan) → 1 ≤ length plans → ¬ (length plans ≡ 1)
-    → level_len plans ≡ 44 + encoding_len (get_or plans 0 first).size (slots_of (get_or plans 0 first)) * length plans
-unfolding level_len bank_len
-len-many [] first some not = absurd (omega (arith, some))
-len-many (plan ∷ []) first some not = absurd (not refl)
-len-many (plan ∷ next ∷ plans) first some not = refl
 
 -- ---- packed states of several banks
 

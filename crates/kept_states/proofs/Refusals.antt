@@ -1,7 +1,7 @@
 -- The first refusal of kept states is that of the frame, that of the states by themselves, or that of their times, each told as it is there.
 use Rattle.std.specs.Prelude.{◌&&◌, ◌==◌, nat_le, nat_lt, option_map}
 use Rattle.std.specs.Str.{bytes_eq}
-use Rattle.std.proofs.Common.{◌≡◌, ℕ, ◌+◌, Bool, true, false, cond, List, [], ◌∷◌, map, length, Option, Some, None, refl, ap, ap₂, ◌∙◌}
+use Rattle.std.proofs.Common.{◌≡◌, ℕ, ◌+◌, Bool, true, false, cond, List, [], ◌∷◌, map, length, Option, Some, None, refl, sym, ap, ap₂, ◌∙◌}
 use Rattle.glass_edges.specs.Refusals.{or_else, first_found}
 use Rattle.glass_edges.specs.Sealed.{body_of, digest_of}
 use Rattle.kept_frame.specs.Told as frame

@@ -1,6 +1,8 @@
 -- what public contracts say
 pub mod Levels
 pub mod KeptReading
-pub mod KeptLaws
--- what the proofs of the laws go through
+pub mod Rooms
+pub mod LevelRooms
+pub mod SaveRooms
+-- what the steps inside say: for proofs alone
 pub mod Steps

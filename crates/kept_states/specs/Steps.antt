@@ -1,5 +1,5 @@
 -- What the steps of the reader say: for proofs alone.
-use Rattle.std.specs.Prelude.{ℕ, ◌==◌, if◌then◌else◌, List, map, Option, Some, None, Result}
+use Rattle.std.specs.Prelude.{◌≡◌, ℕ, ◌==◌, if◌then◌else◌, List, ◌++◌, map, length, drop, Option, Some, None, option_map, Result}
 use Rattle.glass_edges.specs.Refusals.{or_else, first_found, unless}
 use Rattle.kept_frame.specs.declared.refused.KeptRefused.{KeptRefused}
 use Rattle.kept_frame.specs.declared.refused.KeptRefused.TheVariants as kept
@@ -33,3 +33,9 @@ other_time_at times j stands = if stands_at stands == time_at times j then None 
 
 abbrev pub other_time : List ℕ → List (List Stand) → Option KeptRefused
 other_time times states = first_found (other_time_at times) 0 states
+
+-- of found states the first j are read
+pub record AreReadTo (plans : List Plan) (found : List (List ℕ)) (j : ℕ) (states : List (List Stand)) : Type 0 where
+  pub count : length states ≡ j
+  pub passed : first_found (λ (k : ℕ) (state : List ℕ). (level_tests plans).refuses state) j (drop j found) ≡ state_refusal (level_tests plans) found
+  pub read : states ++ map (level_banks_in plans) (drop j found) ≡ map (level_banks_in plans) found

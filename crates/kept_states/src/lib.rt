@@ -1,11 +1,13 @@
-//! The states that a quench keeps, as bytes: one checkpoint at one epoch is read, of one bank of 64 samples or of
-//! several, and laws on the bytes of all.
+//! The states that a quench keeps, as bytes: read from them, and written as them.
 #![tactic(auto)]
 
-mod laws;
+mod kept_reading;
 mod level_reading;
+mod level_room;
 mod refused;
+mod save_room;
 
-pub use laws::{kept_states_are_found, kept_states_are_read_again};
+pub use kept_reading::decode_kept;
 pub use level_reading::{decode_level, level_length};
 pub use refused::KeptStatesRefused;
+pub use save_room::SaveRoom;

@@ -1,5 +1,5 @@
 -- The only bank's state, as a list of one.
-use Rattle.std.proofs.Common.{List, [], ◌∷◌, Ok, ap, subst, sym, ◌∙◌}
+use Rattle.std.proofs.Common.{◌≡◌, List, [], ◌∷◌, Ok, ap, subst, sym, ◌∙◌}
 use Rattle.std.proofs.lemmas.Result.{err_from_is_err_and}
 use Rattle.kept_states.specs.Levels.{IsLevelCheckpoint}
 use Rattle.kept_states.proofs.LevelClauses.{gives-same, gives-none, one-read, one-refused}
